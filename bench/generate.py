@@ -1,0 +1,49 @@
+#!/usr/bin/env python3
+"""Writes a made-up pit of NX by NY blocks on NZ benches, and a solution that mines it bench by bench.
+
+usage: bench/generate.py PREFIX NX NY NZ PERIODS SEED      writes PREFIX.cpit and PREFIX.sol
+
+Each block has a profit and coefficients for two resources. The same words always make the same files.
+"""
+import random
+import sys
+
+
+def main():
+    if len(sys.argv) != 7:
+        sys.exit(__doc__)
+    prefix = sys.argv[1]
+    nx, ny, nz, periods, seed = (int(word) for word in sys.argv[2:])
+    blocks = nx * ny * nz
+    draw = random.Random(seed)
+    with open(prefix + ".cpit", "w", encoding="ascii", newline="\n") as model:
+        model.write(
+            f"NAME: {nx} by {ny} by {nz}\nTYPE: CPIT\nNBLOCKS: {blocks}\nNPERIODS: {periods}\n"
+            "NRESOURCE_SIDE_CONSTRAINTS: 2\nDISCOUNT_RATE: 0.1\nOBJECTIVE_FUNCTION:\n"
+        )
+        tonnes = []
+        for block in range(blocks):
+            ore = draw.random() < 0.3
+            tonnes.append((draw.randrange(8000, 16000), ore))
+            cents = draw.randrange(500_000, 9_000_000) if ore else -draw.randrange(100_000, 900_000)
+            model.write(f"{block} {cents / 100:.2f}\n")
+        model.write("RESOURCE_CONSTRAINT_COEFFICIENTS:\n")
+        for block, (mass, ore) in enumerate(tonnes):
+            model.write(f"{block} 0 {mass}\n")
+            if ore:
+                model.write(f"{block} 1 {mass}\n")
+        model.write("RESOURCE_CONSTRAINT_LIMITS:\n")
+        for period in range(periods):
+            model.write(f"0 {period} L 999999999999\n1 {period} L 999999999999\n")
+        model.write("EOF\n")
+    with open(prefix + ".sol", "w", encoding="ascii", newline="\n") as solution:
+        bench = nx * ny
+        for block in range(blocks):
+            # The top bench has the highest number and goes first; the deepest tenth stays.
+            depth = nz - 1 - block // bench
+            period = depth * periods * 10 // (nz * 9)
+            if period < periods:
+                solution.write(f"{block} {period}\n")
+
+
+main()

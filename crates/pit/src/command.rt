@@ -1,0 +1,74 @@
+//! The command line.
+ghost use Rattle.std.specs.Prelude.{◌≡◌, ◌⊎◌};
+ghost use Rattle.clap.specs.Values.{kind_of};
+ghost use Rattle.clap.specs.declared.error.kind.ErrorKind.TheVariants.{InvalidValue, OutOfMemory};
+
+use crate::fault::Fault;
+use clap::error::ErrorKind;
+use clap::{Arg, Command, Error};
+use std::alloc::{AllocError, Global};
+use std::io;
+
+/// The name of the argument for the model.
+pub const MODEL: &str = "MODEL";
+
+/// The name of the argument for the solution.
+pub const SOLUTION: &str = "SOLUTION";
+
+const MODEL_HELP: &str = "The model: a CPIT model text of MineLib";
+
+const SOLUTION_HELP: &str = "The solution: a line `BLOCK PERIOD` for each block that is mined";
+
+const VALUE_EXAMPLE: &str = "Example:\n  pit value tiny.cpit tiny.sol";
+
+/// The words of the command line, the program's name first.
+pub fn words(rt: &HostRuntime) -> Result<Vec<String>, Fault> {
+    let words = match std::env::args(rt) {
+        Ok(words) => words,
+        Err(error) if error.kind() == io::ErrorKind::OutOfMemory => {
+            return Err(Fault::from(AllocError));
+        }
+        Err(_) => return Err(Fault::from(refusal(rt.alloc(), "a word is not UTF-8"))),
+    };
+    Ok(words.collect(rt.alloc())?)
+}
+
+/// `pit`, with one subcommand for each engine.
+pub fn command<'a>(alloc: Global) -> Result<Command<'a>, AllocError> {
+    Command::new(alloc, "pit")
+        .about("Values schedules of open pit mines")
+        .subcommand_required(true)
+        .subcommand(value_command(alloc)?)
+}
+
+/// The error where no subcommand was given.
+pub fn no_subcommand(alloc: Global) -> Error
+    ensures { (kind_of result ≡ InvalidValue) ⊎ (kind_of result ≡ OutOfMemory) }
+{
+    refusal(alloc, "a subcommand is required")
+}
+
+fn value_command<'a>(alloc: Global) -> Result<Command<'a>, AllocError> {
+    Command::new(alloc, "value")
+        .about("Prints the discounted value of a solution")
+        .after_help(VALUE_EXAMPLE)
+        .arg(file(alloc, MODEL, MODEL_HELP))?
+        .arg(file(alloc, SOLUTION, SOLUTION_HELP))
+}
+
+fn file<'a>(alloc: Global, name: &'a str, help: &'a str) -> Arg<'a> {
+    Arg::new(alloc, name).required(true).help(help)
+}
+
+/// The parser's error with a text of ours, or want of memory.
+fn refusal(alloc: Global, text: &str) -> Error
+    ensures { (kind_of result ≡ InvalidValue) ⊎ (kind_of result ≡ OutOfMemory) }
+{
+    match command(alloc) {
+        Ok(mut command) => match command.error(ErrorKind::InvalidValue, text) {
+            Ok(error) => error,
+            Err(error) => Error::from(error),
+        },
+        Err(error) => Error::from(error),
+    }
+}

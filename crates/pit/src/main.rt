@@ -1,0 +1,49 @@
+//! `pit` values open pit schedules: it opens the files that its words name, and calls an engine.
+#![tactic(auto)]
+
+ghost use Rattle.std.specs.Prelude.{◌≤◌};
+
+mod command;
+mod ending;
+mod fault;
+mod files;
+
+use clap::ArgMatches;
+use command::{MODEL, SOLUTION};
+use fault::Fault;
+use pit_cli::{Input, Status, value};
+use pit_num::Out;
+use std::process::ExitCode;
+
+fn main(rt: HostRuntime) -> ExitCode {
+    ExitCode::from(run(&rt))
+}
+
+/// Runs the program, and answers the status that it ends with.
+fn run(rt: &HostRuntime) -> u8
+    ensures { result ≤ 3 }
+{
+    match answer(rt) {
+        Ok(status) => status.code(),
+        Err(Fault::Engine(fault)) => ending::with_fault(rt, &fault),
+        Err(Fault::Command(error)) => ending::with_command(rt, &error),
+    }
+}
+
+/// Reads the words of the command line, and does what they ask.
+fn answer(rt: &HostRuntime) -> Result<Status, Fault> {
+    let words = command::words(rt)?;
+    let matches = command::command(rt.alloc())?.try_get_matches_from(words.as_slice())?;
+    match matches.subcommand() {
+        Some(("value", given)) => run_value(rt, given),
+        _ => Err(Fault::from(command::no_subcommand(rt.alloc()))),
+    }
+}
+
+/// `pit value`.
+fn run_value(rt: &HostRuntime, given: &ArgMatches<'_>) -> Result<Status, Fault> {
+    let mut model = files::opened(rt, given, MODEL, Input::Model)?;
+    let mut solution = files::opened(rt, given, SOLUTION, Input::Solution)?;
+    let mut out = Out::new(rt.stdout());
+    Ok(value(rt.alloc(), &mut model, &mut solution, &mut out)?)
+}

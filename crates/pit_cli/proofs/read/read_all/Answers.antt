@@ -1,0 +1,9 @@
+use Rattle.std.proofs.Common.{◌++◌, take}
+use Rattle.pit_cli.proofs.Known.{consumes_more}
+use Rattle.pit_cli.proofs.read.read_all.Goals as goal
+
+pub returns-then-is_err-clause-err : goal.returns-then-is_err-clause-err
+returns-then-is_err-clause-err g c = (
+  c.loop-chunk.text.items ++ take c.in-Ok.n c.take.new.buffer,
+  consumes_more _ _ _ c.loop-chunk.text.items (take c.in-Ok.n c.take.new.buffer) c.loop-chunk.invariant.taken c.in-Ok.ensures.given,
+)

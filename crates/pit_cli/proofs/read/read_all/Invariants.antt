@@ -1,0 +1,12 @@
+use Rattle.std.proofs.Common.{◌≡◌, ◌-◌, ◌<◌, length, false}
+use Rattle.std.specs.Io.KnownBytes.{Consumes}
+use Rattle.pit_cli.proofs.read.read_all.Given as goal
+
+abbrev pub invariant-loop-chunk : goal.invariant-loop-chunk
+invariant-loop-chunk g l = record {
+  taken : Consumes (g.R.Source.remaining l.fn.source) (g.R.Source.remaining l.source) l.text.items;
+  sound : 0 < length l.text.items → g.R.Source.has_failed l.source ≡ false;
+}
+
+abbrev pub decreases-loop-chunk : goal.decreases-loop-chunk
+decreases-loop-chunk g l = 4294967297 - length l.text.items

@@ -1,0 +1,146 @@
+-- What an engine answers to what its devices gave.
+use Rattle.std.specs.Prelude.{◌≡◌, ℕ, ℤ, ◌^◌, ◌<◌, ◌++◌, ◌∷◌, [], Bool, true, false, List, length, Option, ◌⊎◌}
+use Rattle.std.specs.Io.KnownBytes.{Appends, Consumes, IsAtEnd, Keeps}
+use Rattle.pit_num.specs.Printed.{fixed_text, AppendsFront}
+use Rattle.pit_text.specs.declared.error.TextError.{TextError}
+use Rattle.pit_text.specs.Cutting.{cut_of, end_line}
+use Rattle.pit_text.specs.Stands.{StandsFor, FailsFirst, StandsWhole, FailsWhole}
+use Rattle.pit_text.specs.Model.{Fact, model_line, model_end, pit_of}
+use Rattle.pit_text.specs.Pit.{Pit}
+use Rattle.pit_text.specs.Solution.{solution_line, period_in, scheduled}
+use Rattle.pit_cli.specs.Sum.{value_of}
+use Rattle.pit_cli.specs.declared.input.Input.{Input}
+use Rattle.pit_cli.specs.declared.input.Input.TheVariants.{Model, Solution}
+use Rattle.pit_cli.specs.declared.fault.CliFault.{CliFault}
+use Rattle.pit_cli.specs.declared.fault.CliFault.TheVariants.{Text, TooLong, CannotRead, CannotWrite, NoMemory}
+
+-- what is known of a source before and after a call
+pub record Reading : Type 0 where
+  pub before : Option (List ℕ)
+  pub after : Option (List ℕ)
+  pub failed : Bool
+
+-- what is known of a sink before and after a call
+pub record Writing : Type 0 where
+  pub before : Option (List ℕ)
+  pub after : Option (List ℕ)
+  pub failed : Bool
+
+abbrev pub reading : Option (List ℕ) → Option (List ℕ) → Bool → Reading
+reading before after failed = record { before = before; after = after; failed = failed }
+
+abbrev pub writing : Option (List ℕ) → Option (List ℕ) → Bool → Writing
+writing before after failed = record { before = before; after = after; failed = failed }
+
+-- ---- one input
+
+-- it was read whole, and these are its bytes
+pub record IsWhole (source : Reading) (bytes : List ℕ) : Type 0 where
+  pub taken : Consumes source.before source.after bytes
+  pub end : IsAtEnd source.after
+  pub sound : source.failed ≡ false
+
+-- it is longer than inputs may be
+pub record IsTooLong (source : Reading) : Type 0 where
+  pub bytes : List ℕ
+  pub long : 2 ^ 32 < length bytes
+  pub taken : Consumes source.before source.after bytes
+  pub sound : source.failed ≡ false
+
+-- a model that stands for a pit, and one with its first fault
+pub record IsModel (bytes : List ℕ) (pit : Pit) : Type 0 where
+  pub facts : List Fact
+  pub stands : StandsWhole model_line model_end (cut_of bytes) facts
+  pub says : pit ≡ pit_of facts
+
+abbrev pub IsBadModel : List ℕ → TextError → Type 0
+IsBadModel bytes error = FailsWhole model_line model_end (cut_of bytes) (end_line bytes) error.line error.cause
+
+-- a solution of a pit, its blocks with their periods by rising block, and one with its first fault
+pub record IsSolutionOf (pit : Pit) (bytes : List ℕ) (solution : List (ℕ × ℕ)) : Type 0 where
+  pub pairs : List (ℕ × ℕ)
+  pub stands : StandsFor (solution_line pit.blocks pit.periods) (cut_of bytes) pairs
+  pub says : solution ≡ scheduled pit.blocks (period_in pairs)
+
+abbrev pub IsBadSolution : Pit → List ℕ → TextError → Type 0
+IsBadSolution pit bytes error = FailsFirst (solution_line pit.blocks pit.periods) (cut_of bytes) error.line error.cause
+
+-- ---- the faults of one input
+
+-- of reading it
+abbrev pub IsInputFault : Reading → Input → CliFault → Type 0
+IsInputFault source file (CannotRead f) = (f ≡ file) × (source.failed ≡ true)
+IsInputFault source file (TooLong f) = (f ≡ file) × IsTooLong source
+IsInputFault source file NoMemory = source.failed ≡ false
+IsInputFault source file (Text f error) = ⊥
+IsInputFault source file CannotWrite = ⊥
+
+-- of a model's text, and of a solution's
+abbrev pub IsModelFault : List ℕ → CliFault → Type 0
+IsModelFault bytes (Text Model error) = IsBadModel bytes error
+IsModelFault bytes (Text Solution error) = ⊥
+IsModelFault bytes NoMemory = Unit {0}
+IsModelFault bytes (TooLong f) = ⊥
+IsModelFault bytes (CannotRead f) = ⊥
+IsModelFault bytes CannotWrite = ⊥
+
+abbrev pub IsSolutionFault : Pit → List ℕ → CliFault → Type 0
+IsSolutionFault pit bytes (Text Model error) = ⊥
+IsSolutionFault pit bytes (Text Solution error) = IsBadSolution pit bytes error
+IsSolutionFault pit bytes NoMemory = Unit {0}
+IsSolutionFault pit bytes (TooLong f) = ⊥
+IsSolutionFault pit bytes (CannotRead f) = ⊥
+IsSolutionFault pit bytes CannotWrite = ⊥
+
+-- ---- the value of a solution
+
+-- a value, and a line feed
+abbrev pub value_text : ℤ → List ℕ
+value_text value = fixed_text 18 value ++ 10 ∷ []
+
+-- the model was read, and stands for a pit
+pub record ReadsPit (model : Reading) (pit : Pit) : Type 0 where
+  pub bytes : List ℕ
+  pub whole : IsWhole model bytes
+  pub stands : IsModel bytes pit
+
+-- it can't be read, or its text has a fault
+abbrev pub IsPitFault : Reading → CliFault → Type 0
+IsPitFault model fault = IsInputFault model Model fault ⊎ ((bytes : List ℕ) × IsWhole model bytes × IsModelFault bytes fault)
+
+-- the solution was read, and stands for a schedule of the pit that has this value
+pub record ReadsSum (solution : Reading) (pit : Pit) (value : ℤ) : Type 0 where
+  pub bytes : List ℕ
+  pub whole : IsWhole solution bytes
+  pub schedule : List (ℕ × ℕ)
+  pub stands : IsSolutionOf pit bytes schedule
+  pub sum : value ≡ value_of pit schedule
+
+abbrev pub IsSumFault : Reading → Pit → CliFault → Type 0
+IsSumFault solution pit fault = IsInputFault solution Solution fault ⊎ ((bytes : List ℕ) × IsWhole solution bytes × IsSolutionFault pit bytes fault)
+
+-- both were read and are right, and the value was written
+pub record WritesValue (model solution : Reading) (out : Writing) : Type 0 where
+  pub pit : Pit
+  pub value : ℤ
+  pub model_read : ReadsPit model pit
+  pub solution_read : ReadsSum solution pit value
+  pub written : Appends out.before out.after (value_text value)
+  pub sound : out.failed ≡ false
+
+-- both were read and are right, and the device failed while the value was written
+pub record FailsToWrite (model solution : Reading) (out : Writing) : Type 0 where
+  pub pit : Pit
+  pub value : ℤ
+  pub model_read : ReadsPit model pit
+  pub solution_read : ReadsSum solution pit value
+  pub written : AppendsFront out.before out.after (value_text value)
+  pub failed : out.failed ≡ true
+
+-- The first fault: of the model, with nothing read of the solution; or, where that is right, of the solution; or, where both are
+-- right, of writing. Before it nothing is written.
+abbrev pub IsValueFault : Reading → Reading → Writing → CliFault → Type 0
+IsValueFault model solution out fault =
+    (IsPitFault model fault × Keeps solution.before solution.after × Keeps out.before out.after)
+    ⊎ (((pit : Pit) × ReadsPit model pit × IsSumFault solution pit fault × Keeps out.before out.after)
+    ⊎ ((fault ≡ CannotWrite) × FailsToWrite model solution out))

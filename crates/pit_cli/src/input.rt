@@ -1,0 +1,17 @@
+use std::fmt;
+
+/// An input of the program, by the word that faults name it with.
+#[derive(Clone, Copy, Debug, PartialEq, Eq)]
+pub enum Input {
+    Model,
+    Solution,
+}
+
+impl fmt::Display for Input {
+    fn fmt<W: fmt::Write>(&self, f: &mut fmt::Formatter<W>) -> fmt::Result {
+        match self {
+            Input::Model => write!(f, "model"),
+            Input::Solution => write!(f, "solution"),
+        }
+    }
+}

@@ -1,0 +1,69 @@
+ghost use Rattle.std.specs.Prelude.{IfOk, MatchResult};
+ghost use Rattle.pit_text.specs.Solution.{IsSolution};
+ghost use Rattle.pit_cli.specs.Outcome.{reading, IsWhole, IsModel, IsSolutionOf, IsInputFault, IsModelFault, IsSolutionFault};
+
+use super::fault::CliFault;
+use super::input::Input;
+use super::read::{ReadError, read_all};
+use pit_num::Source;
+use pit_text::{Cause, Instance, read_model, read_solution};
+use std::alloc::Allocator;
+
+/// The bytes of an input.
+pub(crate) fn bytes_of<A: Allocator, R: Source>(
+    alloc: A,
+    source: &mut R,
+    file: Input,
+) -> Result<Vec<u8, A>, CliFault>
+    ensures { let read = reading (R.remaining source.old) (R.remaining source.new) (R.has_failed source.new) in
+        MatchResult result (λ bytes. IsWhole read bytes.items) (IsInputFault read file) }
+{
+    match read_all(alloc, source) {
+        Ok(bytes) => Ok(bytes),
+        Err(ReadError::Read) => Err(CliFault::CannotRead(file)),
+        Err(ReadError::TooLong) => Err(CliFault::TooLong(file)),
+        Err(ReadError::NoMemory) => Err(CliFault::NoMemory),
+    }
+}
+
+/// The pit of a model.
+pub(crate) fn instance_of<A: Allocator + Copy + Drop>(
+    alloc: A,
+    model: &[u8],
+) -> Result<Instance<A>, CliFault>
+    ensures { MatchResult result (IsModel model.now) (IsModelFault model.now) }
+{
+    let builder = match read_model(alloc, model) {
+        Ok(builder) => builder,
+        Err(error) if error.cause == Cause::NoMemory => return Err(CliFault::NoMemory),
+        Err(error) => {
+            return Err(CliFault::Text {
+                file: Input::Model,
+                error,
+            });
+        }
+    };
+    match builder.build() {
+        Ok(instance) => Ok(instance),
+        Err(_) => Err(CliFault::NoMemory),
+    }
+}
+
+/// The blocks and periods of a solution, by rising block.
+pub(crate) fn schedule_of<A: Allocator + Copy + Drop>(
+    alloc: A,
+    solution: &[u8],
+    instance: &Instance<A>,
+) -> Result<Vec<(u32, u32), A>, CliFault>
+    ensures result { MatchResult result (λ schedule. IsSolutionOf instance.now solution.now schedule.items) (IsSolutionFault instance.now solution.now) }
+    ensures fits { IfOk result (λ schedule. IsSolution instance.now.blocks instance.now.periods schedule.items) }
+{
+    match read_solution(alloc, solution, instance) {
+        Ok(schedule) => Ok(schedule),
+        Err(error) if error.cause == Cause::NoMemory => Err(CliFault::NoMemory),
+        Err(error) => Err(CliFault::Text {
+            file: Input::Solution,
+            error,
+        }),
+    }
+}

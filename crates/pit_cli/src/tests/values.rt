@@ -1,0 +1,76 @@
+//! What a solution is worth.
+use super::{SOLUTION, TINY, VALUE};
+use crate::{Status, value, value_of};
+use pit_num::{In, Out};
+use pit_text::read_model;
+use std::test::Fail;
+
+/// Coefficients and limits aren't read, whatever their sections hold; the sections stand in another order.
+const HOSTILE: &[u8] = b"TYPE: CPIT
+NBLOCKS: 4
+NPERIODS: 2
+NRESOURCE_SIDE_CONSTRAINTS: 1
+DISCOUNT_RATE: 0.1
+RESOURCE_CONSTRAINT_LIMITS:
+0 0 X \xff
+9 9
+RESOURCE_CONSTRAINT_COEFFICIENTS:
+0 0 2
+0 0 2
+none
+OBJECTIVE_FUNCTION:
+3 5
+2 30
+1 20.5
+0 -10
+";
+
+#[test]
+fn of_the_small_pit(rt: HostRuntime) -> Result<(), Fail> {
+    let rows: [(&[u8], &[u8], &[u8]); 6] = [
+        (TINY, SOLUTION, VALUE),
+        (TINY, b"2 1\n\n% in any order\n1 0\r\n0 0\nEOF\n3", VALUE),
+        (HOSTILE, SOLUTION, VALUE),
+        (TINY, b"", b"0.000000000000000000\n"),
+        // -10 * 0.909090909091
+        (TINY, b"0 1\n", b"-9.090909090910000000\n"),
+        // 5 * 0.909090909091
+        (TINY, b"3 1\n", b"4.545454545455000000\n"),
+    ];
+    for (model, solution, wanted) in rows {
+        let mut out = Out::new(Vec::new(rt.alloc()));
+        let answer = value(
+            rt.alloc(),
+            &mut In::new(model),
+            &mut In::new(solution),
+            &mut out,
+        );
+        assert_eq!(rt; answer, Ok(Status::Fine), "of {solution:?}");
+        assert_eq!(rt; out.into_inner().as_slice(), wanted, "of {solution:?}");
+    }
+    Ok(())
+}
+
+// In units of 10^-18: millionths times factors in units of 10^-12.
+#[test]
+fn of_pairs(rt: HostRuntime) -> Result<(), Fail> {
+    let Ok(tiny) = read_model(rt.alloc(), TINY)?.build() else {
+        return Err(Fail::from("no memory"));
+    };
+    assert_eq!(rt; tiny.blocks(), 4);
+    assert_eq!(rt; tiny.periods(), 2);
+    assert_eq!(rt; value_of(&tiny, &[]), 0);
+    // (-10_000_000 + 20_500_000) * 10^12
+    assert_eq!(rt;
+        value_of(&tiny, &[(0, 0), (1, 0)]),
+        10_500_000_000_000_000_000
+    );
+    // -10_000_000 * 909_090_909_091
+    assert_eq!(rt; value_of(&tiny, &[(0, 1)]), -9_090_909_090_910_000_000);
+    // 10_500_000 * 10^12 + 30_000_000 * 909_090_909_091
+    assert_eq!(rt;
+        value_of(&tiny, &[(0, 0), (1, 0), (2, 1)]),
+        37_772_727_272_730_000_000
+    );
+    Ok(())
+}

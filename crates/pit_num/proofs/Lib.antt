@@ -1,0 +1,9 @@
+pub mod Digits
+pub mod Cuts
+pub mod Nearest
+pub mod Factors
+pub mod Magnitudes
+pub mod Written
+pub mod Leading
+pub mod Plain
+pub mod Wholes

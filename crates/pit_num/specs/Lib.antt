@@ -1,0 +1,5 @@
+pub mod Decimal
+pub mod Factor
+pub mod Rounding
+pub mod Printed
+pub mod Within

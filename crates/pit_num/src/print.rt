@@ -1,0 +1,75 @@
+ghost use Rattle.std.specs.Prelude.{◌≡◌, ◌<◌, ◌≤◌, [], IsTrue, IsFalse, IsOk, OnErr, OnOk, length};
+ghost use Rattle.std.specs.Io.KnownBytes.{Appends};
+ghost use Rattle.pit_num.specs.Printed.{unsigned_text, fixed_text, AppendsFront};
+
+use super::sink::Sink;
+use itoa::{Buffer, write_digits};
+
+/// A device failed while it was written to. It then holds what it held before and a front of the text.
+#[derive(Clone, Copy, Debug, PartialEq, Eq)]
+pub struct WriteFault;
+
+/// Writes a value, in units of 10^-18: a `-` where it is negative, the whole part without leading zeros, a point and
+/// 18 digits. Takes no memory.
+pub fn write_value<W: Sink>(w: &mut W, value: i128) -> Result<(), WriteFault>
+    ensures ok { OnOk result (Appends (W.contents w.old) (W.contents w.new) (fixed_text 18 value)) }
+    ensures err { OnErr result (AppendsFront (W.contents w.old) (W.contents w.new) (fixed_text 18 value)) }
+    ensures fault { OnErr result (IsTrue (W.has_failed w.new)) }
+    ensures sound { OnOk result (IsFalse (W.has_failed w.new)) }
+{
+    write_fixed(w, value, 18)
+}
+
+/// Writes a number in units of 10^-`places`.
+fn write_fixed<W: Sink>(w: &mut W, value: i128, places: u32) -> Result<(), WriteFault>
+    requires { (0 < places) × (places ≤ 18) }
+    ensures ok { OnOk result (Appends (W.contents w.old) (W.contents w.new) (fixed_text places value)) }
+    ensures err { OnErr result (AppendsFront (W.contents w.old) (W.contents w.new) (fixed_text places value)) }
+    ensures fault { OnErr result (IsTrue (W.has_failed w.new)) }
+    ensures sound { OnOk result (IsFalse (W.has_failed w.new)) }
+{
+    let magnitude = value.unsigned_abs();
+    if value < 0 {
+        write_text(w, b"-")?;
+    }
+    write_unsigned(w, magnitude, places)
+}
+
+/// The same of a number that isn't negative.
+fn write_unsigned<W: Sink>(w: &mut W, n: u128, places: u32) -> Result<(), WriteFault>
+    requires { (0 < places) × (places ≤ 18) }
+    ensures ok { OnOk result (Appends (W.contents w.old) (W.contents w.new) (unsigned_text places n)) }
+    ensures err { OnErr result (AppendsFront (W.contents w.old) (W.contents w.new) (unsigned_text places n)) }
+    ensures fault { OnErr result (IsTrue (W.has_failed w.new)) }
+    ensures sound { OnOk result (IsFalse (W.has_failed w.new)) }
+{
+    let unit = 10u128.pow(places);
+    let mut buffer = Buffer::new();
+    write_text(w, buffer.format(n / unit).as_bytes())?;
+    let mut digits = [b'0'; 19];
+    digits[0] = b'.';
+    let end = 1 + places as usize;
+    let _ = write_digits((n % unit) as u64, &mut digits, end);
+    write_text(w, &digits[..end])
+}
+
+/// Gives a device the whole text. Of an empty one it gives nothing, so that such a text is no fault of any device.
+pub fn write_text<W: Sink>(w: &mut W, text: &[u8]) -> Result<(), WriteFault>
+    ensures ok { OnOk result (Appends (W.contents w.old) (W.contents w.new) text.now) }
+    ensures err { OnErr result (AppendsFront (W.contents w.old) (W.contents w.new) text.now) }
+    ensures fault { OnErr result (IsTrue (W.has_failed w.new)) }
+    ensures sound { OnOk result (0 < length text.now → IsFalse (W.has_failed w.new)) }
+    ensures empty { text.now ≡ [] → IsOk result × (w.new ≡ w.old) }
+{
+    let mut rest = text;
+    while !rest.is_empty() {
+        match w.give(rest) {
+            Ok(n) => rest = &rest[n..],
+            Err(_) => return Err(WriteFault),
+        }
+    }
+    Ok(())
+}
+
+#[cfg(test)]
+mod tests;

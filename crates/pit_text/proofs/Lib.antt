@@ -1,0 +1,13 @@
+pub mod Cuts
+pub mod FirstLine
+pub mod States
+pub mod OneResult
+pub mod Small
+pub mod Facts
+pub mod Drafts
+pub mod ModelLines
+pub mod Profits
+pub mod Bodies
+pub mod Standing
+pub mod Solutions
+pub mod Headers

@@ -1,0 +1,28 @@
+use Rattle.std.proofs.Common.{◌≡◌, ◌+◌, ◌++◌, ◌∷◌, [], ℕ, List, Option, None, ap, sym, ◌∙◌, slice_index_or}
+use Rattle.std.specs.Option.{option_to_list, option_map}
+use Rattle.std.proofs.lemmas.List.{append-nil}
+use Rattle.pit_text.specs.Solution.{scheduled, paired}
+use Rattle.pit_text.proofs.Standing.{scheduled_none, scheduled_more}
+use Rattle.pit_text.proofs.solution.rising.Goals as goal
+use Rattle.pit_text.proofs.solution.rising.Goals.{in-Some+in_ok-push, in_default}
+
+pub loop-block-init : goal.loop-block-init
+loop-block-init g c = c.new-solution.ensures.items ∙ sym (scheduled_none (λ b. slice_index_or c.args.slots.now b None))
+
+pub loop-block-preserved : goal.loop-block-preserved
+loop-block-preserved g c =
+    let more : scheduled (c.loop-block.block + 1) (λ b. slice_index_or c.args.slots.now b None) ≡ scheduled c.loop-block.block (λ b. slice_index_or c.args.slots.now b None) ++ option_to_list (paired (λ b. slice_index_or c.args.slots.now b None) c.loop-block.block) =
+    scheduled_more c.loop-block.block (λ b. slice_index_or c.args.slots.now b None) in
+    let with_slot : Option ℕ → List (ℕ × ℕ) = λ o. scheduled c.loop-block.block (λ b. slice_index_or c.args.slots.now b None) ++ option_to_list (option_map (λ t. (c.loop-block.block, t)) o) in
+    elim c.match-slot.branch [
+      | in-Some+in_ok-push w ↦
+          ap (λ v. v.items) w.solution-is
+          ∙ w.in_ok-push.ensures.items
+          ∙ ap (λ (ps : List (ℕ × ℕ)). ps ++ (c.loop-block.block, w.in-Some.period) ∷ []) c.loop-block.invariant
+          ∙ ap with_slot (sym w.in-Some.is) ∙ sym more
+      | in_default w ↦
+          ap (λ v. v.items) w.solution-is
+          ∙ c.loop-block.invariant
+          ∙ sym (append-nil (scheduled c.loop-block.block (λ b. slice_index_or c.args.slots.now b None)))
+          ∙ ap with_slot (sym w.in_default.is) ∙ sym more
+    ]

@@ -1,0 +1,10 @@
+pub mod Cutting
+pub mod Left
+pub mod Stands
+pub mod Numbers
+pub mod Keys
+pub mod Header
+pub mod Pit
+pub mod Solution
+pub mod Model
+pub mod Draft

@@ -1,0 +1,103 @@
+ghost use Rattle.std.specs.Prelude.{◌≡◌};
+
+use pit_num::NumError;
+use std::fmt;
+use thiserror::Error;
+
+/// A key of a model's header.
+#[derive(Clone, Copy, Debug, PartialEq, Eq)]
+pub enum Key {
+    /// `TYPE`
+    Kind,
+    /// `NBLOCKS`
+    Blocks,
+    /// `NPERIODS`
+    Periods,
+    /// `NRESOURCE_SIDE_CONSTRAINTS`
+    Resources,
+    /// `DISCOUNT_RATE`
+    Rate,
+    /// `NDESTINATIONS`
+    Destinations,
+    /// `NGENERAL_SIDE_CONSTRAINTS`
+    Generals,
+}
+
+impl Key {
+    ghost use Rattle.pit_text.specs.Keys.{key_number};
+
+    pub(crate) fn number(self) -> usize
+        ensures { result ≡ key_number self }
+    {
+        self as usize
+    }
+}
+
+impl fmt::Display for Key {
+    ghost use Rattle.std.specs.Prelude.{Some};
+    ghost use Rattle.pit_text.specs.Keys.{key_text};
+
+    ghost output = { λ key. Some (key_text key) };
+
+    fn fmt<W: fmt::Write>(&self, f: &mut fmt::Formatter<W>) -> fmt::Result {
+        match self {
+            Key::Kind => f.write_str("TYPE"),
+            Key::Blocks => f.write_str("NBLOCKS"),
+            Key::Periods => f.write_str("NPERIODS"),
+            Key::Resources => f.write_str("NRESOURCE_SIDE_CONSTRAINTS"),
+            Key::Rate => f.write_str("DISCOUNT_RATE"),
+            Key::Destinations => f.write_str("NDESTINATIONS"),
+            Key::Generals => f.write_str("NGENERAL_SIDE_CONSTRAINTS"),
+        }
+    }
+}
+
+/// Why a fact is refused by what is known of the pit already.
+#[derive(Clone, Copy, Debug, PartialEq, Eq, Error)]
+pub enum BuildError {
+    #[error("block out of range")]
+    BlockRange,
+    #[error("period out of range")]
+    PeriodRange,
+    /// The same was set before, to whatever value.
+    #[error("repeated")]
+    Repeated,
+}
+
+/// What is wrong with a line, or with the end of a text.
+#[derive(Clone, Copy, Debug, PartialEq, Eq, Error)]
+pub enum Cause {
+    /// A field that is read holds a byte above 127.
+    #[error("not ascii")]
+    NotAscii,
+    /// The header ends without this key, the first of those needed.
+    #[error("missing {0}")]
+    MissingHeader(Key),
+    /// The key came before, or hasn't exactly one value, or one of another form or out of range.
+    #[error("bad {0}")]
+    BadHeader(Key),
+    #[error("not cpit")]
+    NotCpit,
+    /// More than one destination, or constraints of a general kind.
+    #[error("unsupported {0}")]
+    Unsupported(Key),
+    #[error("section twice")]
+    SectionTwice,
+    #[error("field count")]
+    FieldCount,
+    #[error("{0}")]
+    BadNumber(NumError),
+    #[error("{0}")]
+    Build(BuildError),
+    #[error("no memory")]
+    NoMemory,
+}
+
+/// The first faulty line of a text, counted from 1, and what is wrong with it. Where memory ran out, the line says nothing.
+#[derive(Clone, Copy, Debug, PartialEq, Eq, Error)]
+#[error("line {line}: {cause}")]
+pub struct TextError {
+    /// For what is wanting at the end of a text: the line of `EOF`, or else one past the last line.
+    pub line: u64,
+    pub cause: Cause,
+}

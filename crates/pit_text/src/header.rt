@@ -1,0 +1,93 @@
+ghost use Rattle.std.specs.Prelude.{◌≡◌, Result};
+ghost use Rattle.pit_text.specs.Header.{key_of, value_of_key, within, only, is_cpit, kind_of, rate_of};
+ghost use Rattle.pit_text.specs.Numbers.{decimal_field};
+
+use super::error::{Cause, Key};
+use super::number::{decimal, is_ascii, whole};
+use pit_num::{BLOCKS_MAX, PERIODS_MAX, RATE_MAX, RESOURCES_MAX};
+
+/// The key that a header line begins with.
+#[tactic(auto, unfolding(crate::specs::Header::key_of))]
+pub(crate) fn key_of(field: &[u8]) -> Option<Key>
+    ensures { result ≡ key_of field.now }
+{
+    if field == b"TYPE".as_slice() {
+        Some(Key::Kind)
+    } else if field == b"NBLOCKS".as_slice() {
+        Some(Key::Blocks)
+    } else if field == b"NPERIODS".as_slice() {
+        Some(Key::Periods)
+    } else if field == b"NRESOURCE_SIDE_CONSTRAINTS".as_slice() {
+        Some(Key::Resources)
+    } else if field == b"DISCOUNT_RATE".as_slice() {
+        Some(Key::Rate)
+    } else if field == b"NDESTINATIONS".as_slice() {
+        Some(Key::Destinations)
+    } else if field == b"NGENERAL_SIDE_CONSTRAINTS".as_slice() {
+        Some(Key::Generals)
+    } else {
+        None
+    }
+}
+
+/// The number that a value gives a key.
+#[tactic(auto, unfolding(crate::specs::Header::value_of_key))]
+pub(crate) fn value_of_key(key: Key, value: &[u8]) -> Result<u32, Cause>
+    ensures { result ≡ value_of_key key value.now }
+{
+    match key {
+        Key::Kind => kind(value),
+        Key::Blocks => within(1, BLOCKS_MAX, key, whole(value)),
+        Key::Periods => within(1, PERIODS_MAX, key, whole(value)),
+        Key::Resources => within(0, RESOURCES_MAX, key, whole(value)),
+        Key::Rate => rate(decimal(value)),
+        Key::Destinations => only(1, key, whole(value)),
+        Key::Generals => only(0, key, whole(value)),
+    }
+}
+
+fn within(low: u32, high: u32, key: Key, number: Result<u32, Cause>) -> Result<u32, Cause>
+    ensures { result ≡ within low high key number }
+{
+    match number {
+        Ok(n) if low <= n && n <= high => Ok(n),
+        _ => Err(Cause::BadHeader(key)),
+    }
+}
+
+fn only(wanted: u32, key: Key, number: Result<u32, Cause>) -> Result<u32, Cause>
+    ensures { result ≡ only wanted key number }
+{
+    match number {
+        Ok(n) if n == wanted => Ok(n),
+        Ok(_) => Err(Cause::Unsupported(key)),
+        Err(_) => Err(Cause::BadHeader(key)),
+    }
+}
+
+fn kind(value: &[u8]) -> Result<u32, Cause>
+    ensures { result ≡ kind_of value.now }
+{
+    if !is_ascii(value) {
+        return Err(Cause::BadHeader(Key::Kind));
+    }
+    if !is_cpit(value) {
+        return Err(Cause::NotCpit);
+    }
+    Ok(0)
+}
+
+fn is_cpit(value: &[u8]) -> bool
+    ensures { result ≡ is_cpit value.now }
+{
+    value.eq_ignore_ascii_case(b"CPIT")
+}
+
+fn rate(number: Result<i64, Cause>) -> Result<u32, Cause>
+    ensures { result ≡ rate_of number }
+{
+    match number {
+        Ok(n) if 0 <= n && n <= i64::from(RATE_MAX) => Ok(n as u32),
+        _ => Err(Cause::BadHeader(Key::Rate)),
+    }
+}

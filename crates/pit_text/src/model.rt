@@ -1,0 +1,146 @@
+ghost use Rattle.std.specs.Prelude.{◌≡◌, ◌≢◌, ◌∷◌, ◌++◌, [], ℕ, ℤ, List, Ok, Err, None, Some, IfOk, MatchResult, ◌⊎◌, ◌^◌};
+ghost use Rattle.pit_num.specs.Within.{IsWithin};
+ghost use Rattle.pit_text.specs.Cutting.{cut_of, end_line};
+ghost use Rattle.pit_text.specs.Left.{fields_left, lines_left, end_left};
+ghost use Rattle.pit_text.specs.Stands.{StandsWhole, FailsWhole};
+ghost use Rattle.pit_text.specs.Model.{Fact, entry_of, objective_line, profit, model_line, model_end, pit_of};
+ghost use Rattle.pit_text.specs.Draft.{IsDraft, IsReadTo, IsHeader, IsHeaderFact, IsBody, HasHeader};
+ghost use Rattle.pit_text.specs.Pit.{with_profit};
+
+use super::builder::Builder;
+use super::draft::Draft;
+use super::error::{Cause, TextError};
+use super::fields::Fields;
+use super::header::key_of;
+use super::lines::Lines;
+use super::number::{decimal, whole};
+use super::section::section_of;
+use std::alloc::Allocator;
+
+/// Reads a model: its header and its objective section. The lines of the two other sections are skipped.
+pub fn read_model<A: Allocator + Copy + Drop>(
+    alloc: A,
+    text: &[u8],
+) -> Result<Builder<A>, TextError>
+    ensures { MatchResult result
+        (λ builder. (facts : List Fact) × StandsWhole model_line model_end (cut_of text.now) facts × (builder ≡ pit_of facts))
+        (λ fault. (fault.cause ≡ Cause.NoMemory) ⊎ FailsWhole model_line model_end (cut_of text.now) (end_line text.now) fault.line fault.cause) }
+{
+    let mut lines = Lines::new(text);
+    let mut draft = read_header(&mut lines)?;
+    let Ok(mut builder) = draft.builder(alloc) else {
+        return Err(TextError {
+            line: 1,
+            cause: Cause::NoMemory,
+        });
+    };
+    while let Some(line) = lines.next() {
+        if let Err(cause) = read_line(&mut draft, &mut builder, line.fields) {
+            return Err(TextError {
+                line: line.number,
+                cause,
+            });
+        }
+    }
+    Ok(builder)
+}
+
+/// The lines of the header, and the first section line where there is one.
+fn read_header(lines: &mut Lines<'_>) -> Result<Draft, TextError>
+    ensures { MatchResult result
+        (λ draft. (facts : List Fact) × IsReadTo (lines_left lines.old) (lines_left lines.new) facts × IsHeader facts draft
+        × HasHeader draft × (draft.section ≡ None → lines_left lines.new ≡ []))
+        (λ fault. FailsWhole model_line model_end (lines_left lines.old) (end_left lines.old) fault.line fault.cause) }
+{
+    let mut draft = Draft::new();
+    while let Some(line) = lines.next() {
+        if let Err(cause) = read_header_line(&mut draft, line.fields) {
+            return Err(TextError {
+                line: line.number,
+                cause,
+            });
+        }
+        if draft.section().is_some() {
+            return Ok(draft);
+        }
+    }
+    match draft.missing() {
+        Some(key) => Err(TextError {
+            line: lines.end_line(),
+            cause: Cause::MissingHeader(key),
+        }),
+        None => Ok(draft),
+    }
+}
+
+/// A line before the sections, or the first section line.
+fn read_header_line(draft: &mut Draft, mut fields: Fields<'_>) -> Result<(), Cause>
+    requires { draft.old.section ≡ None }
+    ensures { (facts : List Fact) → IsDraft facts draft.old → MatchResult result
+        (λ _. (fact : Fact) × (model_line facts (fields_left fields.entry) ≡ Ok fact) × IsDraft (facts ++ fact ∷ []) draft.new × IsHeaderFact facts fact draft.new)
+        (λ cause. model_line facts (fields_left fields.entry) ≡ Err cause) }
+{
+    let Some(first) = fields.next() else {
+        return Ok(());
+    };
+    if let Some(section) = section_of(first) {
+        return draft.start(section);
+    }
+    match key_of(first) {
+        Some(key) => draft.key_line(key, fields),
+        None => Ok(()),
+    }
+}
+
+/// A line behind the first section line.
+fn read_line<A: Allocator + Copy + Drop>(
+    draft: &mut Draft,
+    builder: &mut Builder<A>,
+    mut fields: Fields<'_>,
+) -> Result<(), Cause>
+    requires { draft.old.section ≢ None }
+    ensures { (facts : List Fact) → IsBody facts draft.old builder.old → MatchResult result
+        (λ _. (fact : Fact) × (model_line facts (fields_left fields.entry) ≡ Ok fact) × IsBody (facts ++ fact ∷ []) draft.new builder.new × (draft.new.section ≢ None))
+        (λ cause. model_line facts (fields_left fields.entry) ≡ Err cause) }
+{
+    let Some(first) = fields.next() else {
+        return Ok(());
+    };
+    if let Some(section) = section_of(first) {
+        return draft.start(section);
+    }
+    if draft.is_in_objective() {
+        return read_profit(builder, first, fields);
+    }
+    Ok(())
+}
+
+/// A line of the objective section, by its first field and what follows it.
+fn read_profit<A: Allocator + Copy + Drop>(
+    builder: &mut Builder<A>,
+    first: &[u8],
+    fields: Fields<'_>,
+) -> Result<(), Cause>
+    ensures { (facts : List Fact) → builder.old ≡ pit_of facts → MatchResult result
+        (λ _. (b : ℕ) × (v : ℤ) × (objective_line facts (first.now ∷ fields_left fields.entry) ≡ Ok (profit b v)) × (builder.new ≡ pit_of (facts ++ profit b v ∷ [])))
+        (λ cause. objective_line facts (first.now ∷ fields_left fields.entry) ≡ Err cause) }
+{
+    let (block, value) = entry(first, fields)?;
+    match builder.set_profit(block, value) {
+        Ok(()) => Ok(()),
+        Err(refusal) => Err(Cause::Build(refusal)),
+    }
+}
+
+/// The block and the profit of a line.
+fn entry(first: &[u8], mut fields: Fields<'_>) -> Result<(u32, i64), Cause>
+    ensures value { result ≡ entry_of (first.now ∷ fields_left fields.entry) }
+    ensures small { IfOk result (λ entry. IsWithin (10 ^ 18) entry.1) }
+{
+    let (Some(second), None) = (fields.next(), fields.next()) else {
+        return Err(Cause::FieldCount);
+    };
+    let block = whole(first)?;
+    let value = decimal(second)?;
+    Ok((block, value))
+}

@@ -1,0 +1,146 @@
+//! The readers against texts whose facts and faults were written down by hand.
+mod cutting;
+mod header;
+mod hostile;
+mod memory;
+mod objective;
+mod sections;
+mod solution;
+mod words;
+
+use crate::{BuildError, Builder, Cause, Instance, TextError};
+use pit_num::NumError;
+use std::alloc::{AllocError, Allocator, Global};
+use std::process::Abort;
+use std::test::Fail;
+
+/// A small pit, lines 1 to 6: four blocks, two periods, one resource, a rate of 0.1.
+const TINY_HEADER: &[u8] = b"NAME: Tiny
+TYPE: CPIT
+NBLOCKS: 4
+NPERIODS: 2
+NRESOURCE_SIDE_CONSTRAINTS: 1
+DISCOUNT_RATE: 0.1
+";
+
+/// Its lines 7 to 11.
+const TINY_OBJECTIVE: &[u8] = b"OBJECTIVE_FUNCTION:
+0 -10
+1 20.5
+2 30
+3 5
+";
+
+/// Its lines 12 to 16.
+const TINY_COEFFICIENTS: &[u8] = b"RESOURCE_CONSTRAINT_COEFFICIENTS:
+0 0 2
+1 0 2
+2 0 3
+3 0 1
+";
+
+/// Its lines 17 to 19.
+const TINY_LIMITS: &[u8] = b"RESOURCE_CONSTRAINT_LIMITS:
+0 0 L 4
+0 1 I 1 4
+";
+
+/// The five lines of a whole header: two blocks, two periods, no resource, no discount.
+const HEADER: &[u8] = b"TYPE: CPIT
+NBLOCKS: 2
+NPERIODS: 2
+NRESOURCE_SIDE_CONSTRAINTS: 0
+DISCOUNT_RATE: 0
+";
+
+const MALFORMED: Cause = Cause::BadNumber(NumError::Malformed);
+
+const TOO_LONG: Cause = Cause::BadNumber(NumError::TooLong);
+
+const TOO_LARGE: Cause = Cause::BadNumber(NumError::TooLarge);
+
+const BLOCK_RANGE: Cause = Cause::Build(BuildError::BlockRange);
+
+const PERIOD_RANGE: Cause = Cause::Build(BuildError::PeriodRange);
+
+const REPEATED: Cause = Cause::Build(BuildError::Repeated);
+
+/// What an instance says: its numbers of blocks, periods and resources, its profits in millionths, and its factors in units of 10^-12.
+#[derive(Clone, Copy)]
+struct Facts<'a> {
+    numbers: [u32; 3],
+    profits: &'a [i64],
+    factors: &'a [i64],
+}
+
+/// What the small pit says. The factor of period 1 is 10^12 / 1.1, which is 909090909090.9.., rounded.
+const TINY_FACTS: Facts<'static> = Facts {
+    numbers: [4, 2, 1],
+    profits: &[-10_000_000, 20_500_000, 30_000_000, 5_000_000],
+    factors: &[1_000_000_000_000, 909_090_909_091],
+};
+
+/// What `HEADER` says, and these profits.
+fn facts_of(profits: &[i64]) -> Facts<'_> {
+    Facts {
+        numbers: [2, 2, 0],
+        profits,
+        factors: &[1_000_000_000_000, 1_000_000_000_000],
+    }
+}
+
+fn fault(line: u64, cause: Cause) -> TextError {
+    TextError { line, cause }
+}
+
+fn has_profits<A: Allocator + Drop>(instance: &Instance<A>, profits: &[i64]) -> bool {
+    for b in 0..instance.blocks() {
+        if profits.get(b as usize) != Some(&instance.profit(b)) {
+            return false;
+        }
+    }
+    profits.len() == instance.blocks() as usize
+}
+
+fn has_factors<A: Allocator + Drop>(instance: &Instance<A>, factors: &[i64]) -> bool {
+    for t in 0..instance.periods() {
+        if factors.get(t as usize) != Some(&instance.factor(t)) {
+            return false;
+        }
+    }
+    factors.len() == instance.periods() as usize
+}
+
+/// The builder, and the instance that it builds, say these facts.
+fn assert_facts<A: Allocator + Copy + Drop>(
+    rt: &impl Abort,
+    builder: Builder<A>,
+    wanted: Facts<'_>,
+    text: &[u8],
+) -> Result<(), Fail> {
+    let numbers = [builder.blocks(), builder.periods(), builder.resources()];
+    assert_eq!(rt; numbers, wanted.numbers, "of {text:?}");
+    let Ok(instance) = builder.build() else {
+        return Err(Fail::from("no memory to build"));
+    };
+    let numbers = [instance.blocks(), instance.periods(), instance.resources()];
+    assert_eq!(rt; numbers, wanted.numbers, "of {text:?}");
+    assert!(rt;
+        has_profits(&instance, wanted.profits),
+        "profits of {text:?}"
+    );
+    assert!(rt;
+        has_factors(&instance, wanted.factors),
+        "factors of {text:?}"
+    );
+    Ok(())
+}
+
+/// These parts, one behind the other.
+fn joined(alloc: Global, parts: &[&[u8]]) -> Result<Vec<u8>, AllocError> {
+    let mut text = Vec::new(alloc);
+    for part in parts {
+        text.extend_from_slice(part)?;
+    }
+    Ok(text)
+}

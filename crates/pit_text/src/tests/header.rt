@@ -1,0 +1,248 @@
+//! The header of a model text.
+use super::{HEADER, assert_facts, facts_of, fault, joined};
+use crate::{Cause, Key, read_model};
+use Cause::{BadHeader, MissingHeader, NotCpit, Unsupported};
+use std::test::Fail;
+
+#[test]
+fn values_that_are_refused(rt: HostRuntime) {
+    let rows: [(&[u8], Cause); 47] = [
+        (b"TYPE: PCPSP", NotCpit),
+        (b"TYPE: CPITX", NotCpit),
+        (b"TYPE: CPI", NotCpit),
+        (b"TYPE: CPIT\r\r\n", NotCpit),
+        (b"TYPE: CP\xc9T", BadHeader(Key::Kind)),
+        (b"NBLOCKS: 0", BadHeader(Key::Blocks)),
+        (b"NBLOCKS: 4194305", BadHeader(Key::Blocks)),
+        (b"NBLOCKS: 4294967297", BadHeader(Key::Blocks)),
+        (b"NBLOCKS: +4", BadHeader(Key::Blocks)),
+        (b"NBLOCKS: -4", BadHeader(Key::Blocks)),
+        (b"NBLOCKS: 4.0", BadHeader(Key::Blocks)),
+        (b"NBLOCKS: four", BadHeader(Key::Blocks)),
+        (b"NBLOCKS: \xc2\xb2", BadHeader(Key::Blocks)),
+        // 39 digits.
+        (
+            b"NBLOCKS: 000000000000000000000000000000000000001",
+            BadHeader(Key::Blocks),
+        ),
+        (b"NPERIODS: 0", BadHeader(Key::Periods)),
+        (b"NPERIODS: 1001", BadHeader(Key::Periods)),
+        (b"NRESOURCE_SIDE_CONSTRAINTS: 65", BadHeader(Key::Resources)),
+        (b"NRESOURCE_SIDE_CONSTRAINTS: x", BadHeader(Key::Resources)),
+        // The range of a rate is judged in millionths, after rounding.
+        (b"DISCOUNT_RATE: -0.0000005", BadHeader(Key::Rate)),
+        (b"DISCOUNT_RATE: 1000.0000005", BadHeader(Key::Rate)),
+        (b"DISCOUNT_RATE: 1001", BadHeader(Key::Rate)),
+        (b"DISCOUNT_RATE: 1e12", BadHeader(Key::Rate)),
+        (b"DISCOUNT_RATE: 0e1000", BadHeader(Key::Rate)),
+        (b"DISCOUNT_RATE: 10%", BadHeader(Key::Rate)),
+        (b"DISCOUNT_RATE: 0\xff", BadHeader(Key::Rate)),
+        (b"NDESTINATIONS: 0", Unsupported(Key::Destinations)),
+        (b"NDESTINATIONS: 2", Unsupported(Key::Destinations)),
+        (b"NDESTINATIONS: +1", BadHeader(Key::Destinations)),
+        (b"NDESTINATIONS: 1.0", BadHeader(Key::Destinations)),
+        (b"NDESTINATIONS: 4294967297", BadHeader(Key::Destinations)),
+        (b"NDESTINATIONS: 1\xff", BadHeader(Key::Destinations)),
+        (b"NGENERAL_SIDE_CONSTRAINTS: 1", Unsupported(Key::Generals)),
+        (b"NGENERAL_SIDE_CONSTRAINTS: -0", BadHeader(Key::Generals)),
+        // No value, or two. This goes before what the value is.
+        (b"TYPE:", BadHeader(Key::Kind)),
+        (b"TYPE: CPIT CPIT", BadHeader(Key::Kind)),
+        (b"TYPE: PCPSP 1", BadHeader(Key::Kind)),
+        (b"TYPE: CPIT % open pit", BadHeader(Key::Kind)),
+        (b"NBLOCKS", BadHeader(Key::Blocks)),
+        (b"NBLOCKS: 4 4", BadHeader(Key::Blocks)),
+        (b"NPERIODS:::", BadHeader(Key::Periods)),
+        (b"NRESOURCE_SIDE_CONSTRAINTS 1 1", BadHeader(Key::Resources)),
+        (b"DISCOUNT_RATE: 0 . 1", BadHeader(Key::Rate)),
+        (b"NDESTINATIONS: 2 2", BadHeader(Key::Destinations)),
+        (b"NDESTINATIONS:", BadHeader(Key::Destinations)),
+        (b"NGENERAL_SIDE_CONSTRAINTS: 1 1", BadHeader(Key::Generals)),
+        (b"NGENERAL_SIDE_CONSTRAINTS:", BadHeader(Key::Generals)),
+        // The first fault is that of the first line.
+        (b"NBLOCKS: 0\nTYPE: PCPSP", BadHeader(Key::Blocks)),
+    ];
+    for (text, cause) in rows {
+        let answer = read_model(rt.alloc(), text).err();
+        assert_eq!(rt; answer, Some(fault(1, cause)), "of {text:?}");
+    }
+}
+
+// That a key comes twice goes before what its second value is.
+#[test]
+fn keys_that_come_twice(rt: HostRuntime) {
+    let rows: [(&[u8], u64, Cause); 12] = [
+        (b"TYPE: CPIT\nTYPE: CPIT", 2, BadHeader(Key::Kind)),
+        (b"TYPE: CPIT\nTYPE: PCPSP", 2, BadHeader(Key::Kind)),
+        (b"NBLOCKS: 4\nNBLOCKS: 4", 2, BadHeader(Key::Blocks)),
+        (b"NBLOCKS: 4\nNBLOCKS: 5", 2, BadHeader(Key::Blocks)),
+        (b"NPERIODS: 4\nNPERIODS: 4", 2, BadHeader(Key::Periods)),
+        (
+            b"NRESOURCE_SIDE_CONSTRAINTS: 0\nNRESOURCE_SIDE_CONSTRAINTS: 0",
+            2,
+            BadHeader(Key::Resources),
+        ),
+        (
+            b"DISCOUNT_RATE: 0\n% a comment\nDISCOUNT_RATE: 0",
+            3,
+            BadHeader(Key::Rate),
+        ),
+        (
+            b"NDESTINATIONS: 1\nNDESTINATIONS: 1",
+            2,
+            BadHeader(Key::Destinations),
+        ),
+        (
+            b"NDESTINATIONS: 1\nNDESTINATIONS: 2",
+            2,
+            BadHeader(Key::Destinations),
+        ),
+        (
+            b"NGENERAL_SIDE_CONSTRAINTS: 0\nNGENERAL_SIDE_CONSTRAINTS: 0",
+            2,
+            BadHeader(Key::Generals),
+        ),
+        (
+            b"NGENERAL_SIDE_CONSTRAINTS: 0\nNGENERAL_SIDE_CONSTRAINTS: 7",
+            2,
+            BadHeader(Key::Generals),
+        ),
+        (
+            b"TYPE: CPIT\nNBLOCKS: 4\nNPERIODS: 4\nTYPE: CPIT",
+            4,
+            BadHeader(Key::Kind),
+        ),
+    ];
+    for (text, line, cause) in rows {
+        let answer = read_model(rt.alloc(), text).err();
+        assert_eq!(rt; answer, Some(fault(line, cause)), "of {text:?}");
+    }
+}
+
+// The factor of period 1 is 10^18 / (10^6 + rate), rounded: for a rate of 10^9 it is 999000999.0.., and for
+// 10^-6 it is 999999000001.0..
+#[test]
+fn values_that_are_read(rt: HostRuntime) -> Result<(), Fail> {
+    let rows: [([&str; 5], [u32; 3], i64); 7] = [
+        (["CPIT", "4", "2", "1", "0.1"], [4, 2, 1], 909_090_909_091),
+        (["cpit", "1", "2", "0", "0"], [1, 2, 0], 1_000_000_000_000),
+        (
+            ["cPiT", "4194304", "1000", "64", "1000"],
+            [4_194_304, 1000, 64],
+            999_000_999,
+        ),
+        (
+            ["Cpit", "007", "02", "0000", "1000.0000004"],
+            [7, 2, 0],
+            999_000_999,
+        ),
+        (
+            ["CPIT", "1", "2", "1", "-0.0000004"],
+            [1, 2, 1],
+            1_000_000_000_000,
+        ),
+        (
+            ["CPIT", "1", "2", "1", "0.0000005"],
+            [1, 2, 1],
+            999_999_000_001,
+        ),
+        (["CPIT", "1", "2", "1", "+1e-1"], [1, 2, 1], 909_090_909_091),
+    ];
+    for ([kind, blocks, periods, resources, rate], wanted, factor) in rows {
+        let text = format!(in rt.alloc();
+            "TYPE: {kind}\nNBLOCKS: {blocks}\nNPERIODS: {periods}\nNRESOURCE_SIDE_CONSTRAINTS: {resources}\nDISCOUNT_RATE: {rate}\n"
+        )?;
+        let builder = read_model(rt.alloc(), text.as_bytes())?;
+        let numbers = [builder.blocks(), builder.periods(), builder.resources()];
+        assert_eq!(rt; numbers, wanted, "of {text}");
+        let Ok(instance) = builder.build() else {
+            return Err(Fail::from("no memory to build"));
+        };
+        let numbers = [instance.blocks(), instance.periods(), instance.resources()];
+        assert_eq!(rt; numbers, wanted, "of {text}");
+        assert!(rt; instance.periods() > 1);
+        assert_eq!(rt; instance.factor(1), factor, "of {text}");
+    }
+    Ok(())
+}
+
+#[test]
+fn lines_that_are_skipped(rt: HostRuntime) -> Result<(), Fail> {
+    let rows: [&[u8]; 9] = [
+        b"",
+        b"NAME: a b\nNAME\n",
+        b"NAME: \xff\xfe\n",
+        // Keys are in capitals.
+        b"type: PCPSP\nNblocks: 9\nname\n",
+        b"objective_function:\n0 1\n0 1\n",
+        b"\xef\xbb\xbfTYPE: PCPSP\nTYPE\0: x\n",
+        b"NDESTINATIONS: 001\nNGENERAL_SIDE_CONSTRAINTS: 00\n",
+        b"\r\n   \t\n::\n%TYPE: PCPSP\n % EOF\n",
+        b"EOFX\neof\n",
+    ];
+    for text in rows {
+        let before = joined(rt.alloc(), &[text, HEADER])?;
+        let builder = read_model(rt.alloc(), &before)?;
+        assert_facts(&rt, builder, facts_of(&[0, 0]), &before)?;
+        let behind = joined(rt.alloc(), &[HEADER, text])?;
+        let builder = read_model(rt.alloc(), &behind)?;
+        assert_facts(&rt, builder, facts_of(&[0, 0]), &behind)?;
+    }
+    Ok(())
+}
+
+// Five keys are needed. With four lines the end line is 5, and so is the line of a section that follows them.
+#[test]
+fn keys_that_are_missing(rt: HostRuntime) -> Result<(), Fail> {
+    let lines: [&[u8]; 5] = [
+        b"TYPE: CPIT\n",
+        b"NBLOCKS: 2\n",
+        b"NPERIODS: 2\n",
+        b"NRESOURCE_SIDE_CONSTRAINTS: 0\n",
+        b"DISCOUNT_RATE: 0\n",
+    ];
+    let [kind, blocks, periods, resources, rate] = lines;
+    let rows: [([&[u8]; 4], Key); 6] = [
+        ([blocks, periods, resources, rate], Key::Kind),
+        ([kind, periods, resources, rate], Key::Blocks),
+        ([rate, kind, blocks, resources], Key::Periods),
+        ([rate, periods, blocks, kind], Key::Resources),
+        ([kind, blocks, periods, resources], Key::Rate),
+        // The first of the list, whatever the order of the lines.
+        ([rate, b"\n", resources, periods], Key::Kind),
+    ];
+    let ends: [&[u8]; 5] = [
+        b"",
+        b"EOF\n",
+        b"OBJECTIVE_FUNCTION:\n0 x\nOBJECTIVE_FUNCTION:\n",
+        b"RESOURCE_CONSTRAINT_COEFFICIENTS:\nTYPE: CPIT\n",
+        b" RESOURCE_CONSTRAINT_LIMITS \xff\n",
+    ];
+    for ([first, second, third, fourth], key) in rows {
+        for end in ends {
+            let text = joined(rt.alloc(), &[first, second, third, fourth, end])?;
+            let answer = read_model(rt.alloc(), &text).err();
+            assert_eq!(rt; answer, Some(fault(5, MissingHeader(key))), "of {text:?}");
+        }
+    }
+    Ok(())
+}
+
+#[test]
+fn headers_that_are_not_there(rt: HostRuntime) {
+    let rows: [(&[u8], u64); 8] = [
+        (b"", 1),
+        (b"\n", 2),
+        (b"EOF", 1),
+        (b"NAME: Tiny\nEOF\nTYPE: CPIT\n", 2),
+        (b"type: CPIT", 2),
+        (b"\xef\xbb\xbfTYPE: CPIT\n", 2),
+        (b"\0TYPE: CPIT\r\n\r", 3),
+        (b"LIMITS\nRESOURCE_CONSTRAINT_LIMITS\n", 2),
+    ];
+    for (text, line) in rows {
+        let answer = read_model(rt.alloc(), text).err();
+        let wanted = Some(fault(line, MissingHeader(Key::Kind)));
+        assert_eq!(rt; answer, wanted, "of {text:?}");
+    }
+}

@@ -1,0 +1,80 @@
+//! The lines of a solution.
+use super::{BLOCK_RANGE, MALFORMED, PERIOD_RANGE, REPEATED, TOO_LARGE, TOO_LONG, fault};
+use crate::{Builder, Cause, read_solution};
+use std::test::Fail;
+
+// Four blocks and two periods.
+#[test]
+fn solutions_that_are_read(rt: HostRuntime) -> Result<(), Fail> {
+    let Ok(instance) = Builder::new(rt.alloc(), 4, 2, 1, 100_000)?.build() else {
+        return Err(Fail::from("no memory to build"));
+    };
+    let rows: [(&[u8], &[(u32, u32)]); 9] = [
+        (b"", &[]),
+        (b"EOF\n3 1", &[]),
+        (b"3 1", &[(3, 1)]),
+        (b"0 0\n1 0\n2 1\n", &[(0, 0), (1, 0), (2, 1)]),
+        // The pairs rise by block, in whatever order the lines come.
+        (b"3 0\n0 1\n2 1\n1 0", &[(0, 1), (1, 0), (2, 1), (3, 0)]),
+        (b"3 1\r\n\r\n% 2 0\r\n  %\r\n1 0\r\n", &[(1, 0), (3, 1)]),
+        (b"3:1\n\t2 : 0 :", &[(2, 0), (3, 1)]),
+        (b"003 01\n00 0", &[(0, 0), (3, 1)]),
+        (b"2 0\nEOF\n2 0\nx", &[(2, 0)]),
+    ];
+    for (text, wanted) in rows {
+        let solution = read_solution(rt.alloc(), text, &instance)?;
+        assert_eq!(rt; solution.as_slice(), wanted, "of {text:?}");
+    }
+    Ok(())
+}
+
+// The number of fields, then the fields from left to right, each first its bytes and then its number, then the block,
+// the period, and last whether the block came before.
+#[test]
+fn lines_that_are_refused(rt: HostRuntime) -> Result<(), Fail> {
+    let Ok(instance) = Builder::new(rt.alloc(), 4, 2, 1, 100_000)?.build() else {
+        return Err(Fail::from("no memory to build"));
+    };
+    let rows: [(&[u8], u64, Cause); 34] = [
+        (b"3", 1, Cause::FieldCount),
+        (b"3 0 1", 1, Cause::FieldCount),
+        (b"3 0 1 1.000000", 1, Cause::FieldCount),
+        (b"3 0 1 0", 1, Cause::FieldCount),
+        (b"3 0 1 1 1", 1, Cause::FieldCount),
+        (b"3 1 % late", 1, Cause::FieldCount),
+        (b"x", 1, Cause::FieldCount),
+        (b"\xff \xff \xff", 1, Cause::FieldCount),
+        (b"\xff 1", 1, Cause::NotAscii),
+        (b"1 \xff", 1, Cause::NotAscii),
+        (b"x\xff 1", 1, Cause::NotAscii),
+        (b"\xff x", 1, Cause::NotAscii),
+        (b"x \xff", 1, MALFORMED),
+        (b"9 \xff", 1, Cause::NotAscii),
+        (b"x 9", 1, MALFORMED),
+        (b"9 x", 1, MALFORMED),
+        (b"3 +1", 1, MALFORMED),
+        (b"-1 0", 1, MALFORMED),
+        (b"3 1.0", 1, MALFORMED),
+        (b"3 1\r\r\n", 1, MALFORMED),
+        (b"4294967296 0", 1, TOO_LARGE),
+        (b"3 4294967296", 1, TOO_LARGE),
+        // 39 digits.
+        (b"000000000000000000000000000000000000003 0", 1, TOO_LONG),
+        (b"4 0", 1, BLOCK_RANGE),
+        (b"4294967295 0", 1, BLOCK_RANGE),
+        (b"9 9", 1, BLOCK_RANGE),
+        (b"3 2", 1, PERIOD_RANGE),
+        (b"3 1\n3 1", 2, REPEATED),
+        (b"3 1\n3 0\n9 9", 2, REPEATED),
+        (b"3 1\n\n% 3 1\n2 1\n3 0", 5, REPEATED),
+        (b"3 1\n3 2", 2, PERIOD_RANGE),
+        (b"3 1\n3 x", 2, MALFORMED),
+        (b"3 1\n3", 2, Cause::FieldCount),
+        (b"0 0\n1 0\n4 0\n", 3, BLOCK_RANGE),
+    ];
+    for (text, line, cause) in rows {
+        let answer = read_solution(rt.alloc(), text, &instance).err();
+        assert_eq!(rt; answer, Some(fault(line, cause)), "of {text:?}");
+    }
+    Ok(())
+}

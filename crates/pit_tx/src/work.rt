@@ -1,0 +1,208 @@
+//! The sets of a transaction, in the order of first use.
+ghost use Rattle.std.specs.Prelude.{◌≡◌, ◌<◌, ◌≤◌, [], IfOk, OnOk, OnErr, IfSome, IfNone, IsErrOf};
+ghost use Rattle.pit_tx.specs.Refusals.{refusal_of, IsDue, IsFurther};
+ghost use Rattle.pit_tx.specs.Sets.{known_of, noted, written, PairsFit, IsSound};
+
+use crate::access_set::{AccessSet, note_in, write_in};
+use crate::error::WorkError;
+use indexmap::IndexMap;
+use pit_num::{BLOCKS_MAX, NoMemory, PERIODS_MAX};
+use std::alloc::Allocator;
+use std::marker::Model;
+
+/// The reads and the writes of a transaction, each a block with a period or none, in the order of first use. A transaction is
+/// what one planner does for one of its jobs, after so many commits. Only `new`, `note`, `put` and `clear` take memory, and a
+/// refused one leaves all as it was.
+#[derive(Drop)]
+pub struct Work<A: Allocator + Copy + Drop> {
+    planner: u32,
+    job: u32,
+    start: u32,
+    blocks: u32,
+    periods: u32,
+    reads: AccessSet<A>,
+    writes: AccessSet<A>,
+}
+
+impl<A: Allocator + Copy + Drop> Model for Work<A> {
+    ghost use Rattle.pit_tx.specs.Sets.{Sets};
+
+    ghost Value = { Sets };
+
+    ghost use Rattle.pit_tx.specs.Kept.{AreKept};
+
+    ghost view = { λ w. record {
+      planner = w.planner;
+      job = w.job;
+      start = w.start;
+      blocks = w.blocks;
+      periods = w.periods;
+      reads = w.reads.entries;
+      writes = w.writes.entries;
+    } };
+
+    ghost invariant = { λ w. AreKept w.blocks w.periods w.reads w.writes };
+}
+
+impl<A: Allocator + Copy + Drop> Work<A> {
+    /// Empty sets over blocks and periods that are numbered from 0. Takes memory for one pair in each set.
+    pub fn new(
+        alloc: A,
+        planner: u32,
+        job: u32,
+        start: u32,
+        blocks: u32,
+        periods: u32,
+    ) -> Result<Self, NoMemory>
+        requires some_block { 1 ≤ blocks }
+        requires few_blocks { blocks ≤ BLOCKS_MAX }
+        requires some_period { 1 ≤ periods }
+        requires few_periods { periods ≤ PERIODS_MAX }
+        ensures { IfOk result (λ w. w ≡ record {
+          planner = planner;
+          job = job;
+          start = start;
+          blocks = blocks;
+          periods = periods;
+          reads = [];
+          writes = [];
+        }) }
+    {
+        let reads = IndexMap::with_capacity(alloc, 1)?;
+        let writes = IndexMap::with_capacity(alloc, 1)?;
+        Ok(Work {
+            planner,
+            job,
+            start,
+            blocks,
+            periods,
+            reads,
+            writes,
+        })
+    }
+
+    /// Who plans, numbered from 1. 0 is the opening schedule.
+    pub fn planner(&self) -> u32
+        ensures { result ≡ self.now.planner }
+    {
+        self.planner
+    }
+
+    /// The job of that planner, numbered from 1.
+    pub fn job(&self) -> u32
+        ensures { result ≡ self.now.job }
+    {
+        self.job
+    }
+
+    /// How many commits the transaction has seen.
+    pub fn start(&self) -> u32
+        ensures { result ≡ self.now.start }
+    {
+        self.start
+    }
+
+    /// The number of blocks, 1 to 4,194,304.
+    pub fn blocks(&self) -> u32
+        ensures count { result ≡ self.now.blocks }
+        ensures sound { IsSound self.now }
+    {
+        self.blocks
+    }
+
+    /// The number of periods, 1 to 1,000.
+    pub fn periods(&self) -> u32
+        ensures count { result ≡ self.now.periods }
+        ensures sound { IsSound self.now }
+    {
+        self.periods
+    }
+
+    /// The own write of a block, else its first noted read (TL2 2006). A block out of range is not known.
+    pub fn known(&self, b: u32) -> Option<Option<u32>>
+        ensures { result ≡ known_of self.now b }
+    {
+        match self.writes.get(&b) {
+            Some(period) => Some(*period),
+            None => self.reads.get(&b).copied(),
+        }
+    }
+
+    /// Notes what a block was seen to have. A block that was noted before keeps its first value. Takes memory where the read set
+    /// has other blocks, and not this one.
+    pub fn note(&mut self, b: u32, period: Option<u32>) -> Result<(), WorkError>
+        ensures ok { OnOk result (self.new ≡ record self.old { reads = noted self.old.reads b period }) }
+        ensures err { OnErr result (self.new ≡ self.old) }
+        ensures cause { IsDue result (refusal_of self.old b period) }
+        ensures memory { IsErrOf result WorkError.NoMemory → IsFurther self.old.reads b }
+    {
+        if let Some(error) = self.refusal(b, period) {
+            return Err(error);
+        }
+        note_in(&mut self.reads, b, period)
+    }
+
+    /// Writes that a block has a period. A block that was written before keeps its place. Takes memory where the write set has
+    /// other blocks, and not this one.
+    pub fn put(&mut self, b: u32, t: u32) -> Result<(), WorkError>
+        ensures ok { OnOk result (self.new ≡ record self.old { writes = written self.old.writes b (Some t) }) }
+        ensures err { OnErr result (self.new ≡ self.old) }
+        ensures cause { IsDue result (refusal_of self.old b (Some t)) }
+        ensures memory { IsErrOf result WorkError.NoMemory → IsFurther self.old.writes b }
+    {
+        self.write(b, Some(t))
+    }
+
+    /// Writes that a block has no period. The pair is kept, in its place or last, and memory is taken, as in `put`.
+    pub fn clear(&mut self, b: u32) -> Result<(), WorkError>
+        ensures ok { OnOk result (self.new ≡ record self.old { writes = written self.old.writes b None }) }
+        ensures err { OnErr result (self.new ≡ self.old) }
+        ensures cause { IsDue result (refusal_of self.old b None) }
+        ensures memory { IsErrOf result WorkError.NoMemory → IsFurther self.old.writes b }
+    {
+        self.write(b, None)
+    }
+
+    /// The read set: each block with what it was first seen to have.
+    pub fn reads(&self) -> &AccessSet<A>
+        ensures pairs { result.now.entries ≡ self.now.reads }
+        ensures fit { PairsFit self.now.blocks self.now.periods self.now.reads }
+    {
+        &self.reads
+    }
+
+    /// The write set: each block with what it was last given.
+    pub fn writes(&self) -> &AccessSet<A>
+        ensures pairs { result.now.entries ≡ self.now.writes }
+        ensures fit { PairsFit self.now.blocks self.now.periods self.now.writes }
+    {
+        &self.writes
+    }
+
+    /// Writes a block with a period or none.
+    fn write(&mut self, b: u32, period: Option<u32>) -> Result<(), WorkError>
+        ensures ok { OnOk result (self.new ≡ record self.old { writes = written self.old.writes b period }) }
+        ensures err { OnErr result (self.new ≡ self.old) }
+        ensures cause { IsDue result (refusal_of self.old b period) }
+        ensures memory { IsErrOf result WorkError.NoMemory → IsFurther self.old.writes b }
+    {
+        if let Some(error) = self.refusal(b, period) {
+            return Err(error);
+        }
+        write_in(&mut self.writes, b, period)
+    }
+
+    /// Why a block with a period or none can't stand in a set, if it can't.
+    fn refusal(&self, b: u32, period: Option<u32>) -> Option<WorkError>
+        ensures due { result ≡ refusal_of self.now b period }
+        ensures fits { IfNone result ((b < self.now.blocks) × IfSome period (λ t. t < self.now.periods)) }
+    {
+        if b >= self.blocks {
+            return Some(WorkError::NoBlock);
+        }
+        match period {
+            Some(t) if t >= self.periods => Some(WorkError::NoPeriod),
+            _ => None,
+        }
+    }
+}

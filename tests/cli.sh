@@ -1,0 +1,185 @@
+#!/usr/bin/env bash
+# Runs a built `pit` with files, streams and words that fail, and compares its status and both of its outputs whole.
+# usage: tests/cli.sh PIT      PIT is the path of the program. Each case prints a line, `ok`, `FAIL` or `skip`.
+set -u
+
+if [ $# -ne 1 ] || [ ! -x "$1" ]; then
+    echo "usage: $0 PIT" >&2
+    exit 2
+fi
+pit=$(realpath "$1")
+work=$(mktemp -d)
+trap 'chmod -R u+rwx "$work"; rm -rf "$work"' EXIT
+cd "$work" || exit 2
+failures=0
+# Stands for any text that is not empty, where the words are those of the command line's parser.
+readonly SOME='<some text>'
+
+# fits FILE TEXT: the file holds the text, and a newline after it where it is not empty.
+fits() {
+    case $2 in
+        "$SOME") [ -s "$1" ] ;;
+        '') [ ! -s "$1" ] ;;
+        *) printf '%s\n' "$2" | cmp -s - "$1" ;;
+    esac
+}
+
+# compare NAME STATUS OUT ERR: judges the run that left its status in `status` and its outputs in `out` and `err`.
+compare() {
+    if [ "$status" = "$2" ] && fits out "$3" && fits err "$4"; then
+        echo "ok    $1"
+    else
+        echo "FAIL  $1: status $status, wanted $2"
+        sed 's/^/      out: /' out
+        sed 's/^/      err: /' err
+        failures=$((failures + 1))
+    fi
+}
+
+# check NAME STATUS OUT ERR WORD..: runs the program with the words.
+check() {
+    local wanted=("$1" "$2" "$3" "$4")
+    shift 4
+    "$pit" "$@" >out 2>err </dev/null
+    status=$?
+    compare "${wanted[@]}"
+}
+
+# The small instance: four blocks, two periods, one resource.
+cat >model <<'TEXT'
+NAME: Tiny
+TYPE: CPIT
+NBLOCKS: 4
+NPERIODS: 2
+NRESOURCE_SIDE_CONSTRAINTS: 1
+DISCOUNT_RATE: 0.1
+OBJECTIVE_FUNCTION:
+0 -10
+1 20.5
+2 30
+3 5
+RESOURCE_CONSTRAINT_COEFFICIENTS:
+0 0 2
+1 0 2
+2 0 3
+3 0 1
+RESOURCE_CONSTRAINT_LIMITS:
+0 0 L 4
+0 1 I 1 4
+EOF
+TEXT
+printf '0 0\n1 0\n2 1\n' >solution
+# Refused at its first line, if anything reads it.
+printf 'no model\n' >refused
+mkdir folder
+# -10 + 20.5 and 30 in the second period are 10.5 * 0.909090909091 + 30 * 0.826446280992.
+readonly VALUE='37.772727272730000000'
+
+# Answers.
+check 'value' 0 "$VALUE" '' value model solution
+check 'value, files after --' 0 "$VALUE" '' value -- model solution
+
+# Files that cannot be opened or read: the line has the input's word, and not the path.
+check 'no model' 3 '' 'pit: cannot read model' value missing solution
+check 'no solution' 3 '' 'pit: cannot read solution' value model missing
+check 'neither file' 3 '' 'pit: cannot read model' value missing missing
+check 'all files are opened before one is read' 3 '' 'pit: cannot read solution' value refused missing
+check 'the model is a folder' 3 '' 'pit: cannot read model' value folder solution
+check 'the solution is a folder' 3 '' 'pit: cannot read solution' value model folder
+check 'both are folders' 3 '' 'pit: cannot read model' value folder folder
+check 'a path through a file' 3 '' 'pit: cannot read model' value model/x solution
+check 'a path that is too long' 3 '' 'pit: cannot read model' value "$(printf 'x%.0s' {1..5000})" solution
+cp model secret
+chmod 000 secret
+if [ -r secret ]; then
+    chmod 755 . && chmod 644 model solution && cp "$pit" here && chmod 755 here
+    if setpriv --reuid=65534 --clear-groups ./here value model solution >out 2>err; then
+        setpriv --reuid=65534 --clear-groups ./here value secret solution >out 2>err
+        status=$?
+        compare 'no permission to read the model' 3 '' 'pit: cannot read model'
+    else
+        echo 'skip  no permission to read the model: whoever runs this may read every file'
+    fi
+else
+    check 'no permission to read the model' 3 '' 'pit: cannot read model' value secret solution
+fi
+
+# Outputs that take nothing.
+: >out
+"$pit" value model solution 2>err >/dev/full
+status=$?
+compare 'a full output' 3 '' 'pit: cannot write'
+"$pit" value model solution 2>err >&-
+status=$?
+compare 'a closed output' 3 '' 'pit: cannot write'
+"$pit" value model solution 2>err <&- >&-
+status=$?
+compare 'a closed input and output' 3 '' 'pit: cannot write'
+{
+    sleep 0.3
+    "$pit" value model solution 2>err
+    echo $? >status
+} | true
+status=$(cat status)
+compare 'a pipe that nobody reads' 3 '' 'pit: cannot write'
+"$pit" --help 2>err >/dev/full
+status=$?
+compare 'help to a full output' 3 '' 'pit: cannot write'
+"$pit" value --help 2>err >&-
+status=$?
+compare 'help to a closed output' 3 '' 'pit: cannot write'
+: >err
+"$pit" value missing solution >out 2>&-
+status=$?
+compare 'a fault with a closed standard error' 3 '' ''
+"$pit" no_such_command >out 2>/dev/full
+status=$?
+compare 'a refusal to a full standard error' 2 '' ''
+"$pit" value model solution >out 2>&-
+status=$?
+compare 'an answer with a closed standard error' 0 "$VALUE" ''
+
+# Words that are refused, and help.
+check 'no words' 2 '' "$SOME"
+check 'no such subcommand' 2 '' "$SOME" valu
+check 'no files' 2 '' "$SOME" value
+check 'one file' 2 '' "$SOME" value model
+check 'three files' 2 '' "$SOME" value model solution solution
+check 'no such option' 2 '' "$SOME" value --fast model solution
+check 'help on no such subcommand' 2 '' "$SOME" help valu
+check 'a word that is not UTF-8' 2 '' "$SOME" value $'\xff' solution
+check 'a first word that is not UTF-8' 2 '' "$SOME" $'v\xc3'
+check 'help' 0 "$SOME" '' --help
+check 'help, short' 0 "$SOME" '' -h
+check 'help as a subcommand' 0 "$SOME" '' help
+check 'help on value' 0 "$SOME" '' value --help
+cp out asked
+check 'help value' 0 "$SOME" '' help value
+status=0
+cmp -s out asked || status=differs
+: >out
+compare 'both forms of help say the same' 0 '' ''
+status=0
+grep -q 'MineLib' asked && grep -q 'BLOCK PERIOD' asked && grep -q '^ *pit value ' asked || status=lacking
+compare 'help on value tells the formats and an example' 0 '' ''
+
+# Want of memory: the model is larger than the memory that the program may take.
+truncate -s 512M large
+(
+    ulimit -v 200000
+    exec "$pit" value large solution
+) >out 2>err
+status=$?
+compare 'no memory for the model' 3 '' 'pit: no memory'
+(
+    ulimit -v 200000
+    exec "$pit" value model large
+) >out 2>err
+status=$?
+compare 'no memory for the solution' 3 '' 'pit: no memory'
+
+if [ "$failures" -ne 0 ]; then
+    echo "$failures failed"
+    exit 1
+fi
+echo 'all fine'

@@ -1,0 +1,79 @@
+#!/usr/bin/env bash
+# Refuses each request of a built `pit` for memory in turn, those of the command line's parser too. A run with a refused
+# request has to print `pit: no memory` alone, with status 3, or to end as the run in which nothing is refused.
+# usage: tests/no_memory.sh PIT FOLDER      PIT is the path of the program, FOLDER has tiny.cpit and tiny.sol. Wants a C compiler.
+set -u
+
+if [ $# -ne 2 ] || [ ! -x "$1" ] || [ ! -r "$2/tiny.cpit" ]; then
+    echo "usage: $0 PIT FOLDER" >&2
+    exit 2
+fi
+pit=$(realpath "$1")
+data=$(realpath "$2")
+work=$(mktemp -d)
+trap 'rm -rf "$work"' EXIT
+cd "$work" || exit 2
+failures=0
+
+cat >refuse.c <<'TEXT'
+#include <errno.h>
+#include <stdlib.h>
+extern void *__libc_malloc(size_t);
+extern void *__libc_realloc(void *, size_t);
+static long asked, number = -1;
+static int is_refused(void) {
+    if (number < 0) {
+        const char *text = getenv("REFUSED_REQUEST");
+        number = text ? atol(text) : 0;
+    }
+    return ++asked == number;
+}
+void *malloc(size_t size) {
+    if (is_refused()) { errno = ENOMEM; return 0; }
+    return __libc_malloc(size);
+}
+void *realloc(void *at, size_t size) {
+    if (is_refused()) { errno = ENOMEM; return 0; }
+    return __libc_realloc(at, size);
+}
+TEXT
+${CC:-cc} -shared -fPIC -o refuse.so refuse.c || exit 2
+
+# each NAME WORD..: runs the program with the words, once for each request.
+each() {
+    local name=$1 refused=0 number status whole
+    shift
+    "$pit" "$@" >whole.out 2>whole.err
+    whole=$?
+    for number in {1..300}; do
+        REFUSED_REQUEST=$number LD_PRELOAD=./refuse.so "$pit" "$@" >out 2>err
+        status=$?
+        if [ "$status" = 3 ] && [ ! -s out ] && [ "$(cat err)" = 'pit: no memory' ]; then
+            refused=$((refused + 1))
+        elif [ "$status" != "$whole" ] || ! cmp -s out whole.out || ! cmp -s err whole.err; then
+            echo "FAIL  $name: request $number refused: status $status"
+            failures=$((failures + 1))
+        fi
+    done
+    if [ "$refused" -eq 0 ] || [ "$refused" -eq 300 ]; then
+        echo "FAIL  $name: $refused of 300 runs had no memory"
+        failures=$((failures + 1))
+    else
+        echo "ok    $name: $refused requests refused"
+    fi
+}
+
+each 'value' value "$data/tiny.cpit" "$data/tiny.sol"
+each 'help' --help
+each 'help on value' value --help
+each 'help value' help value
+each 'no words'
+each 'no such subcommand' valu
+each 'one file' value "$data/tiny.cpit"
+each 'a word that is not UTF-8' value $'\xff' x
+
+if [ "$failures" -ne 0 ]; then
+    echo "$failures failed"
+    exit 1
+fi
+echo 'all fine'
