@@ -4,9 +4,8 @@ mod parts;
 mod scale;
 mod whole;
 
-use std::fmt;
-
 pub use micro::{micro_from_bytes, parse_micro};
+use std::fmt;
 pub use whole::{parse_whole, whole_from_bytes};
 
 /// Why a text is no number. The first that applies, in this order.
