@@ -5,8 +5,11 @@ ghost use Rattle.pit_text.specs.Model.{section_of};
 /// A section of a model text.
 #[derive(Clone, Copy, Debug, PartialEq, Eq)]
 pub enum Section {
+    /// `OBJECTIVE_FUNCTION`
     Objective,
+    /// `RESOURCE_CONSTRAINT_COEFFICIENTS`
     Coefficients,
+    /// `RESOURCE_CONSTRAINT_LIMITS`
     Limits,
 }
 
