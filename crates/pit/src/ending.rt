@@ -19,7 +19,6 @@ pub fn with_fault(rt: &HostRuntime, fault: &CliFault) -> u8
 }
 
 /// Prints the text of the command line's parser: a refusal on the standard error, and help on the standard output.
-
 pub fn with_command(rt: &HostRuntime, error: &clap::Error) -> u8
     ensures refused { (kind_of error.now ≢ DisplayHelp) × (kind_of error.now ≢ DisplayVersion) → result ≡ 2 }
     ensures shown { (kind_of error.now ≡ DisplayHelp) ⊎ (kind_of error.now ≡ DisplayVersion)

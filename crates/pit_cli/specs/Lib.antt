@@ -1,3 +1,4 @@
+pub mod Inputs
 pub mod Statuses
 pub mod Sum
 pub mod Outcome

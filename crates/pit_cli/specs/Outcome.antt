@@ -1,5 +1,5 @@
 -- What an engine answers to what its devices gave.
-use Rattle.std.specs.Prelude.{◌≡◌, ℕ, ℤ, ◌^◌, ◌<◌, ◌++◌, ◌∷◌, [], Bool, true, false, List, length, Option, ◌⊎◌}
+use Rattle.std.specs.Prelude.{◌≡◌, ℕ, ℤ, ◌^◌, ◌<◌, ◌≤◌, ◌++◌, ◌∷◌, [], Bool, true, false, List, length, Option, ◌⊎◌}
 use Rattle.std.specs.Io.KnownBytes.{Appends, Consumes, IsAtEnd, Keeps}
 use Rattle.pit_num.specs.Printed.{fixed_text, AppendsFront}
 use Rattle.pit_text.specs.declared.error.TextError.{TextError}
@@ -34,8 +34,9 @@ writing before after failed = record { before = before; after = after; failed = 
 
 -- ---- one input
 
--- it was read whole, and these are its bytes
+-- it was read whole, these are its bytes, and it is no longer than inputs may be
 pub record IsWhole (source : Reading) (bytes : List ℕ) : Type 0 where
+  pub short : length bytes ≤ 2 ^ 32
   pub taken : Consumes source.before source.after bytes
   pub end : IsAtEnd source.after
   pub sound : source.failed ≡ false

@@ -8,6 +8,11 @@ pub enum Input {
 }
 
 impl fmt::Display for Input {
+    ghost use Rattle.std.specs.Prelude.{Some};
+    ghost use Rattle.pit_cli.specs.Inputs.{input_name};
+
+    ghost output = { λ input. Some (input_name input) };
+
     fn fmt<W: fmt::Write>(&self, f: &mut fmt::Formatter<W>) -> fmt::Result {
         match self {
             Input::Model => write!(f, "model"),

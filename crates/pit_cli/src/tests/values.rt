@@ -5,7 +5,7 @@ use pit_num::{In, Out};
 use pit_text::read_model;
 use std::test::Fail;
 
-/// Coefficients and limits aren't read, whatever their sections hold; the sections stand in another order.
+/// Coefficients and limits aren't read yet, whatever their sections hold; the sections stand in another order.
 const HOSTILE: &[u8] = b"TYPE: CPIT
 NBLOCKS: 4
 NPERIODS: 2
