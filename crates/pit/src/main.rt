@@ -1,8 +1,6 @@
 //! `pit` values open pit schedules: it opens the files that its words name, and calls an engine.
 #![tactic(auto)]
 
-ghost use Rattle.std.specs.Prelude.{◌≤◌};
-
 mod command;
 mod ending;
 mod fault;
@@ -16,17 +14,10 @@ use pit_num::Out;
 use std::process::ExitCode;
 
 fn main(rt: HostRuntime) -> ExitCode {
-    ExitCode::from(run(&rt))
-}
-
-/// Runs the program, and answers the status that it ends with.
-fn run(rt: &HostRuntime) -> u8
-    ensures { result ≤ 3 }
-{
-    match answer(rt) {
-        Ok(status) => status.code(),
-        Err(Fault::Engine(fault)) => ending::with_fault(rt, &fault),
-        Err(Fault::Command(error)) => ending::with_command(rt, &error),
+    match answer(&rt) {
+        Ok(status) => ExitCode::from(status.code()),
+        Err(Fault::Engine(fault)) => ExitCode::from(ending::with_fault(&rt, &fault)),
+        Err(Fault::Command(error)) => ExitCode::from(ending::with_command(&rt, &error)),
     }
 }
 
