@@ -1,7 +1,7 @@
 //! The command line.
 ghost use Rattle.std.specs.Prelude.{◌≡◌, ◌⊎◌};
 ghost use Rattle.clap.specs.Values.{kind_of};
-ghost use Rattle.clap.specs.declared.error.kind.ErrorKind.TheVariants.{InvalidValue, OutOfMemory};
+ghost use Rattle.clap.specs.declared.error.kind.ErrorKind.TheVariants.{OutOfMemory};
 
 use crate::fault::Fault;
 use clap::error::ErrorKind;
@@ -28,7 +28,7 @@ pub fn words(rt: &HostRuntime) -> Result<Vec<String>, Fault> {
         Err(error) if error.kind() == io::ErrorKind::OutOfMemory => {
             return Err(Fault::from(AllocError));
         }
-        Err(_) => return Err(Fault::from(refusal(rt.alloc(), "a word is not UTF-8"))),
+        Err(_) => return Err(Fault::from(refusal(rt.alloc(), ErrorKind::InvalidValue))),
     };
     Ok(words.collect(rt.alloc())?)
 }
@@ -39,13 +39,6 @@ pub fn command<'a>(alloc: Global) -> Result<Command<'a>, AllocError> {
         .about("Values schedules of open pit mines")
         .subcommand_required(true)
         .subcommand(value_command(alloc)?)
-}
-
-/// The error where no subcommand was given.
-pub fn no_subcommand(alloc: Global) -> Error
-    ensures { (kind_of result ≡ InvalidValue) ⊎ (kind_of result ≡ OutOfMemory) }
-{
-    refusal(alloc, "a subcommand is required")
 }
 
 fn value_command<'a>(alloc: Global) -> Result<Command<'a>, AllocError> {
@@ -60,12 +53,16 @@ fn file<'a>(alloc: Global, name: &'a str, help: &'a str) -> Arg<'a> {
     Arg::new(alloc, name).required(true).help(help)
 }
 
-/// The parser's error with a text of ours, or want of memory.
-fn refusal(alloc: Global, text: &str) -> Error
-    ensures { (kind_of result ≡ InvalidValue) ⊎ (kind_of result ≡ OutOfMemory) }
+/// The parser's error where it couldn't be asked: a word that is not UTF-8, or no subcommand. Or want of memory.
+pub fn refusal(alloc: Global, kind: ErrorKind) -> Error
+    ensures { (kind_of result ≡ kind) ⊎ (kind_of result ≡ OutOfMemory) }
 {
+    let text = match kind {
+        ErrorKind::MissingSubcommand => "a subcommand is required",
+        _ => "a word is not UTF-8",
+    };
     match command(alloc) {
-        Ok(mut command) => match command.error(ErrorKind::InvalidValue, text) {
+        Ok(mut command) => match command.error(kind, text) {
             Ok(error) => error,
             Err(error) => Error::from(error),
         },

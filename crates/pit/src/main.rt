@@ -7,7 +7,7 @@ mod fault;
 mod files;
 
 use clap::ArgMatches;
-use command::{MODEL, SOLUTION};
+use clap::error::ErrorKind;
 use fault::Fault;
 use pit_cli::{Input, Status, value};
 use pit_num::Out;
@@ -27,14 +27,14 @@ fn answer(rt: &HostRuntime) -> Result<Status, Fault> {
     let matches = command::command(rt.alloc())?.try_get_matches_from(words.as_slice())?;
     match matches.subcommand() {
         Some(("value", given)) => run_value(rt, given),
-        _ => Err(Fault::from(command::no_subcommand(rt.alloc()))),
+        _ => Err(Fault::from(command::refusal(rt.alloc(), ErrorKind::MissingSubcommand))),
     }
 }
 
 /// `pit value`.
 fn run_value(rt: &HostRuntime, given: &ArgMatches<'_>) -> Result<Status, Fault> {
-    let mut model = files::opened(rt, given, MODEL, Input::Model)?;
-    let mut solution = files::opened(rt, given, SOLUTION, Input::Solution)?;
+    let mut model = files::opened(rt, given, Input::Model)?;
+    let mut solution = files::opened(rt, given, Input::Solution)?;
     let mut out = Out::new(rt.stdout());
     Ok(value(rt.alloc(), &mut model, &mut solution, &mut out)?)
 }
