@@ -4,7 +4,7 @@ use Rattle.std.specs.Int.{w128}
 use Rattle.std.proofs.lemmas.Int.{ints}
 use Rattle.std.proofs.Math.Nat.{mul-le-mul}
 use Rattle.pit_num.specs.Within.{IsWithin}
-use Rattle.pit_text.specs.Pit.{Pit}
+use Rattle.pit_model.specs.Pit.{Pit}
 use Rattle.pit_text.specs.Solution.{RisesFrom}
 use Rattle.pit_cli.specs.Sum.{earned, value_of}
 

@@ -6,7 +6,7 @@ use Rattle.pit_text.specs.declared.error.TextError.{TextError}
 use Rattle.pit_text.specs.Cutting.{cut_of, end_line}
 use Rattle.pit_text.specs.Stands.{StandsFor, FailsFirst, StandsWhole, FailsWhole}
 use Rattle.pit_text.specs.Model.{Fact, model_line, model_end, pit_of}
-use Rattle.pit_text.specs.Pit.{Pit}
+use Rattle.pit_model.specs.Pit.{Pit}
 use Rattle.pit_text.specs.Solution.{solution_line, period_in, scheduled}
 use Rattle.pit_cli.specs.Sum.{value_of}
 use Rattle.pit_cli.specs.declared.input.Input.{Input}
@@ -59,9 +59,9 @@ IsBadModel bytes error = FailsWhole model_line model_end (cut_of bytes) (end_lin
 
 -- a solution of a pit, its blocks with their periods by rising block, and one with its first fault
 pub record IsSolutionOf (pit : Pit) (bytes : List ℕ) (solution : List (ℕ × ℕ)) : Type 0 where
-  pub pairs : List (ℕ × ℕ)
-  pub stands : StandsFor (solution_line pit.blocks pit.periods) (cut_of bytes) pairs
-  pub says : solution ≡ scheduled pit.blocks (period_in pairs)
+  pub facts : List (Option (ℕ × ℕ))
+  pub stands : StandsFor (solution_line pit.blocks pit.periods) (cut_of bytes) facts
+  pub says : solution ≡ scheduled pit.blocks (period_in facts)
 
 abbrev pub IsBadSolution : Pit → List ℕ → TextError → Type 0
 IsBadSolution pit bytes error = FailsFirst (solution_line pit.blocks pit.periods) (cut_of bytes) error.line error.cause

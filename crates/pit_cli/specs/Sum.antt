@@ -1,6 +1,6 @@
 -- What a solution is worth.
 use Rattle.std.specs.Prelude.{ℕ, ℤ, pos, ◌+ℤ◌, ◌*ℤ◌, List, [], ◌∷◌}
-use Rattle.pit_text.specs.Pit.{Pit, profit_of, factor_of}
+use Rattle.pit_model.specs.Pit.{Pit, profit_of, factor_of}
 
 -- what a block earns in its period, in units of 10^-18
 abbrev pub earned : Pit → ℕ × ℕ → ℤ

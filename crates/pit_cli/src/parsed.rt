@@ -5,8 +5,9 @@ ghost use Rattle.pit_cli.specs.Outcome.{reading, IsWhole, IsModel, IsSolutionOf,
 use super::fault::CliFault;
 use super::input::Input;
 use super::read::{ReadError, read_all};
+use pit_model::Instance;
 use pit_num::Source;
-use pit_text::{Cause, Instance, read_model, read_solution};
+use pit_text::{Cause, read_model, read_solution};
 use std::alloc::Allocator;
 
 /// The bytes of an input.

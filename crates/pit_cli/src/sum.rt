@@ -3,7 +3,7 @@ ghost use Rattle.pit_num.specs.Within.{IsWithin};
 ghost use Rattle.pit_text.specs.Solution.{IsSolution};
 ghost use Rattle.pit_cli.specs.Sum.{value_of};
 
-use pit_text::Instance;
+use pit_model::Instance;
 use std::alloc::Allocator;
 
 /// The sum of the discounted profits of a solution, in units of 10^-18, which is exact. Takes no memory.

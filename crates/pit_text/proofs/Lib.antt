@@ -3,11 +3,15 @@ pub mod FirstLine
 pub mod States
 pub mod OneResult
 pub mod Small
+pub mod Firsts
 pub mod Facts
 pub mod Drafts
 pub mod ModelLines
-pub mod Profits
+pub mod Dues
+pub mod Reading
+pub mod Pits
 pub mod Bodies
 pub mod Standing
 pub mod Solutions
 pub mod Headers
+pub mod SolutionTexts

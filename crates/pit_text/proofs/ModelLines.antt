@@ -1,14 +1,12 @@
 -- What a line of a model is judged to be.
-use Rattle.std.proofs.Common.{◌≡◌, ◌≢◌, ℕ, List, [], ◌∷◌, true, false, cond, Option, Some, None, is_some, Result, Ok, Err, MatchResult, ap, ◌∙◌, refl}
+use Rattle.std.proofs.Common.{◌≡◌, ◌⊎◌, inl, inr, ℕ, List, [], ◌∷◌, cond, Option, Some, None, is_some, Result, Ok, Err, MatchResult, ap, ◌∙◌, refl}
 use Rattle.pit_text.specs.declared.error.Cause.{Cause}
 use Rattle.pit_text.specs.declared.error.Cause.TheVariants.{BadHeader}
 use Rattle.pit_text.specs.declared.error.Key.{Key}
 use Rattle.pit_text.specs.declared.section.Section.{Section}
-use Rattle.pit_text.specs.declared.section.Section.TheVariants.{Objective, Coefficients, Limits}
 use Rattle.pit_text.specs.Stands.{◌>>=◌}
 use Rattle.pit_text.specs.Header.{key_of, value_of_key}
-use Rattle.pit_text.specs.Draft.{is_objective}
-use Rattle.pit_text.specs.Model.{Fact, skipped, header, header_value, section_of, sections, last_of, section_line, key_line, header_line, objective_line, body_line, line_by, model_line}
+use Rattle.pit_text.specs.Model.{Fact, skipped, header, header_value, section_of, sections, last_of, section_line, key_line, header_line, section_entry, body_line, line_by, model_line}
 
 pub line_empty : (facts : List Fact) → model_line facts [] ≡ Ok skipped
 unfolding model_line
@@ -28,20 +26,8 @@ line_key facts first values key none before is = line_inside facts first values 
 pub line_unlisted : (facts : List Fact) (first : List ℕ) (values : List (List ℕ)) → section_of first ≡ None → last_of (sections facts) ≡ None → key_of first ≡ None → model_line facts (first ∷ values) ≡ Ok skipped
 line_unlisted facts first values none before is = line_inside facts first values None none before ∙ ap (λ k. header_line facts k values) is
 
-pub line_objective : (facts : List Fact) (first : List ℕ) (values : List (List ℕ)) → section_of first ≡ None → last_of (sections facts) ≡ Some Objective → model_line facts (first ∷ values) ≡ objective_line facts (first ∷ values)
-line_objective facts first values none is = line_inside facts first values (Some Objective) none is
-
-pub line_skipped : (facts : List Fact) (first : List ℕ) (values : List (List ℕ)) (o : Option Section) → section_of first ≡ None → last_of (sections facts) ≡ o → o ≢ None → is_objective o ≡ false → model_line facts (first ∷ values) ≡ Ok skipped
-line_skipped facts first values None none is some other = absurd (some refl)
-line_skipped facts first values (Some Objective) none is some other = let clash : true ≡ false = other in cc
-line_skipped facts first values (Some Coefficients) none is some other = line_inside facts first values (Some Coefficients) none is
-line_skipped facts first values (Some Limits) none is some other = line_inside facts first values (Some Limits) none is
-
-pub in_objective : (o : Option Section) → is_objective o ≡ true → o ≡ Some Objective
-in_objective None is = let clash : false ≡ true = is in cc
-in_objective (Some Objective) is = refl
-in_objective (Some Coefficients) is = let clash : false ≡ true = is in cc
-in_objective (Some Limits) is = let clash : false ≡ true = is in cc
+pub line_entry : (facts : List Fact) (first : List ℕ) (values : List (List ℕ)) (s : Section) → section_of first ≡ None → last_of (sections facts) ≡ Some s → model_line facts (first ∷ values) ≡ section_entry facts s (first ∷ values)
+line_entry facts first values s none is = line_inside facts first values (Some s) none is
 
 -- the line of a new key
 pub new_key : (facts : List Fact) (key : Key) (value : List ℕ) (n : ℕ) → header_value facts key ≡ None → value_of_key key value ≡ Ok n → key_line facts key (value ∷ []) ≡ Ok (header key n)
@@ -53,3 +39,7 @@ new_key facts key value n none is =
 pub match_map : {T E : Type 0} (r : Result T E) {P P' : T → Type 0} {Q Q' : E → Type 0} → ((x : T) → P x → P' x) → ((e : E) → Q e → Q' e) → MatchResult r P Q → MatchResult r P' Q'
 match_map (Ok x) f g h = f x h
 match_map (Err e) f g h = g e h
+
+pub either_map : {P P' Q Q' : Type 0} → (P → P') → (Q → Q') → P ⊎ Q → P' ⊎ Q'
+either_map f g (inl p) = inl (f p)
+either_map f g (inr q) = inr (g q)

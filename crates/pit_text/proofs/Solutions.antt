@@ -1,15 +1,16 @@
 -- The pairs of a solution are in range, and rise.
-use Rattle.std.proofs.Common.{◌≡◌, ℕ, zero, suc, ◌+◌, ◌≤◌, ◌<◌, nat_eq, nat_le, Bool, true, false, cond, List, [], ◌∷◌, ◌++◌, Option, Some, None, is_some, ◌⊎◌, inl, inr, Result, Ok, Err, ap, sym, ◌∙◌, refl, arith}
+use Rattle.std.proofs.Common.{◌≡◌, ℕ, ℤ, pos, negsuc, zero, suc, ◌+◌, ◌≤◌, ◌<◌, ◌^◌, nat_eq, nat_le, subst, Bool, true, false, cond, List, [], ◌∷◌, ◌++◌, Option, Some, None, is_some, ◌⊎◌, inl, inr, Result, Ok, Err, ap, sym, ◌∙◌, refl, arith}
 use Rattle.std.specs.List.{filter_map, range_with_len, cons_option}
 use Rattle.std.specs.Option.{option_map}
 use Rattle.std.proofs.lemmas.Bool.Decides.{nat_tests}
 use Rattle.pit_text.specs.declared.error.Cause.{Cause}
-use Rattle.pit_text.specs.declared.error.Cause.TheVariants.{Build}
-use Rattle.pit_text.specs.declared.error.BuildError.TheVariants.{Repeated}
+use Rattle.pit_text.specs.declared.error.Cause.TheVariants.{Build, PartBlock, Unsupported}
+use Rattle.pit_text.specs.declared.error.Key.TheVariants.{Destinations}
+use Rattle.pit_model.specs.declared.error.BuildError.TheVariants.{Repeated}
 use Rattle.pit_text.specs.Cutting.{Cut}
-use Rattle.pit_text.specs.Numbers.{whole_field}
+use Rattle.pit_text.specs.Numbers.{whole_field, decimal_field}
 use Rattle.pit_text.specs.Stands.{◌>>=◌, StatesAfter}
-use Rattle.pit_text.specs.Solution.{in_range, pair_of, period_in, new_to, solution_line, paired, scheduled, RisesFrom, IsSolution}
+use Rattle.pit_text.specs.Solution.{in_range, whole_or_none, destined, mined_of, period_in, new_to, solution_line, paired, scheduled, RisesFrom, IsSolution}
 
 -- ---- in range
 
@@ -35,39 +36,77 @@ bound : {A B : Type 0} (P : B → Type 0) (r : Result A Cause) (f : A → Result
 bound P (Ok a) f x h is = h a is
 bound P (Err e) f x h is = cc
 
-pair-range : (blocks periods : ℕ) (fields : List (List ℕ)) (pair : ℕ × ℕ) → pair_of blocks periods fields ≡ Ok pair → IsInRange blocks periods pair
-unfolding pair_of
-pair-range blocks periods [] pair is = cc
-pair-range blocks periods (b ∷ []) pair is = cc
-pair-range blocks periods (b ∷ t ∷ []) pair is =
-    bound (IsInRange blocks periods) (whole_field b) (λ block. whole_field t >>= (λ period. in_range blocks periods block period)) pair
-    (λ block e. bound (IsInRange blocks periods) (whole_field t) (λ period. in_range blocks periods block period) pair (λ period f. ranged blocks periods block period pair f) e) is
-pair-range blocks periods (b ∷ t ∷ more ∷ fields) pair is = cc
+abbrev IsFactInRange : ℕ → ℕ → Option (ℕ × ℕ) → Type 0
+IsFactInRange blocks periods None = Unit {0}
+IsFactInRange blocks periods (Some pair) = IsInRange blocks periods pair
 
-new_is : (o : Option ℕ) (pair other : ℕ × ℕ) → cond (is_some o) (Err (Build Repeated)) (Ok pair) ≡ Ok other → pair ≡ other
-new_is None pair other is = cc
-new_is (Some t) pair other is = cc
+whole-range : (blocks periods : ℕ) (part : ℤ) (pair : ℕ × ℕ) (fact : Option (ℕ × ℕ)) → IsInRange blocks periods pair → whole_or_none part pair ≡ Ok fact → IsFactInRange blocks periods fact
+whole-range blocks periods (negsuc n) pair fact within is = cc
+whole-range blocks periods (pos n) pair fact within is = by_tests (nat_eq n 0) (nat_eq n (10 ^ 6)) is
+  where
+    by_tests : (nothing whole : Bool) → cond nothing (Ok None) (cond whole (Ok (Some pair)) (Err PartBlock)) ≡ Ok fact → IsFactInRange blocks periods fact
+    by_tests true whole is = let same : None ≡ fact = cc in subst (λ (f : Option (ℕ × ℕ)). IsFactInRange blocks periods f) same tt
+    by_tests false true is = let same : Some pair ≡ fact = cc in subst (λ (f : Option (ℕ × ℕ)). IsFactInRange blocks periods f) same within
+    by_tests false false is = cc
 
-line-range : (blocks periods : ℕ) (earlier : List (ℕ × ℕ)) (fields : List (List ℕ)) (pair : ℕ × ℕ) (r : Result (ℕ × ℕ) Cause) → pair_of blocks periods fields ≡ r → (r >>= new_to earlier) ≡ Ok pair → IsInRange blocks periods pair
-line-range blocks periods earlier fields pair (Ok p) e is = pair-range blocks periods fields pair (e ∙ ap (λ q. Ok q) (new_is (period_in earlier p.0) p pair is))
-line-range blocks periods earlier fields pair (Err c) e is = cc
+destined-range : (blocks periods destination : ℕ) (part : ℤ) (pair : ℕ × ℕ) (fact : Option (ℕ × ℕ)) → IsInRange blocks periods pair → destined destination part pair ≡ Ok fact → IsFactInRange blocks periods fact
+destined-range blocks periods destination part pair fact within is = by_test (nat_eq destination 0) is
+  where
+    by_test : (first : Bool) → cond first (whole_or_none part pair) (Err (Unsupported Destinations)) ≡ Ok fact → IsFactInRange blocks periods fact
+    by_test true is = whole-range blocks periods part pair fact within is
+    by_test false is = cc
 
-solution-range : (blocks periods : ℕ) (earlier : List (ℕ × ℕ)) (fields : List (List ℕ)) (pair : ℕ × ℕ) → solution_line blocks periods earlier fields ≡ Ok pair → IsInRange blocks periods pair
+mined-range : (blocks periods : ℕ) (fields : List (List ℕ)) (fact : Option (ℕ × ℕ)) → mined_of blocks periods fields ≡ Ok fact → IsFactInRange blocks periods fact
+unfolding mined_of
+mined-range blocks periods [] fact is = cc
+mined-range blocks periods (b ∷ []) fact is = cc
+mined-range blocks periods (b ∷ t ∷ []) fact is =
+    bound (IsFactInRange blocks periods) (whole_field b) (λ block. whole_field t >>= (λ period. in_range blocks periods block period >>= (λ pair. Ok (Some pair)))) fact
+    (λ block e. bound (IsFactInRange blocks periods) (whole_field t) (λ period. in_range blocks periods block period >>= (λ pair. Ok (Some pair))) fact
+    (λ period f. paired_range block period (in_range blocks periods block period) refl f) e) is
+  where
+    paired_range : (block period : ℕ) (r : Result (ℕ × ℕ) Cause) → in_range blocks periods block period ≡ r → (r >>= (λ pair. Ok (Some pair))) ≡ Ok fact → IsFactInRange blocks periods fact
+    paired_range block period (Ok pair) e f = let same : Some pair ≡ fact = cc in subst (λ (o : Option (ℕ × ℕ)). IsFactInRange blocks periods o) same (ranged blocks periods block period pair e)
+    paired_range block period (Err c) e f = cc
+mined-range blocks periods (b ∷ d ∷ t ∷ []) fact is = cc
+mined-range blocks periods (b ∷ d ∷ t ∷ y ∷ []) fact is =
+    bound (IsFactInRange blocks periods) (whole_field b) (λ block. whole_field d >>= (λ destination. whole_field t >>= (λ period. decimal_field y >>= (λ part. in_range blocks periods block period >>= destined destination part)))) fact
+    (λ block e. bound (IsFactInRange blocks periods) (whole_field d) (λ destination. whole_field t >>= (λ period. decimal_field y >>= (λ part. in_range blocks periods block period >>= destined destination part))) fact
+    (λ destination f. bound (IsFactInRange blocks periods) (whole_field t) (λ period. decimal_field y >>= (λ part. in_range blocks periods block period >>= destined destination part)) fact
+    (λ period g. bound (IsFactInRange blocks periods) (decimal_field y) (λ part. in_range blocks periods block period >>= destined destination part) fact
+    (λ part h. destined_range block destination period part (in_range blocks periods block period) refl h) g) f) e) is
+  where
+    destined_range : (block destination period : ℕ) (part : ℤ) (r : Result (ℕ × ℕ) Cause) → in_range blocks periods block period ≡ r → (r >>= destined destination part) ≡ Ok fact → IsFactInRange blocks periods fact
+    destined_range block destination period part (Ok pair) e f = destined-range blocks periods destination part pair fact (ranged blocks periods block period pair e) f
+    destined_range block destination period part (Err c) e f = cc
+mined-range blocks periods (b ∷ d ∷ t ∷ y ∷ more ∷ fields) fact is = cc
+
+new_is : (o : Option ℕ) (pair : ℕ × ℕ) (fact : Option (ℕ × ℕ)) → cond (is_some o) (Err (Build Repeated)) (Ok (Some pair)) ≡ Ok fact → Some pair ≡ fact
+new_is None pair fact is = cc
+new_is (Some t) pair fact is = cc
+
+line-range : (blocks periods : ℕ) (earlier : List (Option (ℕ × ℕ))) (fields : List (List ℕ)) (fact : Option (ℕ × ℕ)) (r : Result (Option (ℕ × ℕ)) Cause) → mined_of blocks periods fields ≡ r → (r >>= new_to earlier) ≡ Ok fact → IsFactInRange blocks periods fact
+line-range blocks periods earlier fields fact (Ok None) e is = let same : None ≡ fact = cc in subst (λ (f : Option (ℕ × ℕ)). IsFactInRange blocks periods f) same tt
+line-range blocks periods earlier fields fact (Ok (Some p)) e is = mined-range blocks periods fields fact (e ∙ ap (λ q. Ok q) (new_is (period_in earlier p.0) p fact is))
+line-range blocks periods earlier fields fact (Err c) e is = cc
+
+solution-range : (blocks periods : ℕ) (earlier : List (Option (ℕ × ℕ))) (fields : List (List ℕ)) (fact : Option (ℕ × ℕ)) → solution_line blocks periods earlier fields ≡ Ok fact → IsFactInRange blocks periods fact
 unfolding solution_line
-solution-range blocks periods earlier fields pair is = line-range blocks periods earlier fields pair (pair_of blocks periods fields) refl is
+solution-range blocks periods earlier fields fact is = line-range blocks periods earlier fields fact (mined_of blocks periods fields) refl is
 
-period_by : (p : ℕ × ℕ) (more : List (ℕ × ℕ)) (b t : ℕ) (c : Bool) → nat_eq p.0 b ≡ c → period_in (p ∷ more) b ≡ Some t → (p.1 ≡ t) ⊎ (period_in more b ≡ Some t)
-period_by p more b t true e is = let here : period_in (p ∷ more) b ≡ Some p.1 = simp e in inl cc
-period_by p more b t false e is = let there : period_in (p ∷ more) b ≡ period_in more b = simp e in inr (sym there ∙ is)
+period_by : (pair : ℕ × ℕ) (more : List (Option (ℕ × ℕ))) (b t : ℕ) (c : Bool) → nat_eq pair.0 b ≡ c → period_in (Some pair ∷ more) b ≡ Some t → (pair.1 ≡ t) ⊎ (period_in more b ≡ Some t)
+period_by pair more b t true e is = let here : period_in (Some pair ∷ more) b ≡ Some pair.1 = simp e in inl cc
+period_by pair more b t false e is = let there : period_in (Some pair ∷ more) b ≡ period_in more b = simp e in inr (sym there ∙ is)
 
--- the period that a pair gives is in range
-pub period-range : (blocks periods : ℕ) (earlier pairs : List (ℕ × ℕ)) (lines : List Cut) → StatesAfter (solution_line blocks periods) earlier lines pairs → (b t : ℕ) → period_in pairs b ≡ Some t → t < periods
+-- the period that a line gives is in range
+pub period-range : (blocks periods : ℕ) (earlier facts : List (Option (ℕ × ℕ))) (lines : List Cut) → StatesAfter (solution_line blocks periods) earlier lines facts → (b t : ℕ) → period_in facts b ≡ Some t → t < periods
 period-range blocks periods earlier [] lines states b t is = cc
-period-range blocks periods earlier (p ∷ pairs) [] states b t is = cc
-period-range blocks periods earlier (p ∷ pairs) (line ∷ lines) states b t is =
-    elim (period_by p pairs b t (nat_eq p.0 b) refl is) [
-      | inl here ↦ omega (arith, here, (solution-range blocks periods earlier line.fields p states.0).1)
-      | inr there ↦ period-range blocks periods (earlier ++ p ∷ []) pairs lines states.1 b t there
+period-range blocks periods earlier (fact ∷ facts) [] states b t is = cc
+period-range blocks periods earlier (None ∷ facts) (line ∷ lines) states b t is = period-range blocks periods (earlier ++ None ∷ []) facts lines states.1 b t is
+period-range blocks periods earlier (Some pair ∷ facts) (line ∷ lines) states b t is =
+    elim (period_by pair facts b t (nat_eq pair.0 b) refl is) [
+      | inl here ↦ omega (arith, here, (solution-range blocks periods earlier line.fields (Some pair) states.0).1)
+      | inr there ↦ period-range blocks periods (earlier ++ Some pair ∷ []) facts lines states.1 b t there
     ]
 
 -- ---- rising

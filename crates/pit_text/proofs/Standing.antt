@@ -1,5 +1,5 @@
 -- Lines that stand for facts.
-use Rattle.std.proofs.Common.{◌≡◌, ◌≢◌, ℕ, zero, suc, ◌+◌, ◌<◌, nat_eq, ◌⊎◌, inl, inr, is_some, Bool, true, false, cond, List, [], ◌∷◌, ◌++◌, length, Ok, Err, Option, Some, None, ap, sym, ◌∙◌, refl, arith, add-one, zero-add, set, slice_index_or}
+use Rattle.std.proofs.Common.{◌≡◌, ◌≢◌, ℕ, zero, suc, ◌+◌, ◌<◌, nat_eq, ◌⊎◌, inl, inr, is_some, Bool, true, false, cond, List, [], ◌∷◌, ◌++◌, length, Ok, Err, Option, Some, None, IfSome, subst, ap, sym, ◌∙◌, refl, arith, add-one, zero-add, set, replicate, slice_index_or}
 use Rattle.std.specs.List.{filter_map, range_with_len, cons_option}
 use Rattle.std.proofs.lemmas.List.Elements.{filter_map-append}
 use Rattle.std.specs.Option.{option_to_list, option_map}
@@ -7,69 +7,91 @@ use Rattle.std.proofs.Math.ListN.{length-set}
 use Rattle.std.proofs.lemmas.Bool.{cases_eq}
 use Rattle.pit_text.specs.declared.error.Cause.{Cause}
 use Rattle.pit_text.specs.declared.error.Cause.TheVariants.{Build}
-use Rattle.pit_text.specs.declared.error.BuildError.TheVariants.{Repeated}
+use Rattle.pit_model.specs.declared.error.BuildError.TheVariants.{Repeated}
 use Rattle.pit_text.specs.Stands.{◌>>=◌}
 use Rattle.std.proofs.lemmas.Bool.Decides.{nat_tests}
 use Rattle.std.proofs.lemmas.List.{get_or-set_same, get_or-set_other, get_or_default}
-use Rattle.pit_text.specs.Solution.{AreSlots, period_in, pair_of, new_to, solution_line, paired, scheduled}
+use Rattle.pit_text.specs.Solution.{AreSlots, period_in, period_in_fact, mined_of, new_to, solution_line, paired, scheduled}
+use Rattle.pit_text.proofs.Firsts.{or_else, or_else-none, first_said-more}
 
 -- ---- solutions
 
-same_by : (p : ℕ × ℕ) (ps : List (ℕ × ℕ)) (b t : ℕ) (c : Bool) → nat_eq p.0 b ≡ c → (period_in ps b ≡ None → period_in (ps ++ (b, t) ∷ []) b ≡ Some t) → period_in (p ∷ ps) b ≡ None → period_in (p ∷ (ps ++ (b, t) ∷ [])) b ≡ Some t
-same_by p ps b t true e rest h = let is : period_in (p ∷ ps) b ≡ Some p.1 = simp e in cc
-same_by p ps b t false e rest h =
-    let is : period_in (p ∷ ps) b ≡ period_in ps b = simp e in
-    let none : period_in ps b ≡ None = sym is ∙ h in
-    simp e (rest none)
+period_here : (facts : List (Option (ℕ × ℕ))) (b t : ℕ) → period_in facts b ≡ None → period_in (facts ++ Some (b, t) ∷ []) b ≡ Some t
+period_here facts b t none =
+    let same : nat_eq b b ≡ true = grind (arith, nat_tests) in
+    first_said-more (period_in_fact b) facts (Some (b, t)) ∙ ap (λ o. or_else o (period_in_fact b (Some (b, t)))) none ∙ simp same
 
--- the period of the block of one more pair
-pub push_same : (ps : List (ℕ × ℕ)) (b t : ℕ) → period_in ps b ≡ None → period_in (ps ++ (b, t) ∷ []) b ≡ Some t
-push_same [] b t h = let same : nat_eq b b ≡ true = grind (arith, nat_tests) in simp same
-push_same (p ∷ ps) b t h = same_by p ps b t (nat_eq p.0 b) refl (push_same ps b t) h
-
-other_by : (p : ℕ × ℕ) (ps : List (ℕ × ℕ)) (b t k : ℕ) (c : Bool) → nat_eq p.0 k ≡ c → period_in (ps ++ (b, t) ∷ []) k ≡ period_in ps k → period_in (p ∷ (ps ++ (b, t) ∷ [])) k ≡ period_in (p ∷ ps) k
-other_by p ps b t k true e rest = simp e
-other_by p ps b t k false e rest = simp e rest
-
--- and of another block
-pub push_other : (ps : List (ℕ × ℕ)) (b t k : ℕ) → k ≢ b → period_in (ps ++ (b, t) ∷ []) k ≡ period_in ps k
-push_other [] b t k h = let differs : nat_eq b k ≡ false = grind (arith, nat_tests) in simp differs
-push_other (p ∷ ps) b t k h = other_by p ps b t k (nat_eq p.0 k) refl (push_other ps b t k h)
+period_elsewhere : (facts : List (Option (ℕ × ℕ))) (b t k : ℕ) → k ≢ b → period_in (facts ++ Some (b, t) ∷ []) k ≡ period_in facts k
+period_elsewhere facts b t k other =
+    let differs : nat_eq b k ≡ false = grind (arith, nat_tests) in
+    let none : period_in_fact k (Some (b, t)) ≡ None = simp differs in
+    first_said-more (period_in_fact k) facts (Some (b, t)) ∙ ap (λ o. or_else (period_in facts k) o) none ∙ or_else-none (period_in facts k)
 
 -- a slot that is filled
-pub slots_more : (blocks : ℕ) (ps : List (ℕ × ℕ)) (slots : List (Option ℕ)) (b t : ℕ) → AreSlots blocks ps slots → b < blocks → slice_index_or slots b None ≡ None → AreSlots blocks (ps ++ (b, t) ∷ []) (set slots b (Some t))
-slots_more blocks ps slots b t are within empty = record {
+pub slots_more : (blocks : ℕ) (facts : List (Option (ℕ × ℕ))) (slots : List (Option ℕ)) (b t : ℕ) → AreSlots blocks facts slots → b < blocks → slice_index_or slots b None ≡ None
+    → AreSlots blocks (facts ++ Some (b, t) ∷ []) (set slots b (Some t))
+slots_more blocks facts slots b t are within empty = record {
   count = length-set slots b (Some t) ∙ are.count;
   each = λ k h. at_each k h (cases_eq k b);
 }
   where
-    at_each : (k : ℕ) → k < blocks → (k ≡ b) ⊎ (k ≢ b) → slice_index_or (set slots b (Some t)) k None ≡ period_in (ps ++ (b, t) ∷ []) k
+    at_each : (k : ℕ) → k < blocks → (k ≡ b) ⊎ (k ≢ b) → slice_index_or (set slots b (Some t)) k None ≡ period_in (facts ++ Some (b, t) ∷ []) k
     at_each k h (inl same) =
-        let empty_pair : period_in ps b ≡ None = sym (are.each b within) ∙ empty in
+        let none : period_in facts b ≡ None = sym (are.each b within) ∙ empty in
         let in_slots : b < length slots = omega (arith, are.count) in
-        ap (λ (n : ℕ). slice_index_or (set slots b (Some t)) n None) same ∙ get_or-set_same slots b (Some t) None in_slots ∙ sym (push_same ps b t empty_pair) ∙ ap (λ (n : ℕ). period_in (ps ++ (b, t) ∷ []) n) (sym same)
-    at_each k h (inr other) = get_or-set_other slots b k (Some t) None other ∙ are.each k h ∙ sym (push_other ps b t k other)
+        ap (λ (n : ℕ). slice_index_or (set slots b (Some t)) n None) same ∙ get_or-set_same slots b (Some t) None in_slots ∙ sym (period_here facts b t none) ∙ ap (λ (n : ℕ). period_in (facts ++ Some (b, t) ∷ []) n) (sym same)
+    at_each k h (inr other) = get_or-set_other slots b k (Some t) None other ∙ are.each k h ∙ sym (period_elsewhere facts b t k other)
 
--- the judgement of a line, by its pair
-pub line_new : (blocks periods : ℕ) (ps : List (ℕ × ℕ)) (fields : List (List ℕ)) (b t : ℕ) → pair_of blocks periods fields ≡ Ok (b, t) → period_in ps b ≡ None → solution_line blocks periods ps fields ≡ Ok (b, t)
-unfolding solution_line
-line_new blocks periods ps fields b t is none =
-    ap (λ r. r >>= new_to ps) is ∙ ap (λ (c : Bool). cond c (Err (Build Repeated)) (Ok (b, t))) (ap (λ (o : Option ℕ). is_some o) none)
+replicate_none : (n b : ℕ) → slice_index_or {A = Option ℕ} (replicate n None) b None ≡ None
+replicate_none zero b = refl
+replicate_none (suc n) zero = refl
+replicate_none (suc n) (suc b) = replicate_none n b
 
-pub line_again : (blocks periods : ℕ) (ps : List (ℕ × ℕ)) (fields : List (List ℕ)) (b t : ℕ) → pair_of blocks periods fields ≡ Ok (b, t) → is_some (period_in ps b) ≡ true → solution_line blocks periods ps fields ≡ Err (Build Repeated)
-unfolding solution_line
-line_again blocks periods ps fields b t is some =
-    ap (λ r. r >>= new_to ps) is ∙ ap (λ (c : Bool). cond c (Err (Build Repeated)) (Ok (b, t))) some
+-- no line yet
+pub slots_none : (blocks : ℕ) (slots : List (Option ℕ)) → slots ≡ replicate blocks None → length slots ≡ blocks → AreSlots blocks [] slots
+slots_none blocks slots made count = record {
+  count = count;
+  each = λ b below. ap (λ (os : List (Option ℕ)). slice_index_or os b None) made ∙ replicate_none blocks b;
+}
 
-pub line_bad : (blocks periods : ℕ) (ps : List (ℕ × ℕ)) (fields : List (List ℕ)) (e : Cause) → pair_of blocks periods fields ≡ Err e → solution_line blocks periods ps fields ≡ Err e
+-- a line that schedules nothing
+pub slots_same : (blocks : ℕ) (facts : List (Option (ℕ × ℕ))) (slots : List (Option ℕ)) → AreSlots blocks facts slots → AreSlots blocks (facts ++ None ∷ []) slots
+slots_same blocks facts slots are = record {
+  count = are.count;
+  each = λ k h. are.each k h ∙ sym (first_said-more (period_in_fact k) facts None ∙ or_else-none (period_in facts k));
+}
+
+-- the judgement of a line, by what it schedules
+pub line_none : (blocks periods : ℕ) (facts : List (Option (ℕ × ℕ))) (fields : List (List ℕ)) → mined_of blocks periods fields ≡ Ok None → solution_line blocks periods facts fields ≡ Ok None
 unfolding solution_line
-line_bad blocks periods ps fields e is = ap (λ r. r >>= new_to ps) is
+line_none blocks periods facts fields is = ap (λ r. r >>= new_to facts) is
+
+pub line_new : (blocks periods : ℕ) (facts : List (Option (ℕ × ℕ))) (fields : List (List ℕ)) (b t : ℕ) → mined_of blocks periods fields ≡ Ok (Some (b, t)) → period_in facts b ≡ None
+    → solution_line blocks periods facts fields ≡ Ok (Some (b, t))
+unfolding solution_line
+line_new blocks periods facts fields b t is none =
+    ap (λ r. r >>= new_to facts) is ∙ ap (λ (c : Bool). cond c (Err (Build Repeated)) (Ok (Some (b, t)))) (ap (λ (o : Option ℕ). is_some o) none)
+
+pub line_again : (blocks periods : ℕ) (facts : List (Option (ℕ × ℕ))) (fields : List (List ℕ)) (b t : ℕ) → mined_of blocks periods fields ≡ Ok (Some (b, t)) → is_some (period_in facts b) ≡ true
+    → solution_line blocks periods facts fields ≡ Err (Build Repeated)
+unfolding solution_line
+line_again blocks periods facts fields b t is some =
+    ap (λ r. r >>= new_to facts) is ∙ ap (λ (c : Bool). cond c (Err (Build Repeated)) (Ok (Some (b, t)))) some
+
+pub line_bad : (blocks periods : ℕ) (facts : List (Option (ℕ × ℕ))) (fields : List (List ℕ)) (e : Cause) → mined_of blocks periods fields ≡ Err e → solution_line blocks periods facts fields ≡ Err e
+unfolding solution_line
+line_bad blocks periods facts fields e is = ap (λ r. r >>= new_to facts) is
 
 -- what is read from a slot
-pub slot_is : (blocks : ℕ) (ps : List (ℕ × ℕ)) (slots : List (Option ℕ)) (b : ℕ) (o : Option ℕ) → AreSlots blocks ps slots → b < blocks → o ≡ slice_index_or slots b o → o ≡ period_in ps b
-slot_is blocks ps slots b o are within read =
+pub slot_is : (blocks : ℕ) (facts : List (Option (ℕ × ℕ))) (slots : List (Option ℕ)) (b : ℕ) (o : Option ℕ) → AreSlots blocks facts slots → b < blocks → o ≡ slice_index_or slots b o → o ≡ period_in facts b
+slot_is blocks facts slots b o are within read =
     let in_slots : b < length slots = omega (arith, are.count) in
     read ∙ get_or_default slots b o None in_slots ∙ are.each b within
+
+-- what holds of an option that is there
+pub some_of : {X : Type 0} (o : Option X) (x : X) (P : X → Type 0) → o ≡ Some x → IfSome o P → P x
+some_of None x P is h = cc
+some_of (Some y) x P is h = let same : y ≡ x = cc in subst P same h
 
 -- an option that isn't there
 pub is_none : (o : Option ℕ) → is_some o ≡ false → o ≡ None

@@ -1,16 +1,13 @@
 -- What a reader keeps of the lines of a model so far.
-use Rattle.std.specs.Prelude.{◌≡◌, ℕ, ◌≤◌, ◌^◌, ◌++◌, List, length, Option, is_none, find, Some, None, Bool, true, false, slice_index_or, unwrap_or}
+use Rattle.std.specs.Prelude.{◌≡◌, ℕ, ◌≤◌, ◌^◌, List, [], length, Option, is_none, find, Some, None, false, slice_index_or, unwrap_or}
 use Rattle.std.specs.List.{list_any}
+use Rattle.pit_model.specs.Pit.{Pit}
 use Rattle.pit_text.specs.declared.error.Key.{Key}
 use Rattle.pit_text.specs.declared.error.Key.TheVariants.{Kind, Blocks, Periods, Resources, Rate, Destinations, Generals}
 use Rattle.pit_text.specs.declared.section.Section.{Section}
-use Rattle.pit_text.specs.declared.section.Section.TheVariants.{Objective, Coefficients, Limits}
 use Rattle.pit_text.specs.declared.draft.Draft.{Draft}
-use Rattle.pit_text.specs.Cutting.{Cut}
-use Rattle.pit_text.specs.Stands.{StandsFor}
-use Rattle.pit_text.specs.Pit.{Pit}
 use Rattle.pit_text.specs.Keys.{key_number, section_number, same_section}
-use Rattle.pit_text.specs.Model.{Fact, skipped, header, section, profit, model_line, header_value, sections, last_of, needed, missing, profit_in, pit_of}
+use Rattle.pit_text.specs.Model.{Fact, skipped, header, section, entry, header_value, sections, entries, last_of, needed, missing, pit_of}
 
 -- the numbers that a key may have
 abbrev pub IsNumberOf : Key → ℕ → Type 0
@@ -31,12 +28,6 @@ pub record IsDraft (facts : List Fact) (draft : Draft) : Type 0 where
   pub section : last_of (sections facts) ≡ draft.section
   pub seen : (s : Section) → list_any (same_section s) (sections facts) ≡ slice_index_or draft.seen (section_number s) false
 
-abbrev pub is_objective : Option Section → Bool
-is_objective (Some Objective) = true
-is_objective (Some Coefficients) = false
-is_objective (Some Limits) = false
-is_objective None = false
-
 abbrev pub number_at : Draft → Key → ℕ
 number_at draft key = unwrap_or (slice_index_or draft.values (key_number key) None) 0
 
@@ -56,19 +47,13 @@ abbrev pub IsHeaderFact : List Fact → Fact → Draft → Type 0
 IsHeaderFact facts skipped draft = draft.section ≡ None
 IsHeaderFact facts (header key n) draft = draft.section ≡ None
 IsHeaderFact facts (section s) draft = (draft.section ≡ Some s) × (missing facts ≡ None)
-IsHeaderFact facts (profit b v) draft = ⊥
-
--- of a list of lines those in front were read, and state these facts
-pub record IsReadTo (lines left : List Cut) (facts : List Fact) : Type 0 where
-  pub done : List Cut
-  pub cut : lines ≡ done ++ left
-  pub stands : StandsFor model_line done facts
+IsHeaderFact facts (entry e) draft = ⊥
 
 -- the header is whole, and no line of a section was read
 pub record IsHeader (facts : List Fact) (draft : Draft) : Type 0 where
   pub keeps : IsDraft facts draft
   pub whole : missing facts ≡ None
-  pub profits : (b : ℕ) → profit_in facts b ≡ None
+  pub none : entries facts ≡ []
 
 -- the pit has what the lines of the sections said
 pub record IsBody (facts : List Fact) (draft : Draft) (pit : Pit) : Type 0 where

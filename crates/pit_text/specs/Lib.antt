@@ -1,10 +1,16 @@
 pub mod Cutting
 pub mod Left
 pub mod Stands
+pub mod Earlier
 pub mod Numbers
+pub mod Bounds
 pub mod Keys
 pub mod Header
-pub mod Pit
+pub mod Judged
+pub mod Entries
+pub mod Precedence
+pub mod Blocks
 pub mod Solution
 pub mod Model
 pub mod Draft
+pub mod SolutionText

@@ -1,33 +1,31 @@
 -- What the lines of a model say.
-use Rattle.std.specs.Prelude.{ℕ, ℤ, ◌==◌, nat_le, if◌then◌else◌, List, [], ◌∷◌, map, find, Result, Ok, Err, Option, Some, None, is_some, is_none, codes, unwrap_or}
-use Rattle.std.specs.List.{list_any, filter_map, range_with_len}
+use Rattle.std.specs.Prelude.{ℕ, ◌==◌, if◌then◌else◌, List, [], ◌∷◌, find, Result, Ok, Err, Option, Some, None, is_some, is_none, codes, unwrap_or}
+use Rattle.std.specs.List.{list_any, filter_map, fold}
 use Rattle.std.specs.Option.{option_map}
 use Rattle.std.specs.Str.{bytes_eq}
-use Rattle.pit_text.specs.declared.error.BuildError.TheVariants.{BlockRange, Repeated}
+use Rattle.pit_model.specs.Pit.{Pit, empty_pit}
 use Rattle.pit_text.specs.declared.error.Cause.{Cause}
-use Rattle.pit_text.specs.declared.error.Cause.TheVariants.{FieldCount, MissingHeader, BadHeader, SectionTwice, Build}
+use Rattle.pit_text.specs.declared.error.Cause.TheVariants.{MissingHeader, BadHeader, SectionTwice}
 use Rattle.pit_text.specs.declared.error.Key.{Key}
 use Rattle.pit_text.specs.declared.error.Key.TheVariants.{Kind, Blocks, Periods, Resources, Rate}
 use Rattle.pit_text.specs.declared.section.Section.{Section}
 use Rattle.pit_text.specs.declared.section.Section.TheVariants.{Objective, Coefficients, Limits}
+use Rattle.pit_text.specs.declared.entry.Entry.{Entry}
 use Rattle.pit_text.specs.Stands.{◌>>=◌}
-use Rattle.pit_text.specs.Numbers.{whole_field, decimal_field}
+use Rattle.pit_text.specs.Earlier.{first_said}
 use Rattle.pit_text.specs.Header.{key_of, value_of_key}
 use Rattle.pit_text.specs.Keys.{key_number, same_section}
-use Rattle.pit_text.specs.Pit.{Pit}
+use Rattle.pit_text.specs.Judged.{judged}
+use Rattle.pit_text.specs.Entries.{entry_line, with_entry, entry_refusal}
 
 -- what one line states
 pub data Fact : Type 0 where
   skipped : Fact
   header : Key → ℕ → Fact
   section : Section → Fact
-  profit : ℕ → ℤ → Fact
+  entry : Entry → Fact
 
 -- ---- what the earlier lines said
-
-abbrev pub first_of : {X : Type 0} → List X → Option X
-first_of [] = None
-first_of (x ∷ xs) = Some x
 
 abbrev pub last_of : {X : Type 0} → List X → Option X
 last_of [] = None
@@ -40,7 +38,7 @@ value_in_fact key fact = None
 
 -- the value of a key
 abbrev pub header_value : List Fact → Key → Option ℕ
-header_value facts key = first_of (filter_map (value_in_fact key) facts)
+header_value facts key = first_said (value_in_fact key) facts
 
 abbrev pub section_in_fact : Fact → Option Section
 section_in_fact (section s) = Some s
@@ -50,13 +48,13 @@ section_in_fact fact = None
 abbrev pub sections : List Fact → List Section
 sections facts = filter_map section_in_fact facts
 
-abbrev pub profit_in_fact : ℕ → Fact → Option ℤ
-profit_in_fact block (profit b v) = if b == block then Some v else None
-profit_in_fact block fact = None
+abbrev pub entry_in_fact : Fact → Option Entry
+entry_in_fact (entry e) = Some e
+entry_in_fact fact = None
 
--- the profit that a line gave a block
-abbrev pub profit_in : List Fact → ℕ → Option ℤ
-profit_in facts block = first_of (filter_map (profit_in_fact block) facts)
+-- what the lines of sections said so far
+abbrev pub entries : List Fact → List Entry
+entries facts = filter_map entry_in_fact facts
 
 -- ---- the header
 
@@ -101,32 +99,31 @@ section_after earlier s None = new_section earlier s
 abbrev pub section_line : List Fact → Section → Result Fact Cause
 section_line earlier s = section_after earlier s (missing earlier)
 
--- ---- the objective section
+-- ---- the pit
 
 abbrev pub number_of : List Fact → Key → ℕ
 number_of facts key = unwrap_or (header_value facts key) 0
 
-abbrev pub new_profit : List Fact → ℕ → ℤ → Result Fact Cause
-new_profit earlier block value =
-    if nat_le (number_of earlier Blocks) block then Err (Build BlockRange)
-    else if is_some (profit_in earlier block) then Err (Build Repeated)
-    else Ok (profit block value)
+-- the pit of a header
+abbrev pub header_pit : List Fact → Pit
+header_pit facts = empty_pit (number_of facts Blocks) (number_of facts Periods) (number_of facts Resources) (number_of facts Rate)
 
--- a block and its profit
-abbrev pub entry_of : List (List ℕ) → Result (ℕ × ℤ) Cause
-entry_of (b ∷ v ∷ []) = whole_field b >>= (λ block. decimal_field v >>= (λ value. Ok (block, value)))
-entry_of fields = Err FieldCount
+-- what the facts of a model say of a pit: that of the header, and then each entry in turn
+unfoldable pub pit_of : List Fact → Pit
+pit_of facts = fold with_entry (header_pit facts) (entries facts)
 
-abbrev pub objective_line : List Fact → List (List ℕ) → Result Fact Cause
-objective_line earlier fields = entry_of fields >>= (λ entry. new_profit earlier entry.0 entry.1)
+-- an entry stands, unless the pit so far refuses it
+abbrev pub new_entry : List Fact → Entry → Result Fact Cause
+new_entry earlier e = judged (entry_refusal (pit_of earlier) e) (entry e)
+
+abbrev pub section_entry : List Fact → Section → List (List ℕ) → Result Fact Cause
+section_entry earlier s fields = entry_line s fields >>= new_entry earlier
 
 -- ---- any line
 
 -- by the section that the line stands in
 abbrev pub body_line : List Fact → Option Section → List ℕ → List (List ℕ) → Result Fact Cause
-body_line earlier (Some Objective) first values = objective_line earlier (first ∷ values)
-body_line earlier (Some Coefficients) first values = Ok skipped
-body_line earlier (Some Limits) first values = Ok skipped
+body_line earlier (Some s) first values = section_entry earlier s (first ∷ values)
 body_line earlier None first values = header_line earlier (key_of first) values
 
 -- by the section that the line begins
@@ -141,16 +138,3 @@ model_line earlier (first ∷ values) = line_by earlier (section_of first) first
 -- where no section line has seen to it, the end does
 unfoldable pub model_end : List Fact → Option Cause
 model_end facts = option_map MissingHeader (missing facts)
-
--- ---- the pit
-
--- what the facts of a model say of a pit
-unfoldable pub pit_of : List Fact → Pit
-pit_of facts =
-    record {
-      blocks = number_of facts Blocks;
-      periods = number_of facts Periods;
-      resources = number_of facts Resources;
-      rate = number_of facts Rate;
-      profits = map (profit_in facts) (range_with_len 0 (number_of facts Blocks));
-    }

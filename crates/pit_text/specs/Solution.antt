@@ -1,12 +1,14 @@
 -- What the lines of a solution say.
-use Rattle.std.specs.Prelude.{◌≡◌, ℕ, ◌+◌, ◌≤◌, ◌==◌, nat_le, if◌then◌else◌, List, [], ◌∷◌, length, find, Result, Ok, Err, Option, None, is_some, slice_index_or, ◌<◌}
+use Rattle.std.specs.Prelude.{◌≡◌, ℕ, ℤ, pos, negsuc, ◌+◌, ◌≤◌, ◌==◌, ◌^◌, nat_le, if◌then◌else◌, List, [], ◌∷◌, length, Result, Ok, Err, Option, Some, None, is_some, slice_index_or, ◌<◌}
 use Rattle.std.specs.List.{filter_map, range_with_len}
 use Rattle.std.specs.Option.{option_map}
-use Rattle.pit_text.specs.declared.error.BuildError.TheVariants.{BlockRange, PeriodRange, Repeated}
+use Rattle.pit_model.specs.declared.error.BuildError.TheVariants.{BlockRange, PeriodRange, Repeated}
 use Rattle.pit_text.specs.declared.error.Cause.{Cause}
-use Rattle.pit_text.specs.declared.error.Cause.TheVariants.{FieldCount, Build}
-use Rattle.pit_text.specs.Numbers.{whole_field}
+use Rattle.pit_text.specs.declared.error.Cause.TheVariants.{FieldCount, Unsupported, PartBlock, Build}
+use Rattle.pit_text.specs.declared.error.Key.TheVariants.{Destinations}
+use Rattle.pit_text.specs.Numbers.{whole_field, decimal_field}
 use Rattle.pit_text.specs.Stands.{◌>>=◌}
+use Rattle.pit_text.specs.Earlier.{first_said}
 
 -- a block and a period
 abbrev pub in_range : ℕ → ℕ → ℕ → ℕ → Result (ℕ × ℕ) Cause
@@ -15,28 +17,49 @@ in_range blocks periods b t =
     else if nat_le periods t then Err (Build PeriodRange)
     else Ok (b, t)
 
--- a line `b t`, apart from the lines before it
-unfoldable pub pair_of : ℕ → ℕ → List (List ℕ) → Result (ℕ × ℕ) Cause
-pair_of blocks periods [] = Err FieldCount
-pair_of blocks periods (b ∷ []) = Err FieldCount
-pair_of blocks periods (b ∷ t ∷ []) = whole_field b >>= (λ block. whole_field t >>= (λ period. in_range blocks periods block period))
-pair_of blocks periods (b ∷ t ∷ more ∷ fields) = Err FieldCount
+-- the whole of a block is mined, or nothing of it
+abbrev pub whole_or_none : ℤ → ℕ × ℕ → Result (Option (ℕ × ℕ)) Cause
+whole_or_none (pos millionths) pair =
+    if millionths == 0 then Ok None
+    else if millionths == 10 ^ 6 then Ok (Some pair)
+    else Err PartBlock
+whole_or_none (negsuc n) pair = Err PartBlock
 
--- the period that the pairs give a block
-abbrev pub period_in : List (ℕ × ℕ) → ℕ → Option ℕ
-period_in pairs block = option_map (λ p. p.1) (find (λ p. p.0 == block) pairs)
+abbrev pub destined : ℕ → ℤ → ℕ × ℕ → Result (Option (ℕ × ℕ)) Cause
+destined destination part pair = if destination == 0 then whole_or_none part pair else Err (Unsupported Destinations)
+
+-- a line `b t` or `b d t y`, apart from the lines before it: the block and the period that it schedules, if any
+unfoldable pub mined_of : ℕ → ℕ → List (List ℕ) → Result (Option (ℕ × ℕ)) Cause
+mined_of blocks periods [] = Err FieldCount
+mined_of blocks periods (b ∷ []) = Err FieldCount
+mined_of blocks periods (b ∷ t ∷ []) =
+    whole_field b >>= (λ block. whole_field t >>= (λ period. in_range blocks periods block period >>= (λ pair. Ok (Some pair))))
+mined_of blocks periods (b ∷ d ∷ t ∷ []) = Err FieldCount
+mined_of blocks periods (b ∷ d ∷ t ∷ y ∷ []) =
+    whole_field b >>= (λ block. whole_field d >>= (λ destination. whole_field t >>= (λ period. decimal_field y >>= (λ part.
+    in_range blocks periods block period >>= destined destination part))))
+mined_of blocks periods (b ∷ d ∷ t ∷ y ∷ more ∷ fields) = Err FieldCount
+
+abbrev pub period_in_fact : ℕ → Option (ℕ × ℕ) → Option ℕ
+period_in_fact block None = None
+period_in_fact block (Some pair) = if pair.0 == block then Some pair.1 else None
+
+-- the period that the lines give a block
+abbrev pub period_in : List (Option (ℕ × ℕ)) → ℕ → Option ℕ
+period_in facts block = first_said (period_in_fact block) facts
 
 -- no earlier line gave this block
-abbrev pub new_to : List (ℕ × ℕ) → ℕ × ℕ → Result (ℕ × ℕ) Cause
-new_to earlier pair = if is_some (period_in earlier pair.0) then Err (Build Repeated) else Ok pair
+abbrev pub new_to : List (Option (ℕ × ℕ)) → Option (ℕ × ℕ) → Result (Option (ℕ × ℕ)) Cause
+new_to earlier None = Ok None
+new_to earlier (Some pair) = if is_some (period_in earlier pair.0) then Err (Build Repeated) else Ok (Some pair)
 
-unfoldable pub solution_line : ℕ → ℕ → List (ℕ × ℕ) → List (List ℕ) → Result (ℕ × ℕ) Cause
-solution_line blocks periods earlier fields = pair_of blocks periods fields >>= new_to earlier
+unfoldable pub solution_line : ℕ → ℕ → List (Option (ℕ × ℕ)) → List (List ℕ) → Result (Option (ℕ × ℕ)) Cause
+solution_line blocks periods earlier fields = mined_of blocks periods fields >>= new_to earlier
 
--- one period or none for each block, as the pairs say
-pub record AreSlots (blocks : ℕ) (pairs : List (ℕ × ℕ)) (slots : List (Option ℕ)) : Type 0 where
+-- one period or none for each block, as the lines say
+pub record AreSlots (blocks : ℕ) (facts : List (Option (ℕ × ℕ))) (slots : List (Option ℕ)) : Type 0 where
   pub count : length slots ≡ blocks
-  pub each : (b : ℕ) → b < blocks → slice_index_or slots b None ≡ period_in pairs b
+  pub each : (b : ℕ) → b < blocks → slice_index_or slots b None ≡ period_in facts b
 
 -- each block that has a period, beside it, by rising block
 abbrev pub paired : (ℕ → Option ℕ) → ℕ → Option (ℕ × ℕ)

@@ -2,13 +2,13 @@ ghost use Rattle.std.specs.Prelude.{◌≡◌, ℕ, ◌∷◌, ◌++◌, [], Lis
 ghost use Rattle.pit_text.specs.Left.{fields_left};
 ghost use Rattle.pit_text.specs.Keys.{key_number};
 ghost use Rattle.pit_text.specs.Model.{Fact, header, section, key_line, section_line, missing};
-ghost use Rattle.pit_text.specs.Pit.{empty_pit};
+ghost use Rattle.pit_model.specs.Pit.{empty_pit};
 
-use super::builder::Builder;
 use super::error::{Cause, Key};
 use super::fields::Fields;
 use super::header::value_of_key;
 use super::section::Section;
+use pit_model::Builder;
 use pit_num::NoMemory;
 use std::alloc::Allocator;
 
@@ -21,7 +21,7 @@ pub(crate) struct Draft {
 }
 
 impl Draft {
-    ghost use Rattle.pit_text.specs.Draft.{IsDraft, HasHeader, is_objective, number_at, missing_in};
+    ghost use Rattle.pit_text.specs.Draft.{IsDraft, HasHeader, number_at, missing_in};
 
     pub(crate) fn new() -> Draft
         ensures { IsDraft [] result }
@@ -38,17 +38,6 @@ impl Draft {
         ensures { result ≡ self.now.section }
     {
         self.section
-    }
-
-    /// Whether lines stand in the objective section.
-    pub(crate) fn is_in_objective(&self) -> bool
-        ensures { result ≡ is_objective self.now.section }
-    {
-        match self.section {
-            Some(Section::Objective) => true,
-            Some(_) => false,
-            None => false,
-        }
     }
 
     /// The value of a key.

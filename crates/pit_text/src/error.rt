@@ -1,6 +1,8 @@
 ghost use Rattle.std.specs.Prelude.{◌≡◌};
 
+use pit_model::BuildError;
 use pit_num::NumError;
+use std::alloc::AllocFailed;
 use std::fmt;
 use thiserror::Error;
 
@@ -52,18 +54,6 @@ impl fmt::Display for Key {
     }
 }
 
-/// Why a fact is refused by what is known of the pit already.
-#[derive(Clone, Copy, Debug, PartialEq, Eq, Error)]
-pub enum BuildError {
-    #[error("block out of range")]
-    BlockRange,
-    #[error("period out of range")]
-    PeriodRange,
-    /// The same was set before, to whatever value.
-    #[error("repeated")]
-    Repeated,
-}
-
 /// What is wrong with a line, or with the end of a text.
 #[derive(Clone, Copy, Debug, PartialEq, Eq, Error)]
 pub enum Cause {
@@ -87,10 +77,43 @@ pub enum Cause {
     FieldCount,
     #[error("{0}")]
     BadNumber(NumError),
+    /// What is known of the pit refuses the fact. It is never for want of memory.
     #[error("{0}")]
     Build(BuildError),
+    /// A precedence line has another number of predecessors than it says.
+    #[error("predecessor count")]
+    CountWrong,
+    /// A solution schedules a part of a block.
+    #[error("part of a block")]
+    PartBlock,
+    /// A limit is neither at most, nor at least, nor between.
+    #[error("bad limit kind")]
+    BadKind,
     #[error("no memory")]
     NoMemory,
+}
+
+impl From<BuildError> for Cause {
+    ghost use Rattle.pit_text.specs.Judged.{named};
+
+    ghost from_gives = { λ error cause. cause ≡ named error };
+
+    fn from(error: BuildError) -> Cause {
+        match error {
+            BuildError::NoMemory => Cause::NoMemory,
+            _ => Cause::Build(error),
+        }
+    }
+}
+
+impl From<AllocFailed<u32>> for Cause {
+    ghost use Rattle.pit_text.specs.declared.error.Cause.TheVariants.{NoMemory};
+
+    ghost from_gives = { λ _ cause. cause ≡ NoMemory };
+
+    fn from(_error: AllocFailed<u32>) -> Cause {
+        Cause::NoMemory
+    }
 }
 
 /// The first faulty line of a text, counted from 1, and what is wrong with it. Where memory ran out, the line says nothing.

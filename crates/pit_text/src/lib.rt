@@ -4,28 +4,34 @@
 //! kind of text at once, and each reader answers that result.
 #![tactic(auto)]
 
-mod builder;
+mod blocks;
+mod bound;
 mod cut;
 mod draft;
+mod entry;
 mod error;
 mod fields;
 mod header;
-mod instance;
 mod lines;
 mod model;
 mod number;
+mod precedence;
 mod result;
 mod section;
 mod solution;
+mod solution_text;
 #[cfg(test)]
 mod tests;
 
-pub use builder::Builder;
-pub use error::{BuildError, Cause, Key, TextError};
+pub use blocks::read_blocks;
+pub use bound::upper_bound;
+pub use entry::Entry;
+pub use error::{Cause, Key, TextError};
 pub use fields::Fields;
-pub use instance::Instance;
 pub use lines::{Line, Lines};
 pub use model::read_model;
+pub use precedence::read_precedence;
 pub use result::one_result;
 pub use section::Section;
 pub use solution::read_solution;
+pub use solution_text::write_solution;

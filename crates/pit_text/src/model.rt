@@ -1,23 +1,22 @@
-ghost use Rattle.std.specs.Prelude.{◌≡◌, ◌≢◌, ◌∷◌, ◌++◌, [], ℕ, ℤ, List, Ok, Err, None, Some, IfOk, MatchResult, ◌⊎◌, ◌^◌};
-ghost use Rattle.pit_num.specs.Within.{IsWithin};
+ghost use Rattle.std.specs.Prelude.{◌≡◌, ◌≢◌, ◌∷◌, ◌++◌, [], List, Ok, Err, None, Some, MatchResult, ◌⊎◌};
 ghost use Rattle.pit_text.specs.Cutting.{cut_of, end_line};
 ghost use Rattle.pit_text.specs.Left.{fields_left, lines_left, end_left};
-ghost use Rattle.pit_text.specs.Stands.{StandsWhole, FailsWhole};
-ghost use Rattle.pit_text.specs.Model.{Fact, entry_of, objective_line, profit, model_line, model_end, pit_of};
-ghost use Rattle.pit_text.specs.Draft.{IsDraft, IsReadTo, IsHeader, IsHeaderFact, IsBody, HasHeader};
-ghost use Rattle.pit_text.specs.Pit.{with_profit};
+ghost use Rattle.pit_text.specs.Stands.{StandsWhole, FailsWhole, IsReadTo};
+ghost use Rattle.pit_text.specs.Entries.{with_entry};
+ghost use Rattle.pit_text.specs.Model.{Fact, entry, section_entry, model_line, model_end, pit_of};
+ghost use Rattle.pit_text.specs.Draft.{IsDraft, IsHeader, IsHeaderFact, IsBody, HasHeader};
 
-use super::builder::Builder;
 use super::draft::Draft;
+use super::entry::{Entry, add, entry_of};
 use super::error::{Cause, TextError};
 use super::fields::Fields;
 use super::header::key_of;
 use super::lines::Lines;
-use super::number::{decimal, whole};
-use super::section::section_of;
+use super::section::{Section, section_of};
+use pit_model::Builder;
 use std::alloc::Allocator;
 
-/// Reads a model: its header and its objective section. The lines of the two other sections are skipped.
+/// Reads a model: its header, its profits, its coefficients and its limits.
 pub fn read_model<A: Allocator + Copy + Drop>(
     alloc: A,
     text: &[u8],
@@ -48,7 +47,7 @@ pub fn read_model<A: Allocator + Copy + Drop>(
 /// The lines of the header, and the first section line where there is one.
 fn read_header(lines: &mut Lines<'_>) -> Result<Draft, TextError>
     ensures { MatchResult result
-        (λ draft. (facts : List Fact) × IsReadTo (lines_left lines.old) (lines_left lines.new) facts × IsHeader facts draft
+        (λ draft. (facts : List Fact) × IsReadTo model_line (lines_left lines.old) (lines_left lines.new) facts × IsHeader facts draft
         × HasHeader draft × (draft.section ≡ None → lines_left lines.new ≡ []))
         (λ fault. FailsWhole model_line model_end (lines_left lines.old) (end_left lines.old) fault.line fault.cause) }
 {
@@ -101,7 +100,7 @@ fn read_line<A: Allocator + Copy + Drop>(
     requires { draft.old.section ≢ None }
     ensures { (facts : List Fact) → IsBody facts draft.old builder.old → MatchResult result
         (λ _. (fact : Fact) × (model_line facts (fields_left fields.entry) ≡ Ok fact) × IsBody (facts ++ fact ∷ []) draft.new builder.new × (draft.new.section ≢ None))
-        (λ cause. model_line facts (fields_left fields.entry) ≡ Err cause) }
+        (λ cause. (cause ≡ Cause.NoMemory) ⊎ (model_line facts (fields_left fields.entry) ≡ Err cause)) }
 {
     let Some(first) = fields.next() else {
         return Ok(());
@@ -109,38 +108,24 @@ fn read_line<A: Allocator + Copy + Drop>(
     if let Some(section) = section_of(first) {
         return draft.start(section);
     }
-    if draft.is_in_objective() {
-        return read_profit(builder, first, fields);
-    }
-    Ok(())
+    let Some(section) = draft.section() else {
+        return Ok(());
+    };
+    read_entry(builder, section, first, fields)
 }
 
-/// A line of the objective section, by its first field and what follows it.
-fn read_profit<A: Allocator + Copy + Drop>(
+/// A line of a section, by its first field and what follows it.
+fn read_entry<A: Allocator + Copy + Drop>(
     builder: &mut Builder<A>,
+    section: Section,
     first: &[u8],
     fields: Fields<'_>,
 ) -> Result<(), Cause>
     ensures { (facts : List Fact) → builder.old ≡ pit_of facts → MatchResult result
-        (λ _. (b : ℕ) × (v : ℤ) × (objective_line facts (first.now ∷ fields_left fields.entry) ≡ Ok (profit b v)) × (builder.new ≡ pit_of (facts ++ profit b v ∷ [])))
-        (λ cause. objective_line facts (first.now ∷ fields_left fields.entry) ≡ Err cause) }
+        (λ _. (said : Entry) × (section_entry facts section (first.now ∷ fields_left fields.entry) ≡ Ok (entry said)) × (builder.new ≡ with_entry builder.old said))
+        (λ cause. (cause ≡ Cause.NoMemory) ⊎ (section_entry facts section (first.now ∷ fields_left fields.entry) ≡ Err cause)) }
 {
-    let (block, value) = entry(first, fields)?;
-    match builder.set_profit(block, value) {
-        Ok(()) => Ok(()),
-        Err(refusal) => Err(Cause::Build(refusal)),
-    }
-}
-
-/// The block and the profit of a line.
-fn entry(first: &[u8], mut fields: Fields<'_>) -> Result<(u32, i64), Cause>
-    ensures value { result ≡ entry_of (first.now ∷ fields_left fields.entry) }
-    ensures small { IfOk result (λ entry. IsWithin (10 ^ 18) entry.1) }
-{
-    let (Some(second), None) = (fields.next(), fields.next()) else {
-        return Err(Cause::FieldCount);
-    };
-    let block = whole(first)?;
-    let value = decimal(second)?;
-    Ok((block, value))
+    let said = entry_of(section, first, fields)?;
+    add(builder, said)?;
+    Ok(())
 }

@@ -1,26 +1,26 @@
-ghost use Rattle.std.specs.Prelude.{◌≡◌, ℕ, ◌<◌, ◌^◌, List, Option, None, MatchResult, IfOk, ◌⊎◌, length, slice_index_or};
+ghost use Rattle.std.specs.Prelude.{◌≡◌, ℕ, ◌<◌, ◌^◌, ◌∷◌, ◌++◌, [], List, Option, None, Ok, Err, MatchResult, IfOk, IfSome, ◌⊎◌, length, slice_index_or};
 ghost use Rattle.pit_text.specs.Cutting.{cut_of};
 ghost use Rattle.pit_text.specs.Left.{fields_left};
 ghost use Rattle.pit_text.specs.Stands.{StandsFor, FailsFirst};
-ghost use Rattle.pit_text.specs.Solution.{pair_of, solution_line, AreSlots, period_in, scheduled, IsSolution};
+ghost use Rattle.pit_text.specs.Solution.{in_range, destined, mined_of, solution_line, AreSlots, period_in, scheduled, IsSolution};
 
-use super::error::{BuildError, Cause, TextError};
+use super::error::{Cause, Key, TextError};
 use super::fields::Fields;
-use super::instance::Instance;
 use super::lines::Lines;
-use super::number::whole;
+use super::number::{decimal, whole};
+use pit_model::{BuildError, Instance};
 use pit_num::NoMemory;
 use std::alloc::Allocator;
 
-/// The blocks that a solution schedules, each with its period, by rising block. Its lines are `b t`.
+/// The blocks that a solution schedules, each with its period, by rising block.
 pub fn read_solution<A: Allocator + Copy + Drop>(
     alloc: A,
     text: &[u8],
     instance: &Instance<A>,
 ) -> Result<Vec<(u32, u32), A>, TextError>
     ensures result { let judge = solution_line instance.now.blocks instance.now.periods in MatchResult result
-        (λ solution. (pairs : List (ℕ × ℕ)) × StandsFor judge (cut_of text.now) pairs
-        × (solution.items ≡ scheduled instance.now.blocks (period_in pairs)))
+        (λ solution. (facts : List (Option (ℕ × ℕ))) × StandsFor judge (cut_of text.now) facts
+        × (solution.items ≡ scheduled instance.now.blocks (period_in facts)))
         (λ fault. (fault.cause ≡ Cause.NoMemory) ⊎ FailsFirst judge (cut_of text.now) fault.line fault.cause) }
     ensures fits { IfOk result (λ solution. IsSolution instance.now.blocks instance.now.periods solution.items) }
 {
@@ -47,17 +47,16 @@ fn rising<A: Allocator>(alloc: A, slots: &[Option<u32>]) -> Result<Vec<(u32, u32
     Ok(solution)
 }
 
-/// The period of each block that a solution schedules, from its lines `b t`.
+/// The period of each block that a solution schedules.
 fn read_slots<A: Allocator + Drop>(
     alloc: A,
     text: &[u8],
     blocks: u32,
     periods: u32,
 ) -> Result<Vec<Option<u32>, A>, TextError>
-    ensures { MatchResult result
-        (λ slots. (pairs : List (ℕ × ℕ)) × StandsFor (solution_line blocks periods) (cut_of text.now) pairs
-        × AreSlots blocks pairs slots.items)
-        (λ fault. (fault.cause ≡ Cause.NoMemory) ⊎ FailsFirst (solution_line blocks periods) (cut_of text.now) fault.line fault.cause) }
+    ensures { let judge = solution_line blocks periods in MatchResult result
+        (λ slots. (facts : List (Option (ℕ × ℕ))) × StandsFor judge (cut_of text.now) facts × AreSlots blocks facts slots.items)
+        (λ fault. (fault.cause ≡ Cause.NoMemory) ⊎ FailsFirst judge (cut_of text.now) fault.line fault.cause) }
 {
     let Ok(mut slots) = vec![in alloc; None; blocks as usize] else {
         return Err(TextError {
@@ -65,40 +64,71 @@ fn read_slots<A: Allocator + Drop>(
             cause: Cause::NoMemory,
         });
     };
-    for line in Lines::new(text) {
-        let number = line.number;
-        match pair(line.fields, blocks, periods) {
-            Ok((block, period)) => {
-                if slots[block as usize].is_some() {
-                    return Err(TextError {
-                        line: number,
-                        cause: Cause::Build(BuildError::Repeated),
-                    });
-                }
-                slots[block as usize] = Some(period);
-            }
-            Err(cause) => {
-                return Err(TextError {
-                    line: number,
-                    cause,
-                });
-            }
+    let mut lines = Lines::new(text);
+    while let Some(line) = lines.next() {
+        if let Err(cause) = read_line(&mut slots, line.fields, blocks, periods) {
+            return Err(TextError {
+                line: line.number,
+                cause,
+            });
         }
     }
     Ok(slots)
 }
 
-/// The block and the period of a line, both in range.
-#[tactic(auto, unfolding(crate::specs::Solution::pair_of))]
-fn pair(mut fields: Fields<'_>, blocks: u32, periods: u32) -> Result<(u32, u32), Cause>
-    ensures value { result ≡ pair_of blocks periods (fields_left fields.entry) }
-    ensures in_range { IfOk result (λ pair. (pair.0 < blocks) × (pair.1 < periods)) }
+fn read_line<A: Allocator + Drop>(
+    slots: &mut Vec<Option<u32>, A>,
+    fields: Fields<'_>,
+    blocks: u32,
+    periods: u32,
+) -> Result<(), Cause>
+    requires { length slots.old.items ≡ blocks }
+    ensures { (facts : List (Option (ℕ × ℕ))) → AreSlots blocks facts slots.old.items → MatchResult result
+        (λ _. (fact : Option (ℕ × ℕ)) × (solution_line blocks periods facts (fields_left fields.entry) ≡ Ok fact) × AreSlots blocks (facts ++ fact ∷ []) slots.new.items)
+        (λ cause. solution_line blocks periods facts (fields_left fields.entry) ≡ Err cause) }
 {
-    let (Some(block), Some(period), None) = (fields.next(), fields.next(), fields.next()) else {
+    let (block, period) = match mined(fields, blocks, periods) {
+        Ok(Some(pair)) => pair,
+        Ok(None) => return Ok(()),
+        Err(cause) => return Err(cause),
+    };
+    if slots[block as usize].is_some() {
+        return Err(Cause::Build(BuildError::Repeated));
+    }
+    slots[block as usize] = Some(period);
+    Ok(())
+}
+
+/// The block and the period that a line schedules, both in range, if it does.
+#[tactic(auto, unfolding(crate::specs::Solution::mined_of))]
+fn mined(mut fields: Fields<'_>, blocks: u32, periods: u32) -> Result<Option<(u32, u32)>, Cause>
+    ensures value { result ≡ mined_of blocks periods (fields_left fields.entry) }
+    ensures in_range { IfOk result (λ fact. IfSome fact (λ pair. (pair.0 < blocks) × (pair.1 < periods))) }
+{
+    let (Some(first), Some(second)) = (fields.next(), fields.next()) else {
         return Err(Cause::FieldCount);
     };
-    let block = whole(block)?;
-    let period = whole(period)?;
+    let Some(third) = fields.next() else {
+        let block = whole(first)?;
+        let period = whole(second)?;
+        let pair = in_range(blocks, periods, block, period)?;
+        return Ok(Some(pair));
+    };
+    let (Some(fourth), None) = (fields.next(), fields.next()) else {
+        return Err(Cause::FieldCount);
+    };
+    let block = whole(first)?;
+    let destination = whole(second)?;
+    let period = whole(third)?;
+    let part = decimal(fourth)?;
+    let pair = in_range(blocks, periods, block, period)?;
+    destined(destination, part, pair)
+}
+
+fn in_range(blocks: u32, periods: u32, block: u32, period: u32) -> Result<(u32, u32), Cause>
+    ensures value { result ≡ in_range blocks periods block period }
+    ensures in_range { IfOk result (λ pair. (pair.0 < blocks) × (pair.1 < periods)) }
+{
     if block >= blocks {
         return Err(Cause::Build(BuildError::BlockRange));
     }
@@ -106,4 +136,18 @@ fn pair(mut fields: Fields<'_>, blocks: u32, periods: u32) -> Result<(u32, u32),
         return Err(Cause::Build(BuildError::PeriodRange));
     }
     Ok((block, period))
+}
+
+fn destined(destination: u32, part: i64, pair: (u32, u32)) -> Result<Option<(u32, u32)>, Cause>
+    ensures value { result ≡ destined destination part pair }
+    ensures same { IfOk result (λ fact. IfSome fact (λ kept. kept ≡ pair)) }
+{
+    if destination != 0 {
+        return Err(Cause::Unsupported(Key::Destinations));
+    }
+    match part {
+        0 => Ok(None),
+        1_000_000 => Ok(Some(pair)),
+        _ => Err(Cause::PartBlock),
+    }
 }

@@ -1,15 +1,22 @@
 //! The readers against texts whose facts and faults were written down by hand.
+mod blocks;
+mod bounds;
+mod coefficients;
 mod cutting;
 mod header;
 mod hostile;
+mod limits;
 mod memory;
 mod objective;
+mod precedence;
 mod sections;
 mod solution;
+mod solution_text;
 mod words;
 
-use crate::{BuildError, Builder, Cause, Instance, TextError};
-use pit_num::NumError;
+use crate::{Cause, TextError};
+use pit_model::{BuildError, Builder, Instance};
+use pit_num::{NoMemory, NumError};
 use std::alloc::{AllocError, Allocator, Global};
 use std::process::Abort;
 use std::test::Fail;
@@ -61,6 +68,8 @@ const TOO_LARGE: Cause = Cause::BadNumber(NumError::TooLarge);
 
 const BLOCK_RANGE: Cause = Cause::Build(BuildError::BlockRange);
 
+const RESOURCE_RANGE: Cause = Cause::Build(BuildError::ResourceRange);
+
 const PERIOD_RANGE: Cause = Cause::Build(BuildError::PeriodRange);
 
 const REPEATED: Cause = Cause::Build(BuildError::Repeated);
@@ -89,11 +98,66 @@ fn facts_of(profits: &[i64]) -> Facts<'_> {
     }
 }
 
+/// The small pit, with nothing set.
+fn tiny(alloc: Global) -> Result<Builder<Global>, NoMemory> {
+    Builder::new(alloc, 4, 2, 1, 100_000)
+}
+
+/// The pit that is built.
+fn built<A: Allocator + Copy + Drop>(builder: Builder<A>) -> Result<Instance<A>, Fail> {
+    match builder.build() {
+        Ok(instance) => Ok(instance),
+        Err(_) => Err(Fail::from("no memory to build")),
+    }
+}
+
+/// The coefficients of a block in range.
+fn coefs_of<'a, A: Allocator + Copy + Drop>(
+    rt: &impl Abort,
+    instance: &'a Instance<A>,
+    b: u32,
+) -> &'a [(u32, i64)] {
+    assert!(rt; b < instance.blocks());
+    instance.coefs(b)
+}
+
+/// The predecessors of a block in range.
+fn preds_of<'a, A: Allocator + Copy + Drop>(
+    rt: &impl Abort,
+    instance: &'a Instance<A>,
+    b: u32,
+) -> &'a [u32] {
+    assert!(rt; b < instance.blocks());
+    instance.preds(b)
+}
+
+/// The lower and the upper bound of a resource in a period, both in range.
+fn bounds_of<A: Allocator + Copy + Drop>(
+    rt: &impl Abort,
+    instance: &Instance<A>,
+    r: u32,
+    t: u32,
+) -> (Option<i64>, Option<i64>) {
+    assert!(rt; r < instance.resources());
+    assert!(rt; t < instance.periods());
+    (instance.lower(r, t), instance.upper(r, t))
+}
+
+/// The place of a block in range.
+fn place_of<A: Allocator + Copy + Drop>(
+    rt: &impl Abort,
+    instance: &Instance<A>,
+    b: u32,
+) -> Option<(i64, i64, i64)> {
+    assert!(rt; b < instance.blocks());
+    instance.place(b)
+}
+
 fn fault(line: u64, cause: Cause) -> TextError {
     TextError { line, cause }
 }
 
-fn has_profits<A: Allocator + Drop>(instance: &Instance<A>, profits: &[i64]) -> bool {
+fn has_profits<A: Allocator + Copy + Drop>(instance: &Instance<A>, profits: &[i64]) -> bool {
     for b in 0..instance.blocks() {
         if profits.get(b as usize) != Some(&instance.profit(b)) {
             return false;
@@ -102,7 +166,7 @@ fn has_profits<A: Allocator + Drop>(instance: &Instance<A>, profits: &[i64]) -> 
     profits.len() == instance.blocks() as usize
 }
 
-fn has_factors<A: Allocator + Drop>(instance: &Instance<A>, factors: &[i64]) -> bool {
+fn has_factors<A: Allocator + Copy + Drop>(instance: &Instance<A>, factors: &[i64]) -> bool {
     for t in 0..instance.periods() {
         if factors.get(t as usize) != Some(&instance.factor(t)) {
             return false;
@@ -120,9 +184,7 @@ fn assert_facts<A: Allocator + Copy + Drop>(
 ) -> Result<(), Fail> {
     let numbers = [builder.blocks(), builder.periods(), builder.resources()];
     assert_eq!(rt; numbers, wanted.numbers, "of {text:?}");
-    let Ok(instance) = builder.build() else {
-        return Err(Fail::from("no memory to build"));
-    };
+    let instance = built(builder)?;
     let numbers = [instance.blocks(), instance.periods(), instance.resources()];
     assert_eq!(rt; numbers, wanted.numbers, "of {text:?}");
     assert!(rt;

@@ -5,19 +5,17 @@ use pit_num::{In, Out};
 use pit_text::read_model;
 use std::test::Fail;
 
-/// Coefficients and limits aren't read yet, whatever their sections hold; the sections stand in another order.
-const HOSTILE: &[u8] = b"TYPE: CPIT
+/// The small pit with its sections in another order, and without some lines that say nothing of profits.
+const TURNED: &[u8] = b"TYPE: CPIT
 NBLOCKS: 4
 NPERIODS: 2
 NRESOURCE_SIDE_CONSTRAINTS: 1
 DISCOUNT_RATE: 0.1
 RESOURCE_CONSTRAINT_LIMITS:
-0 0 X \xff
-9 9
+0 1 I -inf 4
 RESOURCE_CONSTRAINT_COEFFICIENTS:
+3 0 1
 0 0 2
-0 0 2
-none
 OBJECTIVE_FUNCTION:
 3 5
 2 30
@@ -30,7 +28,7 @@ fn of_the_small_pit(rt: HostRuntime) -> Result<(), Fail> {
     let rows: [(&[u8], &[u8], &[u8]); 6] = [
         (TINY, SOLUTION, VALUE),
         (TINY, b"2 1\n\n% in any order\n1 0\r\n0 0\nEOF\n3", VALUE),
-        (HOSTILE, SOLUTION, VALUE),
+        (TURNED, SOLUTION, VALUE),
         (TINY, b"", b"0.000000000000000000\n"),
         // -10 * 0.909090909091
         (TINY, b"0 1\n", b"-9.090909090910000000\n"),

@@ -1,6 +1,9 @@
 //! Texts that nobody wrote: whatever they hold, each call answers, and a fault stands in a line of the text or at its end.
-use super::{HEADER, TINY_COEFFICIENTS, TINY_HEADER, TINY_LIMITS, TINY_OBJECTIVE, joined};
-use crate::{Builder, Instance, TextError, read_model, read_solution};
+use super::{
+    HEADER, TINY_COEFFICIENTS, TINY_HEADER, TINY_LIMITS, TINY_OBJECTIVE, built, joined, tiny,
+};
+use crate::{TextError, read_blocks, read_model, read_precedence, read_solution};
+use pit_model::Instance;
 use std::alloc::{AllocError, Global};
 use std::process::Abort;
 use std::test::Fail;
@@ -83,29 +86,30 @@ fn assert_place(rt: &impl Abort, error: Option<TextError>, lines: u64) {
     }
 }
 
-fn assert_answers(rt: &impl Abort, alloc: Global, text: &[u8], instance: &Instance<Global>) {
+fn assert_answers(
+    rt: &impl Abort,
+    alloc: Global,
+    text: &[u8],
+    instance: &Instance<Global>,
+) -> Result<(), Fail> {
     let lines = count(text);
     assert_place(rt, read_model(alloc, text).err(), lines);
+    assert_place(rt, read_precedence(alloc, text, tiny(alloc)?).err(), lines);
+    assert_place(rt, read_blocks(text, tiny(alloc)?).err(), lines);
     assert_place(rt, read_solution(alloc, text, instance).err(), lines);
-}
-
-fn instance(alloc: Global) -> Result<Instance<Global>, Fail> {
-    match Builder::new(alloc, 4, 2, 1, 100_000)?.build() {
-        Ok(instance) => Ok(instance),
-        Err(_) => Err(Fail::from("no memory to build")),
-    }
+    Ok(())
 }
 
 #[test]
 fn whole_and_in_front(rt: HostRuntime) -> Result<(), Fail> {
     let alloc = rt.alloc();
-    let instance = instance(alloc)?;
+    let instance = built(tiny(alloc)?)?;
     for seed in 1..9u64 {
         for text in [noise(alloc, seed)?, babble(alloc, seed)?] {
-            assert_answers(&rt, alloc, &text, &instance);
+            assert_answers(&rt, alloc, &text, &instance)?;
             for end in 0..400 {
                 if let Some(front) = text.get(..end) {
-                    assert_answers(&rt, alloc, front, &instance);
+                    assert_answers(&rt, alloc, front, &instance)?;
                 }
             }
         }
@@ -116,11 +120,11 @@ fn whole_and_in_front(rt: HostRuntime) -> Result<(), Fail> {
 #[test]
 fn a_small_pit_cut_after_each_byte(rt: HostRuntime) -> Result<(), Fail> {
     let alloc = rt.alloc();
-    let instance = instance(alloc)?;
+    let instance = built(tiny(alloc)?)?;
     let parts = [TINY_HEADER, TINY_OBJECTIVE, TINY_COEFFICIENTS, TINY_LIMITS];
     let text = joined(alloc, &parts)?;
     for end in 0..=text.len() {
-        assert_answers(&rt, alloc, &text[..end], &instance);
+        assert_answers(&rt, alloc, &text[..end], &instance)?;
     }
     Ok(())
 }

@@ -3,7 +3,8 @@ use super::{
     Facts, HEADER, REPEATED, TINY_COEFFICIENTS, TINY_FACTS, TINY_HEADER, TINY_LIMITS,
     TINY_OBJECTIVE, assert_facts, facts_of, fault, joined,
 };
-use crate::{BuildError, Builder, Cause, read_model, read_solution};
+use crate::{Cause, read_blocks, read_model, read_precedence, read_solution};
+use pit_model::Builder;
 use pit_num::NoMemory;
 use pit_refuse::Refusing;
 use std::alloc::Allocator;
@@ -74,60 +75,39 @@ fn of_read_solution(rt: HostRuntime) -> Result<(), Fail> {
 }
 
 #[test]
-fn of_new(rt: HostRuntime) -> Result<(), Fail> {
+fn of_read_precedence(rt: HostRuntime) -> Result<(), Fail> {
     for number in 1..100 {
         let heap = Refusing::new(rt.alloc(), number);
-        let answer = Builder::new(&heap, 2, 2, 0, 0);
-        if !heap.has_refused() {
-            return assert_kept(&rt, answer?, facts_of(&[0, 0]));
-        }
-        assert_eq!(rt; answer.err(), Some(NoMemory), "at {number}");
-    }
-    Err(Fail::from("never whole"))
-}
-
-// The builder comes back with its numbers and its profits, and builds where there is memory again.
-#[test]
-fn of_build(rt: HostRuntime) -> Result<(), Fail> {
-    for number in 1..100 {
-        let heap = Refusing::new(rt.alloc(), number);
-        let Ok(mut builder) = Builder::new(&heap, 2, 2, 0, 0) else {
+        let Ok(builder) = Builder::new(&heap, 4, 2, 1, 100_000) else {
             continue;
         };
-        builder.set_profit(1, -7)?;
-        let Err((mut builder, error)) = builder.build() else {
-            assert!(rt; !heap.has_refused());
-            assert!(rt; number > 1, "one request at least for the factors");
+        let answer = read_precedence(&heap, b"2 2 0 1\n1 1 0\n", builder);
+        if !heap.has_refused() {
+            let builder = answer?;
+            assert_eq!(rt; builder.blocks(), 4);
             return Ok(());
-        };
-        assert!(rt; heap.has_refused());
-        assert_eq!(rt; error, NoMemory, "at {number}");
-        assert_eq!(rt; builder.set_profit(1, 8), Err(BuildError::Repeated));
-        assert_facts(&rt, builder, facts_of(&[0, -7]), b"build")?;
+        }
+        let cause = answer.err().map(|error| error.cause);
+        assert_eq!(rt; cause, Some(Cause::NoMemory), "at {number}");
     }
     Err(Fail::from("never whole"))
 }
 
-// No call of `set_profit` takes memory, and one that is refused changes nothing.
 #[test]
-fn of_set_profit(rt: HostRuntime) -> Result<(), Fail> {
-    let heap = Refusing::new(rt.alloc(), 0);
-    let mut builder = Builder::new(&heap, 2, 2, 0, 0)?;
-    let asked = heap.asked();
-    for (block, value, answer) in [
-        (1, 5, Ok(())),
-        (1, 6, Err(BuildError::Repeated)),
-        (2, 7, Err(BuildError::BlockRange)),
-        (u32::MAX, 7, Err(BuildError::BlockRange)),
-        (0, 0, Ok(())),
-        (0, 9, Err(BuildError::Repeated)),
-    ] {
-        assert_eq!(rt;
-            builder.set_profit(block, value),
-            answer,
-            "{value} of {block}"
-        );
+fn of_read_blocks(rt: HostRuntime) -> Result<(), Fail> {
+    for number in 1..100 {
+        let heap = Refusing::new(rt.alloc(), number);
+        let Ok(builder) = Builder::new(&heap, 4, 2, 1, 100_000) else {
+            continue;
+        };
+        let answer = read_blocks(b"2 2 1 0\n1 1 0 5\n", builder);
+        if !heap.has_refused() {
+            let builder = answer?;
+            assert_eq!(rt; builder.blocks(), 4);
+            return Ok(());
+        }
+        let cause = answer.err().map(|error| error.cause);
+        assert_eq!(rt; cause, Some(Cause::NoMemory), "at {number}");
     }
-    assert_eq!(rt; heap.asked(), asked);
-    assert_facts(&rt, builder, facts_of(&[0, 5]), b"set")
+    Err(Fail::from("never whole"))
 }

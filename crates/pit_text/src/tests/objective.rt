@@ -67,7 +67,7 @@ fn blocks_that_come_twice(rt: HostRuntime) -> Result<(), Fail> {
         (b"0 1\n0 \xff", 8, Cause::NotAscii),
         (b"2 1\n2 1", 7, BLOCK_RANGE),
         (
-            b"0 1\nRESOURCE_CONSTRAINT_LIMITS\n0 1\nOBJECTIVE_FUNCTION",
+            b"0 1\nRESOURCE_CONSTRAINT_LIMITS\n\nOBJECTIVE_FUNCTION",
             10,
             Cause::SectionTwice,
         ),
@@ -83,24 +83,24 @@ fn blocks_that_come_twice(rt: HostRuntime) -> Result<(), Fail> {
 // A block without a line has no profit.
 #[test]
 fn profits(rt: HostRuntime) -> Result<(), Fail> {
-    let rows: [(&[u8], [i64; 2]); 8] = [
-        (b"", [0, 0]),
-        (b"1 20.5", [0, 20_500_000]),
-        (b"1 1\n0 -1", [-1_000_000, 1_000_000]),
-        (b"0:5\r\n::001:6\r\n", [5_000_000, 6_000_000]),
+    let rows: [(&[u8], &[i64]); 8] = [
+        (b"", &[0, 0]),
+        (b"1 20.5", &[0, 20_500_000]),
+        (b"1 1\n0 -1", &[-1_000_000, 1_000_000]),
+        (b"0:5\r\n::001:6\r\n", &[5_000_000, 6_000_000]),
         // Half a millionth goes away from zero.
-        (b"0 -0.0000005\n1 0.0000004", [-1, 0]),
+        (b"0 -0.0000005\n1 0.0000004", &[-1, 0]),
         (
             b"0 999999999999.9999994\n1 -999999999999.999999",
-            [999_999_999_999_999_999, -999_999_999_999_999_999],
+            &[999_999_999_999_999_999, -999_999_999_999_999_999],
         ),
-        (b"% 0 x\n\t0\t1e-6\t\nEOF\n0 x", [1, 0]),
-        (b"0 +.5E1\n1 -0", [5_000_000, 0]),
+        (b"% 0 x\n\t0\t1e-6\t\nEOF\n0 x", &[1, 0]),
+        (b"0 +.5E1\n1 -0", &[5_000_000, 0]),
     ];
     for (lines, profits) in rows {
         let text = joined(rt.alloc(), &[HEADER, SECTION, lines])?;
         let builder = read_model(rt.alloc(), &text)?;
-        assert_facts(&rt, builder, facts_of(&profits), &text)?;
+        assert_facts(&rt, builder, facts_of(profits), &text)?;
     }
     Ok(())
 }

@@ -42,7 +42,7 @@ RESOURCE_CONSTRAINT_COEFFICIENTS:\r\n0 0 2\r\n1 0 2\r\n\t%\r\n2 0 3\r\n3 0 1\r\n
 fn tiny_with_a_fault(rt: HostRuntime) -> Result<(), Fail> {
     let numbers: &[u8] =
         b"NBLOCKS: 4\nNPERIODS: 2\nNRESOURCE_SIDE_CONSTRAINTS: 1\nDISCOUNT_RATE: 0.1\n";
-    let rows: [([&[u8]; 5], u64, Cause); 3] = [
+    let rows: [([&[u8]; 5], u64, Cause); 4] = [
         (
             [
                 b"NAME: Tiny\nTYPE: PCPSP\n",
@@ -76,6 +76,17 @@ fn tiny_with_a_fault(rt: HostRuntime) -> Result<(), Fail> {
             20,
             Cause::SectionTwice,
         ),
+        (
+            [
+                TINY_HEADER,
+                TINY_OBJECTIVE,
+                b"RESOURCE_CONSTRAINT_COEFFICIENTS:\n0 0 2\n1 0 2\n2 0",
+                b"",
+                b"",
+            ],
+            15,
+            Cause::FieldCount,
+        ),
     ];
     for (parts, line, cause) in rows {
         let text = joined(rt.alloc(), &parts)?;
@@ -93,7 +104,7 @@ fn sections_that_come_twice(rt: HostRuntime) -> Result<(), Fail> {
     let rows: [(&[u8], u64); 7] = [
         (b"OBJECTIVE_FUNCTION\nOBJECTIVE_FUNCTION\n", 7),
         (
-            b"RESOURCE_CONSTRAINT_COEFFICIENTS\nx\nRESOURCE_CONSTRAINT_COEFFICIENTS\n",
+            b"RESOURCE_CONSTRAINT_COEFFICIENTS\n\nRESOURCE_CONSTRAINT_COEFFICIENTS\n",
             8,
         ),
         (
@@ -129,46 +140,59 @@ fn sections_that_come_twice(rt: HostRuntime) -> Result<(), Fail> {
     Ok(())
 }
 
-// Behind `HEADER`: sections that are missing, and lines that aren't looked at.
+// Behind `HEADER`: sections that are missing, and what isn't looked at.
 #[test]
-fn lines_of_other_sections_are_skipped(rt: HostRuntime) -> Result<(), Fail> {
-    let rows: [(&[u8], [i64; 2]); 9] = [
-        (b"OBJECTIVE_FUNCTION: 0 5 \xff\n1 2", [0, 2_000_000]),
+fn sections_that_are_read(rt: HostRuntime) -> Result<(), Fail> {
+    let rows: [(&[u8], &[i64]); 5] = [
+        (b"OBJECTIVE_FUNCTION: 0 5 \xff\n1 2", &[0, 2_000_000]),
         (
-            b"RESOURCE_CONSTRAINT_LIMITS\nx \xff\n0 5\n9 9 9 9 9 9\n",
-            [0, 0],
-        ),
-        (
-            b"RESOURCE_CONSTRAINT_COEFFICIENTS\nNBLOCKS: 0\nTYPE: PCPSP\n",
-            [0, 0],
-        ),
-        (
-            b"RESOURCE_CONSTRAINT_COEFFICIENTS\n0 5\nOBJECTIVE_FUNCTION\n0 6",
-            [6_000_000, 0],
-        ),
-        (
-            b"OBJECTIVE_FUNCTION\n0 5\nRESOURCE_CONSTRAINT_LIMITS\n0 6\n1 x",
-            [5_000_000, 0],
-        ),
-        (
-            b"RESOURCE_CONSTRAINT_LIMITS\nobjective_function\n0 6\nOBJECTIVE_FUNCTIONS\n0 6",
-            [0, 0],
+            b"RESOURCE_CONSTRAINT_COEFFICIENTS \xff\nOBJECTIVE_FUNCTION\n0 6",
+            &[6_000_000, 0],
         ),
         // `EOF` ends the text in any section, and nothing after it is looked at.
         (
             b"OBJECTIVE_FUNCTION\n0 5\n EOF 7\n1 x\nOBJECTIVE_FUNCTION\n",
-            [5_000_000, 0],
+            &[5_000_000, 0],
         ),
         (
             b"RESOURCE_CONSTRAINT_LIMITS\nEOF:\nOBJECTIVE_FUNCTION\n0 x",
-            [0, 0],
+            &[0, 0],
         ),
-        (b"EOF\nTYPE: PCPSP\nOBJECTIVE_FUNCTION\n0 x", [0, 0]),
+        (b"EOF\nTYPE: PCPSP\nOBJECTIVE_FUNCTION\n0 x", &[0, 0]),
     ];
     for (lines, profits) in rows {
         let text = joined(rt.alloc(), &[HEADER, lines])?;
         let builder = read_model(rt.alloc(), &text)?;
-        assert_facts(&rt, builder, facts_of(&profits), &text)?;
+        assert_facts(&rt, builder, facts_of(profits), &text)?;
+    }
+    Ok(())
+}
+
+// A line that begins no section is one of the section that it stands in. The first of these lines is line 6.
+#[test]
+fn lines_of_another_section(rt: HostRuntime) -> Result<(), Fail> {
+    let rows: [(&[u8], u64); 6] = [
+        (b"RESOURCE_CONSTRAINT_LIMITS\n0 5", 7),
+        (b"RESOURCE_CONSTRAINT_COEFFICIENTS\nNBLOCKS: 0", 7),
+        (
+            b"RESOURCE_CONSTRAINT_COEFFICIENTS\nobjective_function\n0 6",
+            7,
+        ),
+        (b"OBJECTIVE_FUNCTION\n0 0 5", 7),
+        (
+            b"OBJECTIVE_FUNCTION\n0 5\nRESOURCE_CONSTRAINT_LIMITS\n0 6",
+            9,
+        ),
+        (b"OBJECTIVE_FUNCTION\nNAME: a b", 7),
+    ];
+    for (lines, line) in rows {
+        let text = joined(rt.alloc(), &[HEADER, lines])?;
+        let answer = read_model(rt.alloc(), &text).err();
+        assert_eq!(rt;
+            answer,
+            Some(fault(line, Cause::FieldCount)),
+            "of {lines:?}"
+        );
     }
     Ok(())
 }

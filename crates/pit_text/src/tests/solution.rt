@@ -1,14 +1,14 @@
 //! The lines of a solution.
-use super::{BLOCK_RANGE, MALFORMED, PERIOD_RANGE, REPEATED, TOO_LARGE, TOO_LONG, fault};
-use crate::{Builder, Cause, read_solution};
+use super::{
+    BLOCK_RANGE, MALFORMED, PERIOD_RANGE, REPEATED, TOO_LARGE, TOO_LONG, built, fault, tiny,
+};
+use crate::{Cause, Key, read_solution};
 use std::test::Fail;
 
 // Four blocks and two periods.
 #[test]
 fn solutions_that_are_read(rt: HostRuntime) -> Result<(), Fail> {
-    let Ok(instance) = Builder::new(rt.alloc(), 4, 2, 1, 100_000)?.build() else {
-        return Err(Fail::from("no memory to build"));
-    };
+    let instance = built(tiny(rt.alloc())?)?;
     let rows: [(&[u8], &[(u32, u32)]); 9] = [
         (b"", &[]),
         (b"EOF\n3 1", &[]),
@@ -32,16 +32,12 @@ fn solutions_that_are_read(rt: HostRuntime) -> Result<(), Fail> {
 // the period, and last whether the block came before.
 #[test]
 fn lines_that_are_refused(rt: HostRuntime) -> Result<(), Fail> {
-    let Ok(instance) = Builder::new(rt.alloc(), 4, 2, 1, 100_000)?.build() else {
-        return Err(Fail::from("no memory to build"));
-    };
-    let rows: [(&[u8], u64, Cause); 34] = [
+    let instance = built(tiny(rt.alloc())?)?;
+    let rows: [(&[u8], u64, Cause); 32] = [
         (b"3", 1, Cause::FieldCount),
         (b"3 0 1", 1, Cause::FieldCount),
-        (b"3 0 1 1.000000", 1, Cause::FieldCount),
-        (b"3 0 1 0", 1, Cause::FieldCount),
         (b"3 0 1 1 1", 1, Cause::FieldCount),
-        (b"3 1 % late", 1, Cause::FieldCount),
+        (b"3 1 % late", 1, MALFORMED),
         (b"x", 1, Cause::FieldCount),
         (b"\xff \xff \xff", 1, Cause::FieldCount),
         (b"\xff 1", 1, Cause::NotAscii),
@@ -76,5 +72,49 @@ fn lines_that_are_refused(rt: HostRuntime) -> Result<(), Fail> {
         let answer = read_solution(rt.alloc(), text, &instance).err();
         assert_eq!(rt; answer, Some(fault(line, cause)), "of {text:?}");
     }
+    Ok(())
+}
+
+// Four fields: a block, a destination, a period, and how much of the block is mined.
+#[test]
+fn solutions_of_four_fields(rt: HostRuntime) -> Result<(), Fail> {
+    let instance = built(tiny(rt.alloc())?)?;
+    let rows: [(&[u8], &[(u32, u32)]); 6] = [
+        (b"3 0 1 1.000000", &[(3, 1)]),
+        (b"3 0 1 0", &[]),
+        (b"3 0 1 0.9999995\n2 0 0 1e0", &[(2, 0), (3, 1)]),
+        (b"3 0 1 0.0000004\n2 0 0 -0", &[]),
+        // A line that mines nothing neither repeats nor is repeated.
+        (b"3 0 1 0\n3 0 0 1\n3 0 1 0", &[(3, 0)]),
+        (b"3 1\n2 00 1 1", &[(2, 1), (3, 1)]),
+    ];
+    for (text, wanted) in rows {
+        let solution = read_solution(rt.alloc(), text, &instance)?;
+        assert_eq!(rt; solution.as_slice(), wanted, "of {text:?}");
+    }
+    Ok(())
+}
+
+// After the fields the block, the period, the destination, the part, and whether the block came before.
+#[test]
+fn lines_of_four_fields_that_are_refused(rt: HostRuntime) -> Result<(), Fail> {
+    let instance = built(tiny(rt.alloc())?)?;
+    let destinations = Cause::Unsupported(Key::Destinations);
+    let rows: [(&[u8], u64, Cause); 8] = [
+        (b"9 x 9 \xff", 1, MALFORMED),
+        (b"9 1 9 \xff", 1, Cause::NotAscii),
+        (b"4 1 2 0.5", 1, BLOCK_RANGE),
+        (b"0 1 2 0.5", 1, PERIOD_RANGE),
+        (b"0 1 1 0.5", 1, destinations),
+        (b"3 1 1 0", 1, destinations),
+        (b"3 0 1 0.5", 1, Cause::PartBlock),
+        (b"3 0 1 -1", 1, Cause::PartBlock),
+    ];
+    for (text, line, cause) in rows {
+        let answer = read_solution(rt.alloc(), text, &instance).err();
+        assert_eq!(rt; answer, Some(fault(line, cause)), "of {text:?}");
+    }
+    let answer = read_solution(rt.alloc(), b"3 1\n3 0 1 0\n3 0 1 1", &instance).err();
+    assert_eq!(rt; answer, Some(fault(3, REPEATED)));
     Ok(())
 }

@@ -2,7 +2,7 @@ use Rattle.std.proofs.Common.{◌≡◌, ◌+ℤ◌, ◌≤◌, ℕ, ℤ, ap, sy
 use Rattle.std.proofs.lemmas.Int.{ints}
 use Rattle.pit_num.specs.Within.{IsWithin}
 use Rattle.pit_cli.specs.Sum.{value_of, earned}
-use Rattle.pit_text.specs.Pit.{profit_of, factor_of}
+use Rattle.pit_model.specs.Pit.{profit_of, factor_of}
 use Rattle.pit_cli.proofs.Sums.{rises_at, few_pairs, value_of-nil, value_of-more, added, term_is}
 use Rattle.pit_cli.proofs.sum.value_of.Goals as goal
 

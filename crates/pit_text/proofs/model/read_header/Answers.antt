@@ -1,8 +1,9 @@
 use Rattle.std.proofs.Common.{◌≡◌, None, Some, inr, ap, sym, ◌∙◌, is_some}
 use Rattle.pit_text.specs.Left.{cut_seen, lines_left}
-use Rattle.pit_text.specs.Model.{missing}
+use Rattle.pit_text.specs.Model.{missing, model_line}
 use Rattle.pit_text.proofs.Drafts.{missing-draft, header-whole}
-use Rattle.pit_text.proofs.Headers.{read_all, read_left, end_is, header_ends, header_goes_on}
+use Rattle.pit_text.proofs.Reading.{read_all, read_left}
+use Rattle.pit_text.proofs.Headers.{end_is, header_ends, header_goes_on}
 use Rattle.pit_text.proofs.model.read_header.Goals as goal
 
 pub returns-then-is_some : goal.returns-then-is_some
@@ -29,7 +30,7 @@ returns-in-Some-missing c =
     let was = c.loop-line.invariant.facts in
     inr (record {
       facts = was.0;
-      stands = read_all (lines_left c.args.lines.now) (lines_left c.loop-line.lines) was.0 was.1 c.in_default.ensures.steps.0.0;
+      stands = read_all model_line (lines_left c.args.lines.now) (lines_left c.loop-line.lines) was.0 was.1 c.in_default.ensures.steps.0.0;
       number = c.end_line.ensures ∙ c.in_default.ensures.steps.1 ∙ c.loop-line.invariant.end;
       wanting = end_is was.0 (Some c.in-Some-missing.key) (missing-draft was.0 c.loop-line.draft was.2 ∙ sym c.missing.ensures ∙ c.in-Some-missing.is);
     })
@@ -39,8 +40,8 @@ returns-in-None c =
     let was = c.loop-line.invariant.facts in
     let whole : missing was.0 ≡ None = missing-draft was.0 c.loop-line.draft was.2 ∙ sym c.missing.ensures ∙ c.in-None.is in (
       was.0,
-      read_left (lines_left c.args.lines.now) (lines_left c.loop-line.lines) (lines_left c.next.new.self) was.0 (c.in_default.ensures.steps.0.0 ∙ sym c.in_default.ensures.steps.0.1) was.1,
-      record { keeps = was.2; whole = whole; profits = was.3 },
+      read_left model_line (lines_left c.args.lines.now) (lines_left c.loop-line.lines) (lines_left c.next.new.self) was.0 (c.in_default.ensures.steps.0.0 ∙ sym c.in_default.ensures.steps.0.1) was.1,
+      record { keeps = was.2; whole = whole; none = was.3 },
       header-whole was.0 c.loop-line.draft was.2 whole,
       λ _. c.in_default.ensures.steps.0.1,
     )

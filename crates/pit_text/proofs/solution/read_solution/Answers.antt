@@ -7,17 +7,17 @@ use Rattle.pit_text.proofs.Solutions.{period-range, scheduled-rises}
 use Rattle.pit_text.proofs.solution.read_solution.Goals as goal
 
 -- what is read, by the slots
-by_slots : (text : List ℕ) (b blocks p periods : ℕ) (slots seen : List (Option ℕ)) (pairs solution : List (ℕ × ℕ)) → b ≡ blocks → p ≡ periods
-    → StandsFor (solution_line b p) (cut_of text) pairs → length slots ≡ b → ((k : ℕ) → k < b → slice_index_or slots k None ≡ period_in pairs k)
+by_slots : (text : List ℕ) (b blocks p periods : ℕ) (slots seen : List (Option ℕ)) (facts : List (Option (ℕ × ℕ))) (solution : List (ℕ × ℕ)) → b ≡ blocks → p ≡ periods
+    → StandsFor (solution_line b p) (cut_of text) facts → length slots ≡ b → ((k : ℕ) → k < b → slice_index_or slots k None ≡ period_in facts k)
     → seen ≡ slots → solution ≡ scheduled (length seen) (λ k. slice_index_or seen k None)
-    → StandsFor (solution_line blocks periods) (cut_of text) pairs × (solution ≡ scheduled blocks (period_in pairs))
-by_slots text b blocks p periods slots seen pairs solution same_blocks same_periods stands count each same made = (
-  subst (λ (n : ℕ). StandsFor (solution_line n periods) (cut_of text) pairs) same_blocks (subst (λ (n : ℕ). StandsFor (solution_line b n) (cut_of text) pairs) same_periods stands),
+    → StandsFor (solution_line blocks periods) (cut_of text) facts × (solution ≡ scheduled blocks (period_in facts))
+by_slots text b blocks p periods slots seen facts solution same_blocks same_periods stands count each same made = (
+  subst (λ (n : ℕ). StandsFor (solution_line n periods) (cut_of text) facts) same_blocks (subst (λ (n : ℕ). StandsFor (solution_line b n) (cut_of text) facts) same_periods stands),
   made
       ∙ ap (λ (os : List (Option ℕ)). scheduled (length os) (λ k. slice_index_or os k None)) same
       ∙ ap (λ (n : ℕ). scheduled n (λ k. slice_index_or slots k None)) count
-      ∙ scheduled_same b (λ k. slice_index_or slots k None) (period_in pairs) each
-      ∙ ap (λ (n : ℕ). scheduled n (period_in pairs)) same_blocks,
+      ∙ scheduled_same b (λ k. slice_index_or slots k None) (period_in facts) each
+      ∙ ap (λ (n : ℕ). scheduled n (period_in facts)) same_blocks,
 )
 
 pub returns-in-Ok-clause-result : goal.returns-in-Ok-clause-result

@@ -1,0 +1,13 @@
+pub mod Rows
+pub mod Preds
+pub mod Coefs
+pub mod Sound
+pub mod CoefficientCells
+pub mod Pairs
+pub mod Few
+pub mod PredecessorCells
+pub mod Rising
+pub mod Placings
+pub mod Successions
+pub mod Ends
+pub mod Tightest

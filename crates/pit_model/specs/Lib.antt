@@ -1,0 +1,7 @@
+pub mod Pit
+pub mod Refusals
+pub mod Places
+pub mod CoefficientRows
+pub mod PredecessorRows
+pub mod Laid
+pub mod Tightest

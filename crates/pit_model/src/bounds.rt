@@ -1,0 +1,78 @@
+//! The bounds of the loads.
+ghost use Rattle.std.specs.Prelude.{◌≡◌, ℕ, ℤ, ◌<◌, ◌≤◌, ◌≤ℤ◌, ◌+◌, ◌*◌, List, Option, None};
+ghost use Rattle.std.specs.List.{fold};
+ghost use Rattle.pit_model.specs.Tightest.{IsTightest};
+ghost use Rattle.std.specs.Int.{int_max, int_min};
+ghost use Rattle.pit_model.specs.Pit.{is_below_zero, tighter};
+ghost use Rattle.pit_model.specs.Pit.{narrowed as narrowed_of};
+ghost use Rattle.pit_model.specs.Refusals.{is_empty_interval as is_empty};
+
+/// A lower and an upper bound, in millionths, each where one was given.
+pub(crate) type Bounds = (Option<i64>, Option<i64>);
+
+/// Where the bounds of a resource in a period stand: by period, and in it by resource.
+pub(crate) fn bound_place(resources: u32, r: u32, t: u32) -> usize
+    requires resource { r < resources }
+    requires resources { resources ≤ 64 }
+    requires period { t < 1000 }
+    ensures place { result ≡ t * resources + r }
+    ensures inside { (periods : ℕ) → t < periods → result < periods * resources }
+{
+    (t * resources + r) as usize
+}
+
+/// Whether an upper bound is below zero, so that only a load below zero meets it.
+pub(crate) fn is_below_zero(bound: Option<i64>) -> bool
+    ensures { result ≡ is_below_zero bound }
+{
+    match bound {
+        Some(bound) => bound < 0,
+        None => false,
+    }
+}
+
+/// Whether nothing is at least `lo` and at most `hi`.
+pub(crate) fn is_empty_interval(lo: Option<i64>, hi: Option<i64>) -> bool
+    ensures { result ≡ is_empty lo hi }
+{
+    match (lo, hi) {
+        (Some(lo), Some(hi)) => hi < lo,
+        _ => false,
+    }
+}
+
+/// The bounds that meet both these and the given ones.
+pub(crate) fn narrowed(bounds: Bounds, lo: Option<i64>, hi: Option<i64>) -> Bounds
+    ensures { result ≡ narrowed_of bounds lo hi }
+{
+    (greater(bounds.0, lo), lesser(bounds.1, hi))
+}
+
+/// A law of bounds, which are narrowed one after the other: of several upper bounds the least is kept, of several lower bounds the
+/// greatest, and none only where none is given.
+pub fn bounds_are_tightest()
+    ensures upper { (given : List (Option ℤ)) → IsTightest (λ x y. x ≤ℤ y) given (fold (tighter int_min) None given) }
+    ensures lower { (given : List (Option ℤ)) → IsTightest (λ x y. y ≤ℤ x) given (fold (tighter int_max) None given) }
+{}
+
+/// The greater of two bounds, where none is no bound.
+fn greater(bound: Option<i64>, other: Option<i64>) -> Option<i64>
+    ensures { result ≡ tighter int_max bound other }
+{
+    match (bound, other) {
+        (Some(bound), Some(other)) => Some(bound.max(other)),
+        (Some(bound), None) => Some(bound),
+        (None, other) => other,
+    }
+}
+
+/// The lesser of two bounds, where none is no bound.
+fn lesser(bound: Option<i64>, other: Option<i64>) -> Option<i64>
+    ensures { result ≡ tighter int_min bound other }
+{
+    match (bound, other) {
+        (Some(bound), Some(other)) => Some(bound.min(other)),
+        (Some(bound), None) => Some(bound),
+        (None, other) => other,
+    }
+}

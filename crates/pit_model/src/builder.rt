@@ -1,0 +1,230 @@
+ghost use Rattle.std.specs.Prelude.{◌≡◌, ◌≤◌, ◌^◌, ◌<◌, false, nat_le, All, IfOk, IfErr, OnOk, OnErr, IsOk, MatchOption, IsErrOf};
+ghost use Rattle.std.specs.List.{list_any};
+ghost use Rattle.pit_num.specs.Within.{IsWithin};
+ghost use Rattle.pit_model.specs.Pit.{empty_pit, with_profit, with_coef, with_preds, with_limit, with_place};
+ghost use Rattle.pit_model.specs.Refusals.{profit_refusal, coef_refusal, preds_refusal, limit_refusal, place_refusal, IsDue};
+
+use crate::bounds::{Bounds, bound_place, is_empty_interval, narrowed};
+use crate::coefficients::Coefficients;
+use crate::error::BuildError;
+use crate::instance::Instance;
+use crate::places::Places;
+use crate::predecessors::Predecessors;
+use crate::successors::Successors;
+use pit_num::{Discount, NoMemory};
+use std::alloc::Allocator;
+use std::marker::Model;
+
+/// A pit that is being put together: MineLib's problem CPIT (2013), fact by fact.
+///
+/// A refusal leaves the pit as it was.
+#[derive(Drop)]
+pub struct Builder<A: Allocator + Drop> {
+    blocks: u32,
+    periods: u32,
+    resources: u32,
+    rate: u32,
+    profits: Vec<Option<i64>, A>,
+    coefs: Coefficients<A>,
+    preds: Predecessors<A>,
+    bounds: Vec<Bounds, A>,
+    places: Places<A>,
+}
+
+impl<A: Allocator + Drop> Model for Builder<A> {
+    ghost use Rattle.pit_model.specs.Pit.{Pit, IsSound};
+
+    ghost Value = { Pit };
+
+    ghost view = { λ b. record { blocks = b.blocks; periods = b.periods; resources = b.resources; rate = b.rate; profits = b.profits.items; coefs = b.coefs; preds = b.preds; bounds = b.bounds.items; places = b.places } };
+
+    ghost invariant = { λ b. IsSound (record { blocks = b.blocks; periods = b.periods; resources = b.resources; rate = b.rate; profits = b.profits.items; coefs = b.coefs; preds = b.preds; bounds = b.bounds.items; places = b.places }) };
+}
+
+impl<A: Allocator + Copy + Drop> Builder<A> {
+    /// A pit of so many blocks, periods and resources, with a discount rate in millionths, and nothing set.
+    pub fn new(
+        alloc: A,
+        blocks: u32,
+        periods: u32,
+        resources: u32,
+        rate: u32,
+    ) -> Result<Builder<A>, NoMemory>
+        requires blocks { (1 ≤ blocks) × (blocks ≤ 4194304) }
+        requires periods { (1 ≤ periods) × (periods ≤ 1000) }
+        requires resources { resources ≤ 64 }
+        requires rate { rate ≤ 10 ^ 9 }
+        ensures { IfOk result (λ builder. builder ≡ empty_pit blocks periods resources rate) }
+    {
+        let profits = vec![in alloc; None; blocks as usize]?;
+        let coefs = Coefficients::new(alloc, blocks)?;
+        let preds = Predecessors::new(alloc, blocks);
+        let bounds = vec![in alloc; (None, None); (periods * resources) as usize]?;
+        let places = Places::new(alloc, blocks);
+        Ok(Builder {
+            blocks,
+            periods,
+            resources,
+            rate,
+            profits,
+            coefs,
+            preds,
+            bounds,
+            places,
+        })
+    }
+
+    /// The number of blocks; they are numbered from 0.
+    pub fn blocks(&self) -> u32
+        ensures { result ≡ self.now.blocks }
+    {
+        self.blocks
+    }
+
+    /// The number of periods; they are numbered from 0.
+    pub fn periods(&self) -> u32
+        ensures { result ≡ self.now.periods }
+    {
+        self.periods
+    }
+
+    /// The number of resources; they are numbered from 0.
+    pub fn resources(&self) -> u32
+        ensures { result ≡ self.now.resources }
+    {
+        self.resources
+    }
+
+    /// Sets the profit of a block, in millionths. Takes no memory.
+    pub fn set_profit(&mut self, b: u32, v: i64) -> Result<(), BuildError>
+        requires { IsWithin (10 ^ 18) v }
+        ensures ok { OnOk result (self.new ≡ with_profit self.old b v) }
+        ensures err { OnErr result (self.new ≡ self.old) }
+        ensures cause { MatchOption (profit_refusal self.old b) (IsOk result) (IsErrOf result) }
+    {
+        if b >= self.blocks {
+            return Err(BuildError::BlockRange);
+        }
+        if self.profits[b as usize].is_some() {
+            return Err(BuildError::Repeated);
+        }
+        self.profits[b as usize] = Some(v);
+        Ok(())
+    }
+
+    /// Sets how much of a resource the mining of a block takes, in millionths.
+    pub fn set_coef(&mut self, b: u32, r: u32, v: i64) -> Result<(), BuildError>
+        requires { IsWithin (10 ^ 18) v }
+        ensures ok { OnOk result (self.new ≡ with_coef self.old b r v) }
+        ensures err { OnErr result (self.new ≡ self.old) }
+        ensures cause { IsDue result (coef_refusal self.old b r) }
+    {
+        if b >= self.blocks {
+            return Err(BuildError::BlockRange);
+        }
+        if r >= self.resources {
+            return Err(BuildError::ResourceRange);
+        }
+        if self.coefs.has(b, r) {
+            return Err(BuildError::Repeated);
+        }
+        self.coefs.add(b, r, v)?;
+        Ok(())
+    }
+
+    /// Sets the blocks that have to be mined no later than a block. The block itself is dropped from the list, and one that is listed
+    /// twice is kept once.
+    pub fn set_preds(&mut self, b: u32, listed: &[u32]) -> Result<(), BuildError>
+        ensures ok { OnOk result (self.new ≡ with_preds self.old b listed.now) }
+        ensures err { OnErr result (self.new ≡ self.old) }
+        ensures cause { IsDue result (preds_refusal self.old b listed.now) }
+    {
+        if b >= self.blocks || reaches(listed, self.blocks) {
+            return Err(BuildError::BlockRange);
+        }
+        if self.preds.is_set(b) {
+            return Err(BuildError::Repeated);
+        }
+        self.preds.set(b, listed)?;
+        Ok(())
+    }
+
+    /// Adds a line of limits: in the period, the load of the resource is at least `lo` and at most `hi`, in millionths, where they are given.
+    /// Lines for one resource and period all apply. Takes no memory.
+    pub fn add_limit(
+        &mut self,
+        r: u32,
+        t: u32,
+        lo: Option<i64>,
+        hi: Option<i64>,
+    ) -> Result<(), BuildError>
+        ensures ok { OnOk result (self.new ≡ with_limit self.old r t lo hi) }
+        ensures err { OnErr result (self.new ≡ self.old) }
+        ensures cause { MatchOption (limit_refusal self.old r t lo hi) (IsOk result) (IsErrOf result) }
+    {
+        if r >= self.resources {
+            return Err(BuildError::ResourceRange);
+        }
+        if t >= self.periods {
+            return Err(BuildError::PeriodRange);
+        }
+        if is_empty_interval(lo, hi) {
+            return Err(BuildError::Interval);
+        }
+        let place = bound_place(self.resources, r, t);
+        self.bounds[place] = narrowed(self.bounds[place], lo, hi);
+        Ok(())
+    }
+
+    /// Sets the place of a block, each coordinate in millionths.
+    pub fn set_place(&mut self, b: u32, x: i64, y: i64, z: i64) -> Result<(), BuildError>
+        ensures ok { OnOk result (self.new ≡ with_place self.old b (x, y, z)) }
+        ensures err { OnErr result (self.new ≡ self.old) }
+        ensures cause { IsDue result (place_refusal self.old b) }
+    {
+        if b >= self.blocks {
+            return Err(BuildError::BlockRange);
+        }
+        if self.places.place(b).is_some() {
+            return Err(BuildError::Repeated);
+        }
+        self.places.set(b, (x, y, z))?;
+        Ok(())
+    }
+
+    /// The pit as it was set. Where memory runs out, the builder is handed back.
+    pub fn build(self) -> Result<Instance<A>, (Builder<A>, NoMemory)>
+        ensures ok { IfOk result (λ instance. instance ≡ self) }
+        ensures err { IfErr result (λ refused. refused.0 ≡ self) }
+    {
+        let alloc = *self.profits.allocator();
+        let discount = match Discount::new(alloc, self.rate, self.periods) {
+            Ok(discount) => discount,
+            Err(error) => return Err((self, error)),
+        };
+        let succs = match Successors::of(alloc, &self.preds) {
+            Ok(succs) => succs,
+            Err(error) => return Err((self, error)),
+        };
+        Ok(Instance {
+            blocks: self.blocks,
+            periods: self.periods,
+            resources: self.resources,
+            discount,
+            profits: self.profits,
+            coefs: self.coefs,
+            preds: self.preds,
+            succs,
+            bounds: self.bounds,
+            places: self.places,
+        })
+    }
+}
+
+/// Whether a block is listed that is not below the number of blocks.
+fn reaches(listed: &[u32], blocks: u32) -> bool
+    ensures value { result ≡ list_any (λ a. nat_le blocks a) listed.now }
+    ensures none { result ≡ false → All (λ a. a < blocks) listed.now }
+{
+    listed.iter().any(|a| *a >= blocks)
+}

@@ -1,0 +1,161 @@
+ghost use Rattle.std.specs.Prelude.{◌≡◌, ◌<◌, ◌^◌, pos, ◌≤ℤ◌, MatchOption};
+ghost use Rattle.pit_num.specs.Within.{IsWithin};
+ghost use Rattle.pit_model.specs.Pit.{IsSound, profit_of, factor_of, coefs_of, preds_of, succs_of, lower_of, upper_of, place_of, IsFirstUnmeetable, IsMeetable, IsFirstUnmeetableIn, IsMeetableIn, AreCoefs, ArePreds};
+
+use crate::bounds::{Bounds, bound_place, is_below_zero};
+use crate::coefficients::Coefficients;
+use crate::places::Places;
+use crate::predecessors::Predecessors;
+use crate::successors::Successors;
+use pit_num::Discount;
+use std::alloc::Allocator;
+use std::marker::Model;
+
+/// A pit: an instance of MineLib's problem CPIT (2013). Its readers take no memory.
+#[derive(Drop)]
+pub struct Instance<A: Allocator + Drop> {
+    pub(crate) blocks: u32,
+    pub(crate) periods: u32,
+    pub(crate) resources: u32,
+    pub(crate) discount: Discount<A>,
+    pub(crate) profits: Vec<Option<i64>, A>,
+    pub(crate) coefs: Coefficients<A>,
+    pub(crate) preds: Predecessors<A>,
+    pub(crate) succs: Successors<A>,
+    pub(crate) bounds: Vec<Bounds, A>,
+    pub(crate) places: Places<A>,
+}
+
+impl<A: Allocator + Drop> Model for Instance<A> {
+    ghost use Rattle.std.specs.Prelude.{◌≡◌, map, length};
+    ghost use Rattle.std.specs.List.{range_with_len};
+    ghost use Rattle.pit_model.specs.Pit.{Pit, IsSound, succs_in};
+
+    ghost Value = { Pit };
+
+    ghost view = { λ i. record { blocks = i.blocks; periods = i.periods; resources = i.resources; rate = i.discount.rate; profits = i.profits.items; coefs = i.coefs; preds = i.preds; bounds = i.bounds.items; places = i.places } };
+
+    ghost invariant = { λ i. IsSound (record { blocks = i.blocks; periods = i.periods; resources = i.resources; rate = i.discount.rate; profits = i.profits.items; coefs = i.coefs; preds = i.preds; bounds = i.bounds.items; places = i.places })
+        × (i.discount.periods ≡ i.periods) × (i.succs ≡ map (succs_in i.preds) (range_with_len 0 (length i.preds))) };
+}
+
+impl<A: Allocator + Copy + Drop> Instance<A> {
+    /// The number of blocks; they are numbered from 0.
+    pub fn blocks(&self) -> u32
+        ensures count { result ≡ self.now.blocks }
+        ensures sound { IsSound self.now }
+    {
+        self.blocks
+    }
+
+    /// The number of periods; they are numbered from 0.
+    pub fn periods(&self) -> u32
+        ensures { result ≡ self.now.periods }
+    {
+        self.periods
+    }
+
+    /// The number of resources; they are numbered from 0.
+    pub fn resources(&self) -> u32
+        ensures { result ≡ self.now.resources }
+    {
+        self.resources
+    }
+
+    /// The profit of a block, in millionths; 0 where none was set.
+    pub fn profit(&self, b: u32) -> i64
+        requires { b < self.now.blocks }
+        ensures value { result ≡ profit_of self.now b }
+        ensures small { IsWithin (10 ^ 18) result }
+    {
+        self.profits[b as usize].unwrap_or(0)
+    }
+
+    /// The discount factor of a period, in units of 10^-12.
+    pub fn factor(&self, t: u32) -> i64
+        requires { t < self.now.periods }
+        ensures value { result ≡ factor_of self.now t }
+        ensures low { pos 0 ≤ℤ result }
+        ensures high { result ≤ℤ pos (10 ^ 12) }
+    {
+        self.discount.factor(t)
+    }
+
+    /// The coefficients of a block that were set, each with its resource, in millionths, rising by resource. The others are 0.
+    pub fn coefs(&self, b: u32) -> &[(u32, i64)]
+        requires { b < self.now.blocks }
+        ensures value { result.now ≡ coefs_of self.now b }
+        ensures sound { AreCoefs self.now.resources result.now }
+    {
+        self.coefs.row(b)
+    }
+
+    /// The blocks that have to be mined no later than a block: rising, each once, and without the block.
+    pub fn preds(&self, b: u32) -> &[u32]
+        requires { b < self.now.blocks }
+        ensures value { result.now ≡ preds_of self.now b }
+        ensures sound { ArePreds self.now.blocks b result.now }
+    {
+        self.preds.row(b)
+    }
+
+    /// The blocks that have a block among their predecessors, rising.
+    pub fn succs(&self, b: u32) -> &[u32]
+        requires { b < self.now.blocks }
+        ensures value { result.now ≡ succs_of self.now b }
+        ensures sound { ArePreds self.now.blocks b result.now }
+    {
+        self.succs.row(b)
+    }
+
+    /// The greatest lower bound that was given for the load of a resource in a period, in millionths.
+    pub fn lower(&self, r: u32, t: u32) -> Option<i64>
+        requires resource { r < self.now.resources }
+        requires period { t < self.now.periods }
+        ensures { result ≡ lower_of self.now r t }
+    {
+        self.bounds[bound_place(self.resources, r, t)].0
+    }
+
+    /// The least upper bound that was given for the load of a resource in a period, in millionths.
+    pub fn upper(&self, r: u32, t: u32) -> Option<i64>
+        requires resource { r < self.now.resources }
+        requires period { t < self.now.periods }
+        ensures { result ≡ upper_of self.now r t }
+    {
+        self.bounds[bound_place(self.resources, r, t)].1
+    }
+
+    /// The place of a block, each coordinate in millionths.
+    pub fn place(&self, b: u32) -> Option<(i64, i64, i64)>
+        requires { b < self.now.blocks }
+        ensures { result ≡ place_of self.now b }
+    {
+        self.places.place(b)
+    }
+
+    /// The resource and the period of the least period, and in it of the least resource, whose upper bound is below zero.
+    pub fn unmeetable(&self) -> Option<(u32, u32)>
+        ensures { MatchOption result (IsMeetable self.now) (IsFirstUnmeetable self.now) }
+    {
+        for t in 0..self.periods {
+            if let Some(r) = self.unmeetable_in(t) {
+                return Some((r, t));
+            }
+        }
+        None
+    }
+
+    /// The least resource whose upper bound in a period is below zero.
+    fn unmeetable_in(&self, t: u32) -> Option<u32>
+        requires { t < self.now.periods }
+        ensures { MatchOption result (IsMeetableIn self.now t) (IsFirstUnmeetableIn self.now t) }
+    {
+        for r in 0..self.resources {
+            if is_below_zero(self.upper(r, t)) {
+                return Some(r);
+            }
+        }
+        None
+    }
+}

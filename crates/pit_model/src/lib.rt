@@ -1,0 +1,21 @@
+//! A pit: an instance of MineLib's problem CPIT (2013), put together fact by fact, and then read.
+//!
+//! Contracts see a pit as a record of plain lists. Each setter adds its fact to the record or answers the first refusal that is due, and
+//! then the record is as it was; each reader is a function of the record.
+#![tactic(auto)]
+
+mod bounds;
+mod builder;
+mod coefficients;
+mod error;
+mod instance;
+mod places;
+mod predecessors;
+mod successors;
+#[cfg(test)]
+mod tests;
+
+pub use bounds::bounds_are_tightest;
+pub use builder::Builder;
+pub use error::BuildError;
+pub use instance::Instance;

@@ -1,0 +1,155 @@
+ghost use Rattle.std.specs.Prelude.{◌≡◌, ◌==◌, not, ℕ, ◌<◌, None, IfOk, IsTrue, is_some, length, replicate, slice_index_or, slice_set, OnOk, OnErr};
+ghost use Rattle.std.specs.List.{All, filter, list_any};
+ghost use Rattle.std.specs.List.Sorted.{IsStrictlyIncreasing};
+ghost use Rattle.pit_model.specs.Pit.{preds_from, preds_in, with_preds_in};
+
+use pit_num::NoMemory;
+use std::alloc::Allocator;
+use std::marker::Model;
+
+/// The predecessors of each block, rising, in one array.
+#[derive(Drop)]
+pub(crate) struct Predecessors<A: Allocator + Drop> {
+    blocks: u32,
+    cells: Vec<u32, A>,
+    /// By block; empty until some are set.
+    rows: Vec<Option<Row>, A>,
+}
+
+/// Where the predecessors of a block stand among the cells.
+#[derive(Clone, Copy)]
+struct Row {
+    start: usize,
+    end: usize,
+}
+
+impl<A: Allocator + Drop> Model for Predecessors<A> {
+    ghost use Rattle.std.specs.Prelude.{ℕ, List, Option};
+
+    ghost Value = { List (Option (List ℕ)) };
+
+    ghost use Rattle.pit_model.specs.PredecessorRows.{rows_of, AreRows};
+
+    ghost view = { λ preds. rows_of preds.blocks preds.cells.items preds.rows.items };
+
+    ghost invariant = { λ preds. AreRows preds.blocks preds.cells.items preds.rows.items };
+}
+
+impl<A: Allocator + Copy + Drop> Predecessors<A> {
+    /// None is set of any block. Takes no memory.
+    pub(crate) fn new(alloc: A, blocks: u32) -> Predecessors<A>
+        ensures { result ≡ replicate blocks None }
+    {
+        Predecessors {
+            blocks,
+            cells: Vec::new(alloc),
+            rows: Vec::new(alloc),
+        }
+    }
+
+    /// How many blocks there are.
+    pub(crate) fn blocks(&self) -> u32
+        ensures { result ≡ length self.now }
+    {
+        self.blocks
+    }
+
+    /// Whether the predecessors of a block were set.
+    pub(crate) fn is_set(&self, b: u32) -> bool
+        requires { b < length self.now }
+        ensures { result ≡ is_some (slice_index_or self.now b None) }
+    {
+        row_at(&self.rows, b).is_some()
+    }
+
+    /// The predecessors of a block.
+    pub(crate) fn row(&self, b: u32) -> &[u32]
+        requires { b < length self.now }
+        ensures { result.now ≡ preds_in self.now b }
+    {
+        match row_at(&self.rows, b) {
+            Some(row) => &self.cells[row.start..row.end],
+            None => &[],
+        }
+    }
+
+    /// Sets the predecessors of a block, once.
+    pub(crate) fn set(&mut self, b: u32, listed: &[u32]) -> Result<(), NoMemory>
+        requires block { b < length self.old }
+        requires listed { All (λ a. a < length self.old) listed.now }
+        requires unset { slice_index_or self.old b None ≡ None }
+        ensures ok { OnOk result (self.new ≡ with_preds_in self.old b listed.now) }
+        ensures err { OnErr result (self.new ≡ self.old) }
+    {
+        if !is_listed(b, listed) && is_rising(listed) {
+            return self.append(b, listed);
+        }
+        let others = others(*self.cells.allocator(), b, listed)?;
+        self.append(b, &others)
+    }
+
+    /// Puts the row of a block behind those of the others.
+    fn append(&mut self, b: u32, row: &[u32]) -> Result<(), NoMemory>
+        requires { b < length self.old }
+        ensures ok { OnOk result (self.new ≡ slice_set self.old b (Some row.now)) }
+        ensures err { OnErr result (self.new ≡ self.old) }
+    {
+        self.rows.resize(self.blocks as usize, None)?;
+        let start = self.cells.len();
+        self.cells.extend_from_slice(row)?;
+        let end = self.cells.len();
+        self.rows[b as usize] = Some(Row { start, end });
+        Ok(())
+    }
+}
+
+fn row_at(rows: &[Option<Row>], b: u32) -> Option<Row>
+    ensures { result ≡ slice_index_or rows.now b None }
+{
+    if (b as usize) < rows.len() {
+        rows[b as usize]
+    } else {
+        None
+    }
+}
+
+fn is_listed(b: u32, listed: &[u32]) -> bool
+    ensures { result ≡ list_any (λ a. a == b) listed.now }
+{
+    listed.iter().any(|a| *a == b)
+}
+
+fn is_rising(listed: &[u32]) -> bool
+    ensures { IsTrue result → IsStrictlyIncreasing listed.now }
+{
+    for i in 1..listed.len() {
+        if listed[i - 1] >= listed[i] {
+            return false;
+        }
+    }
+    true
+}
+
+/// The listed blocks other than this one, rising, each once.
+fn others<A: Allocator + Copy + Drop>(
+    alloc: A,
+    b: u32,
+    listed: &[u32],
+) -> Result<Vec<u32, A>, NoMemory>
+    ensures { (blocks : ℕ) → All (λ a. a < blocks) listed.now → IfOk result (λ others. others.items ≡ preds_from blocks b listed.now) }
+{
+    let mut others = all_but(alloc, b, listed)?;
+    others.sort_unstable();
+    others.dedup();
+    Ok(others)
+}
+
+fn all_but<A: Allocator + Copy + Drop>(
+    alloc: A,
+    b: u32,
+    listed: &[u32],
+) -> Result<Vec<u32, A>, NoMemory>
+    ensures { IfOk result (λ others. others.items ≡ filter (λ a. not (a == b)) listed.now) }
+{
+    Ok(listed.iter().copied().filter(|a| *a != b).collect(alloc)?)
+}

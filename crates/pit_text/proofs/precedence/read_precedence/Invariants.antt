@@ -1,0 +1,12 @@
+use Rattle.std.proofs.Common.{◌≡◌, ℕ, List, length}
+use Rattle.pit_text.specs.Cutting.{cut_of}
+use Rattle.pit_text.specs.Left.{lines_left}
+use Rattle.pit_text.specs.Stands.{IsReadTo}
+use Rattle.pit_text.specs.Precedence.{precedence_line, pit_with_preds}
+use Rattle.pit_text.proofs.precedence.read_precedence.Given as goal
+
+abbrev pub invariant-loop-line : goal.invariant-loop-line
+invariant-loop-line g l = (facts : List (ℕ × List ℕ)) × IsReadTo (precedence_line l.fn.builder) (cut_of l.fn.text) (lines_left l.lines) facts × (l.builder ≡ pit_with_preds l.fn.builder facts)
+
+abbrev pub decreases-loop-line : goal.decreases-loop-line
+decreases-loop-line g l = length (lines_left l.lines)

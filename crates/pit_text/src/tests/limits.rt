@@ -1,0 +1,97 @@
+//! The lines of the section of limits.
+use super::{
+    MALFORMED, PERIOD_RANGE, RESOURCE_RANGE, TINY_HEADER, TINY_LIMITS, TOO_LARGE, bounds_of, built,
+    fault, joined,
+};
+use crate::{Cause, read_model};
+use pit_model::BuildError;
+use std::test::Fail;
+
+// The line after the header of the small pit, which has one resource and two periods.
+const SECTION: &[u8] = b"RESOURCE_CONSTRAINT_LIMITS\n";
+
+const INTERVAL: Cause = Cause::Build(BuildError::Interval);
+
+// At least four fields, then the resource, the period and the kind; then the exact number of fields, and the bounds.
+#[test]
+fn fields_that_are_refused(rt: HostRuntime) -> Result<(), Fail> {
+    let rows: [(&[u8], Cause); 8] = [
+        (b"0 0 L", Cause::FieldCount),
+        (b"x 0 X 4", MALFORMED),
+        (b"0 0 \xff 4", Cause::NotAscii),
+        (b"0 0 X 4 5 6", Cause::BadKind),
+        (b"0 0 l 4", Cause::BadKind),
+        (b"0 0 L x \xff", Cause::FieldCount),
+        (b"0 0 I 4", Cause::FieldCount),
+        (b"0 0 I 4 5 6", Cause::FieldCount),
+    ];
+    for (line, cause) in rows {
+        let text = joined(rt.alloc(), &[TINY_HEADER, SECTION, line])?;
+        let answer = read_model(rt.alloc(), &text).err();
+        assert_eq!(rt; answer, Some(fault(8, cause)), "of {line:?}");
+    }
+    Ok(())
+}
+
+// A bound that is infinite the other way is no number. Then the resource, the period and the interval.
+#[test]
+fn bounds_that_are_refused(rt: HostRuntime) -> Result<(), Fail> {
+    let rows: [(&[u8], Cause); 8] = [
+        (b"0 0 L -inf", MALFORMED),
+        (b"0 0 G inf", MALFORMED),
+        (b"0 0 I inf 4", MALFORMED),
+        (b"0 0 G 1e12", TOO_LARGE),
+        (b"9 9 L \xff", Cause::NotAscii),
+        (b"1 2 I 5 4", RESOURCE_RANGE),
+        (b"0 2 I 5 4", PERIOD_RANGE),
+        (b"0 0 I 5 4", INTERVAL),
+    ];
+    for (line, cause) in rows {
+        let text = joined(rt.alloc(), &[TINY_HEADER, SECTION, line])?;
+        let answer = read_model(rt.alloc(), &text).err();
+        assert_eq!(rt; answer, Some(fault(8, cause)), "of {line:?}");
+    }
+    Ok(())
+}
+
+// The bounds of the one resource in period 0.
+#[test]
+fn limits(rt: HostRuntime) -> Result<(), Fail> {
+    let rows: [(&[u8], Option<i64>, Option<i64>); 8] = [
+        (b"", None, None),
+        (b"0 0 L inf", None, None),
+        (b"0 0 I -inf 3", None, Some(3_000_000)),
+        (b"0 0 I -INF +Infinity", None, None),
+        (b"0 0 G -2.5", Some(-2_500_000), None),
+        (b"0 0 I 4 4", Some(4_000_000), Some(4_000_000)),
+        // Of several lines the greatest lower and the least upper bound hold, though nothing may lie between.
+        (b"0 0 L 5\n0 0 L 3\n0 0 L 4", None, Some(3_000_000)),
+        (
+            b"0 0 G 1\n0 0 I 6 9\n0 0 I 2 5",
+            Some(6_000_000),
+            Some(5_000_000),
+        ),
+    ];
+    for (lines, lower, upper) in rows {
+        let text = joined(rt.alloc(), &[TINY_HEADER, SECTION, lines])?;
+        let instance = built(read_model(rt.alloc(), &text)?)?;
+        assert_eq!(rt;
+            bounds_of(&rt, &instance, 0, 0),
+            (lower, upper),
+            "of {lines:?}"
+        );
+    }
+    Ok(())
+}
+
+#[test]
+fn limits_of_the_small_pit(rt: HostRuntime) -> Result<(), Fail> {
+    let text = joined(rt.alloc(), &[TINY_HEADER, TINY_LIMITS])?;
+    let instance = built(read_model(rt.alloc(), &text)?)?;
+    assert_eq!(rt; bounds_of(&rt, &instance, 0, 0), (None, Some(4_000_000)));
+    assert_eq!(rt;
+        bounds_of(&rt, &instance, 0, 1),
+        (Some(1_000_000), Some(4_000_000))
+    );
+    Ok(())
+}
