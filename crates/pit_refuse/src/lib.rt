@@ -4,9 +4,11 @@
 //! first request refused, then with the second, and so on, until a call ends without meeting the refusal.
 #![tactic(auto)]
 
+mod count;
 mod refusing;
 mod requests;
 #[cfg(test)]
 mod tests;
 
+pub use count::Count;
 pub use refusing::Refusing;

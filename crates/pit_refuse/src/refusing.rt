@@ -1,5 +1,6 @@
-ghost use Rattle.std.specs.Prelude.{◌≡◌, false};
+ghost use Rattle.std.specs.Prelude.{◌≡◌};
 
+use crate::count::Count;
 use crate::requests::Requests;
 use std::alloc::{AllocError, Allocator};
 
@@ -22,16 +23,11 @@ impl<B: Allocator> Refusing<B> {
         Refusing { inner, requests }
     }
 
-    /// The number of requests so far, with the refused one.
-    pub fn asked(&self) -> u64 {
-        self.requests.asked()
-    }
-
-    /// Whether the request was made and refused.
-    pub fn has_refused(&self) -> bool
-        ensures { self.now.requests.number ≡ 0 → result ≡ false }
+    /// The requests so far.
+    pub fn count(&self) -> Count
+        ensures { result.number ≡ self.now.requests.number }
     {
-        self.requests.has_refused()
+        self.requests.count()
     }
 }
 

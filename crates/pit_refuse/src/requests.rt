@@ -1,5 +1,6 @@
-ghost use Rattle.std.specs.Prelude.{◌≡◌, false};
+ghost use Rattle.std.specs.Prelude.{◌≡◌};
 
+use crate::count::Count;
 use std::sync::atomic::{AtomicU64, Ordering};
 
 /// How many requests were made, and which one is to be refused.
@@ -23,14 +24,13 @@ impl Requests {
         before.wrapping_add(1) == self.number
     }
 
-    pub(crate) fn asked(&self) -> u64 {
-        self.asked.load(Ordering::SeqCst)
-    }
-
-    /// Whether a request was refused, which cannot be where the number is 0.
-    pub(crate) fn has_refused(&self) -> bool
-        ensures { self.now.number ≡ 0 → result ≡ false }
+    pub(crate) fn count(&self) -> Count
+        ensures { result.number ≡ self.now.number }
     {
-        self.number != 0 && self.number <= self.asked()
+        let asked = self.asked.load(Ordering::SeqCst);
+        Count {
+            asked,
+            number: self.number,
+        }
     }
 }

@@ -22,12 +22,12 @@ fn refuses_each_request_in_turn(rt: HostRuntime) -> Result<(), Fail> {
     for number in 1..100 {
         let heap = Refusing::new(rt.alloc(), number);
         let answer = pushes(&heap);
-        if !heap.has_refused() {
+        if !heap.count().has_refused() {
             let Ok(list) = answer else {
                 return Err(Fail::from("an error without a refusal"));
             };
             assert!(rt; list.as_slice() == [0u64, 1, 2, 3, 4, 5, 6, 7, 8].as_slice());
-            assert_eq!(rt; heap.asked(), number - 1);
+            assert_eq!(rt; heap.count().asked, number - 1);
             assert!(rt;
                 number > 2,
                 "one request for the room, and one at least to grow"
@@ -35,7 +35,7 @@ fn refuses_each_request_in_turn(rt: HostRuntime) -> Result<(), Fail> {
             return Ok(());
         }
         assert!(rt; answer.is_err());
-        assert_eq!(rt; heap.asked(), number);
+        assert_eq!(rt; heap.count().asked, number);
     }
     Err(Fail::from("never whole"))
 }
@@ -46,22 +46,22 @@ fn keeps_the_list_where_growth_is_refused(rt: HostRuntime) -> Result<(), Fail> {
     let mut list = Vec::with_capacity(&heap, 2)?;
     list.push(7u64)?;
     list.push(8)?;
-    assert!(rt; !heap.has_refused());
+    assert!(rt; !heap.count().has_refused());
     assert!(rt; list.push(9).is_err());
-    assert!(rt; heap.has_refused());
+    assert!(rt; heap.count().has_refused());
     assert!(rt; list.as_slice() == [7u64, 8].as_slice());
     list.push(9)?;
     assert!(rt; list.as_slice() == [7u64, 8, 9].as_slice());
-    assert_eq!(rt; heap.asked(), 3);
+    assert_eq!(rt; heap.count().asked, 3);
     Ok(())
 }
 
 #[test]
 fn refuses_none_at_the_number_0(rt: HostRuntime) -> Result<(), Fail> {
     let heap = Refusing::new(rt.alloc(), 0);
-    assert_eq!(rt; heap.asked(), 0);
+    assert_eq!(rt; heap.count().asked, 0);
     let list = pushes_shared(&heap)?;
     assert_eq!(rt; list.len(), 9);
-    assert!(rt; !heap.has_refused());
+    assert!(rt; !heap.count().has_refused());
     Ok(())
 }

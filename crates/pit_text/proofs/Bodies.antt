@@ -5,7 +5,7 @@ use Rattle.pit_text.specs.declared.draft.Draft.{Draft}
 use Rattle.pit_model.specs.Pit.{Pit}
 use Rattle.pit_text.specs.declared.entry.Entry.{Entry}
 use Rattle.pit_text.specs.Entries.{with_entry}
-use Rattle.pit_text.specs.Model.{Fact, skipped, section, entry, last_of, sections, pit_of}
+use Rattle.pit_text.specs.Model.{Fact, skipped, section, entry, last_of, sections}
 use Rattle.pit_text.specs.Draft.{IsDraft, IsBody}
 use Rattle.pit_text.proofs.Facts.{same_value, same_entries, missing-same, pit_of-same, pit_of-entry, sections-more, last_of-push}
 use Rattle.pit_text.proofs.Drafts.{draft-same}

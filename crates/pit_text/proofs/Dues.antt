@@ -1,5 +1,5 @@
 -- What a call that succeeded, and one that was refused, say of the refusal that is due.
-use Rattle.std.proofs.Common.{◌≡◌, ◌⊎◌, inl, inr, ℕ, List, Option, Some, None, Result, Ok, Err, IsOk, IsErrOf, MatchOption, ap, sym, refl, ◌∙◌}
+use Rattle.std.proofs.Common.{◌≡◌, ◌⊎◌, inl, inr, Option, Some, None, Result, Ok, Err, IsOk, IsErrOf, MatchOption, ap, sym, refl, ◌∙◌}
 use Rattle.pit_model.specs.declared.error.BuildError.{BuildError}
 use Rattle.pit_model.specs.declared.error.BuildError.TheVariants.{NoMemory}
 use Rattle.pit_model.specs.Refusals.{IsDue}

@@ -1,6 +1,6 @@
 -- What one more fact of a model changes.
-use Rattle.std.proofs.Common.{◌≡◌, List, [], ◌∷◌, ◌++◌, Option, Some, None, unwrap_or, ap, ◌∙◌, refl}
-use Rattle.std.specs.List.{filter_map, cons_option, fold}
+use Rattle.std.proofs.Common.{◌≡◌, List, [], ◌∷◌, ◌++◌, Some, None, unwrap_or, ap, ◌∙◌, refl}
+use Rattle.std.specs.List.{cons_option, fold}
 use Rattle.std.proofs.lemmas.List.{append-nil}
 use Rattle.std.proofs.lemmas.List.Elements.{filter_map-append}
 use Rattle.std.proofs.lemmas.List.Sums.{fold-append}

@@ -1,5 +1,5 @@
 -- What a line of a section says by itself, and what it makes of a pit.
-use Rattle.std.specs.Prelude.{ℕ, ℤ, ◌^◌, if◌then◌else◌, List, [], ◌∷◌, Result, Ok, Err, Option, Some, None, codes, ⊤}
+use Rattle.std.specs.Prelude.{ℕ, ℤ, ◌^◌, if◌then◌else◌, List, [], ◌∷◌, Result, Ok, Err, Option, None, codes, ⊤}
 use Rattle.std.specs.Str.{bytes_eq}
 use Rattle.pit_num.specs.Within.{IsWithin}
 use Rattle.pit_model.specs.Pit.{Pit, with_profit, with_coef, with_limit}

@@ -14,7 +14,7 @@ fn of_value(rt: HostRuntime) -> Result<(), Fail> {
         let (mut model, mut solution) = (In::new(TINY), In::new(SOLUTION));
         let answer = value(&heap, &mut model, &mut solution, &mut out);
         let written = out.into_inner();
-        if !heap.has_refused() {
+        if !heap.count().has_refused() {
             assert_eq!(rt; answer, Ok(Status::Fine));
             assert_eq!(rt; written.as_slice(), VALUE);
             assert!(rt;
@@ -40,7 +40,7 @@ fn of_read_all(rt: HostRuntime) -> Result<(), Fail> {
     for number in 1..100 {
         let heap = Refusing::new(rt.alloc(), number);
         let answer = read_all(&heap, &mut In::new(bytes.as_slice()));
-        if !heap.has_refused() {
+        if !heap.count().has_refused() {
             let Ok(read) = answer else {
                 return Err(Fail::from("an error without a refusal"));
             };

@@ -30,7 +30,7 @@ fn each_refused_request(rt: HostRuntime) -> Result<(), Fail> {
     for number in 1..100 {
         let heap = Refusing::new(rt.alloc(), number);
         let answer = Discount::new(&heap, 100_000, 3);
-        if !heap.has_refused() {
+        if !heap.count().has_refused() {
             let discount = answer?;
             assert_eq!(rt; discount.factor(2), 826_446_280_992);
             return Ok(());

@@ -1,7 +1,9 @@
 //! The header of a model text.
-use super::{HEADER, assert_facts, facts_of, fault, joined};
+use super::{HEADER, assert_facts, built, facts_of, fault, joined};
 use crate::{Cause, Key, read_model};
 use Cause::{BadHeader, MissingHeader, NotCpit, Unsupported};
+use std::alloc::{AllocError, Global};
+use std::process::Abort;
 use std::test::Fail;
 
 #[test]
@@ -119,49 +121,76 @@ fn keys_that_come_twice(rt: HostRuntime) {
     }
 }
 
+/// A whole header of these values.
+fn header_of(alloc: Global, values: &[&[u8]; 5]) -> Result<Vec<u8>, AllocError> {
+    let keys: [&[u8]; 5] = [
+        b"TYPE: ",
+        b"\nNBLOCKS: ",
+        b"\nNPERIODS: ",
+        b"\nNRESOURCE_SIDE_CONSTRAINTS: ",
+        b"\nDISCOUNT_RATE: ",
+    ];
+    let mut text = Vec::new(alloc);
+    for i in 0..5usize {
+        text.extend_from_slice(keys[i])?;
+        text.extend_from_slice(values[i])?;
+    }
+    Ok(text)
+}
+
+/// The numbers of blocks, periods and resources that a header gives, and the factor of period 1.
+fn header_read(rt: &impl Abort, alloc: Global, header: &[u8]) -> Result<([u32; 3], i64), Fail> {
+    let instance = built(read_model(alloc, header)?)?;
+    assert!(rt; instance.periods() > 1);
+    let numbers = [instance.blocks(), instance.periods(), instance.resources()];
+    Ok((numbers, instance.factor(1)))
+}
+
 // The factor of period 1 is 10^18 / (10^6 + rate), rounded: for a rate of 10^9 it is 999000999.0.., and for
 // 10^-6 it is 999999000001.0..
 #[test]
 fn values_that_are_read(rt: HostRuntime) -> Result<(), Fail> {
-    let rows: [([&str; 5], [u32; 3], i64); 7] = [
-        (["CPIT", "4", "2", "1", "0.1"], [4, 2, 1], 909_090_909_091),
-        (["cpit", "1", "2", "0", "0"], [1, 2, 0], 1_000_000_000_000),
+    let rows: [([&[u8]; 5], [u32; 3], i64); 7] = [
         (
-            ["cPiT", "4194304", "1000", "64", "1000"],
+            [b"CPIT", b"4", b"2", b"1", b"0.1"],
+            [4, 2, 1],
+            909_090_909_091,
+        ),
+        (
+            [b"cpit", b"1", b"2", b"0", b"0"],
+            [1, 2, 0],
+            1_000_000_000_000,
+        ),
+        (
+            [b"cPiT", b"4194304", b"1000", b"64", b"1000"],
             [4_194_304, 1000, 64],
             999_000_999,
         ),
         (
-            ["Cpit", "007", "02", "0000", "1000.0000004"],
+            [b"Cpit", b"007", b"02", b"0000", b"1000.0000004"],
             [7, 2, 0],
             999_000_999,
         ),
         (
-            ["CPIT", "1", "2", "1", "-0.0000004"],
+            [b"CPIT", b"1", b"2", b"1", b"-0.0000004"],
             [1, 2, 1],
             1_000_000_000_000,
         ),
         (
-            ["CPIT", "1", "2", "1", "0.0000005"],
+            [b"CPIT", b"1", b"2", b"1", b"0.0000005"],
             [1, 2, 1],
             999_999_000_001,
         ),
-        (["CPIT", "1", "2", "1", "+1e-1"], [1, 2, 1], 909_090_909_091),
+        (
+            [b"CPIT", b"1", b"2", b"1", b"+1e-1"],
+            [1, 2, 1],
+            909_090_909_091,
+        ),
     ];
-    for ([kind, blocks, periods, resources, rate], wanted, factor) in rows {
-        let text = format!(in rt.alloc();
-            "TYPE: {kind}\nNBLOCKS: {blocks}\nNPERIODS: {periods}\nNRESOURCE_SIDE_CONSTRAINTS: {resources}\nDISCOUNT_RATE: {rate}\n"
-        )?;
-        let builder = read_model(rt.alloc(), text.as_bytes())?;
-        let numbers = [builder.blocks(), builder.periods(), builder.resources()];
-        assert_eq!(rt; numbers, wanted, "of {text}");
-        let Ok(instance) = builder.build() else {
-            return Err(Fail::from("no memory to build"));
-        };
-        let numbers = [instance.blocks(), instance.periods(), instance.resources()];
-        assert_eq!(rt; numbers, wanted, "of {text}");
-        assert!(rt; instance.periods() > 1);
-        assert_eq!(rt; instance.factor(1), factor, "of {text}");
+    for (values, numbers, factor) in &rows {
+        let header = header_of(rt.alloc(), values)?;
+        let read = header_read(&rt, rt.alloc(), &header)?;
+        assert_eq!(rt; read, (*numbers, *factor), "of {header:?}");
     }
     Ok(())
 }

@@ -5,6 +5,8 @@ use super::{
 };
 use crate::{Cause, read_model};
 use pit_model::BuildError;
+use std::alloc::Global;
+use std::process::Abort;
 use std::test::Fail;
 
 // The line after the header of the small pit, which has one resource and two periods.
@@ -54,7 +56,17 @@ fn bounds_that_are_refused(rt: HostRuntime) -> Result<(), Fail> {
     Ok(())
 }
 
-// The bounds of the one resource in period 0.
+/// The bounds of the one resource in period 0 that the lines of limits give.
+fn bounds_read(
+    rt: &impl Abort,
+    alloc: Global,
+    lines: &[u8],
+) -> Result<(Option<i64>, Option<i64>), Fail> {
+    let text = joined(alloc, &[TINY_HEADER, SECTION, lines])?;
+    let instance = built(read_model(alloc, &text)?)?;
+    Ok(bounds_of(rt, &instance, 0, 0))
+}
+
 #[test]
 fn limits(rt: HostRuntime) -> Result<(), Fail> {
     let rows: [(&[u8], Option<i64>, Option<i64>); 8] = [
@@ -73,13 +85,8 @@ fn limits(rt: HostRuntime) -> Result<(), Fail> {
         ),
     ];
     for (lines, lower, upper) in rows {
-        let text = joined(rt.alloc(), &[TINY_HEADER, SECTION, lines])?;
-        let instance = built(read_model(rt.alloc(), &text)?)?;
-        assert_eq!(rt;
-            bounds_of(&rt, &instance, 0, 0),
-            (lower, upper),
-            "of {lines:?}"
-        );
+        let bounds = bounds_read(&rt, rt.alloc(), lines)?;
+        assert_eq!(rt; bounds, (lower, upper), "of {lines:?}");
     }
     Ok(())
 }

@@ -3,7 +3,7 @@ use super::{
     Facts, HEADER, REPEATED, TINY_COEFFICIENTS, TINY_FACTS, TINY_HEADER, TINY_LIMITS,
     TINY_OBJECTIVE, assert_facts, facts_of, fault, joined,
 };
-use crate::{Cause, read_blocks, read_model, read_precedence, read_solution};
+use crate::{Cause, TextError, read_blocks, read_model, read_precedence, read_solution};
 use pit_model::Builder;
 use pit_num::NoMemory;
 use pit_refuse::Refusing;
@@ -30,7 +30,7 @@ fn of_read_model(rt: HostRuntime) -> Result<(), Fail> {
     for number in 1..100 {
         let heap = Refusing::new(rt.alloc(), number);
         let answer = read_model(&heap, &text);
-        if !heap.has_refused() {
+        if !heap.count().has_refused() {
             return assert_kept(&rt, answer?, TINY_FACTS);
         }
         let cause = answer.err().map(|error| error.cause);
@@ -45,25 +45,30 @@ fn of_read_model_with_a_fault(rt: HostRuntime) -> Result<(), Fail> {
     let heap = Refusing::new(rt.alloc(), 1);
     let answer = read_model(&heap, b"TYPE: PCPSP").err();
     assert_eq!(rt; answer, Some(fault(1, Cause::NotCpit)));
-    assert_eq!(rt; heap.asked(), 0);
+    assert_eq!(rt; heap.count().asked, 0);
     let text = joined(rt.alloc(), &[HEADER, b"OBJECTIVE_FUNCTION\n0 1\n0 2"])?;
     let answer = read_model(rt.alloc(), &text).err();
     assert_eq!(rt; answer, Some(fault(8, REPEATED)));
     Ok(())
 }
 
+/// What a solution of the small pit is read as, where the pit has its memory of the same allocator; none where there is no pit.
+fn solution_read<A: Allocator + Copy + Drop>(
+    alloc: A,
+) -> Option<Result<Vec<(u32, u32), A>, TextError>> {
+    let builder = Builder::new(alloc, 4, 2, 1, 100_000).ok()?;
+    let instance = builder.build().ok()?;
+    Some(read_solution(alloc, b"2 1\n1 0\n0 0\n", &instance))
+}
+
 #[test]
 fn of_read_solution(rt: HostRuntime) -> Result<(), Fail> {
     for number in 1..100 {
         let heap = Refusing::new(rt.alloc(), number);
-        let Ok(builder) = Builder::new(&heap, 4, 2, 1, 100_000) else {
+        let Some(answer) = solution_read(&heap) else {
             continue;
         };
-        let Ok(instance) = builder.build() else {
-            continue;
-        };
-        let answer = read_solution(&heap, b"2 1\n1 0\n0 0\n", &instance);
-        if !heap.has_refused() {
+        if !heap.count().has_refused() {
             let wanted = [(0u32, 0u32), (1, 0), (2, 1)];
             assert_eq!(rt; answer?.as_slice(), wanted.as_slice());
             return Ok(());
@@ -74,17 +79,24 @@ fn of_read_solution(rt: HostRuntime) -> Result<(), Fail> {
     Err(Fail::from("never whole"))
 }
 
+/// The number of blocks of a small pit with these predecessors; none where there is no pit to begin with.
+fn precedence_read<A: Allocator + Copy + Drop>(alloc: A) -> Option<Result<u32, TextError>> {
+    let builder = Builder::new(alloc, 4, 2, 1, 100_000).ok()?;
+    match read_precedence(alloc, b"2 2 0 1\n1 1 0\n", builder) {
+        Ok(builder) => Some(Ok(builder.blocks())),
+        Err(error) => Some(Err(error)),
+    }
+}
+
 #[test]
 fn of_read_precedence(rt: HostRuntime) -> Result<(), Fail> {
     for number in 1..100 {
         let heap = Refusing::new(rt.alloc(), number);
-        let Ok(builder) = Builder::new(&heap, 4, 2, 1, 100_000) else {
+        let Some(answer) = precedence_read(&heap) else {
             continue;
         };
-        let answer = read_precedence(&heap, b"2 2 0 1\n1 1 0\n", builder);
-        if !heap.has_refused() {
-            let builder = answer?;
-            assert_eq!(rt; builder.blocks(), 4);
+        if !heap.count().has_refused() {
+            assert_eq!(rt; answer, Ok(4));
             return Ok(());
         }
         let cause = answer.err().map(|error| error.cause);
@@ -93,17 +105,24 @@ fn of_read_precedence(rt: HostRuntime) -> Result<(), Fail> {
     Err(Fail::from("never whole"))
 }
 
+/// The same with the places of two blocks.
+fn blocks_read<A: Allocator + Copy + Drop>(alloc: A) -> Option<Result<u32, TextError>> {
+    let builder = Builder::new(alloc, 4, 2, 1, 100_000).ok()?;
+    match read_blocks(b"2 2 1 0\n1 1 0 5\n", builder) {
+        Ok(builder) => Some(Ok(builder.blocks())),
+        Err(error) => Some(Err(error)),
+    }
+}
+
 #[test]
 fn of_read_blocks(rt: HostRuntime) -> Result<(), Fail> {
     for number in 1..100 {
         let heap = Refusing::new(rt.alloc(), number);
-        let Ok(builder) = Builder::new(&heap, 4, 2, 1, 100_000) else {
+        let Some(answer) = blocks_read(&heap) else {
             continue;
         };
-        let answer = read_blocks(b"2 2 1 0\n1 1 0 5\n", builder);
-        if !heap.has_refused() {
-            let builder = answer?;
-            assert_eq!(rt; builder.blocks(), 4);
+        if !heap.count().has_refused() {
+            assert_eq!(rt; answer, Ok(4));
             return Ok(());
         }
         let cause = answer.err().map(|error| error.cause);

@@ -3,12 +3,17 @@ use super::{
     BLOCK_RANGE, MALFORMED, PERIOD_RANGE, REPEATED, TOO_LARGE, TOO_LONG, built, fault, tiny,
 };
 use crate::{Cause, Key, read_solution};
+use std::alloc::Global;
 use std::test::Fail;
 
-// Four blocks and two periods.
+/// What a text is read as, as a solution of the small pit: four blocks and two periods.
+fn solution_of(alloc: Global, text: &[u8]) -> Result<Vec<(u32, u32)>, Fail> {
+    let instance = built(tiny(alloc)?)?;
+    Ok(read_solution(alloc, text, &instance)?)
+}
+
 #[test]
 fn solutions_that_are_read(rt: HostRuntime) -> Result<(), Fail> {
-    let instance = built(tiny(rt.alloc())?)?;
     let rows: [(&[u8], &[(u32, u32)]); 9] = [
         (b"", &[]),
         (b"EOF\n3 1", &[]),
@@ -22,7 +27,7 @@ fn solutions_that_are_read(rt: HostRuntime) -> Result<(), Fail> {
         (b"2 0\nEOF\n2 0\nx", &[(2, 0)]),
     ];
     for (text, wanted) in rows {
-        let solution = read_solution(rt.alloc(), text, &instance)?;
+        let solution = solution_of(rt.alloc(), text)?;
         assert_eq!(rt; solution.as_slice(), wanted, "of {text:?}");
     }
     Ok(())
@@ -78,7 +83,6 @@ fn lines_that_are_refused(rt: HostRuntime) -> Result<(), Fail> {
 // Four fields: a block, a destination, a period, and how much of the block is mined.
 #[test]
 fn solutions_of_four_fields(rt: HostRuntime) -> Result<(), Fail> {
-    let instance = built(tiny(rt.alloc())?)?;
     let rows: [(&[u8], &[(u32, u32)]); 6] = [
         (b"3 0 1 1.000000", &[(3, 1)]),
         (b"3 0 1 0", &[]),
@@ -89,7 +93,7 @@ fn solutions_of_four_fields(rt: HostRuntime) -> Result<(), Fail> {
         (b"3 1\n2 00 1 1", &[(2, 1), (3, 1)]),
     ];
     for (text, wanted) in rows {
-        let solution = read_solution(rt.alloc(), text, &instance)?;
+        let solution = solution_of(rt.alloc(), text)?;
         assert_eq!(rt; solution.as_slice(), wanted, "of {text:?}");
     }
     Ok(())

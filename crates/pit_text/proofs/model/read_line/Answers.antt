@@ -1,4 +1,4 @@
-use Rattle.std.proofs.Common.{ap, sym, ◌∙◌, inl, inr}
+use Rattle.std.proofs.Common.{ap, sym, ◌∙◌, inr}
 use Rattle.pit_text.specs.Left.{fields_left}
 use Rattle.pit_text.specs.Model.{skipped, section, entry, model_line}
 use Rattle.pit_text.proofs.ModelLines.{line_empty, line_section, line_entry, match_map, either_map}

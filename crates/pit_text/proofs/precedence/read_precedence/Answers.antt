@@ -1,11 +1,11 @@
-use Rattle.std.proofs.Common.{◌≡◌, ◌∷◌, ◌++◌, ℕ, ℤ, List, [], Err, inl, inr, refl, ap, sym, ◌∙◌}
+use Rattle.std.proofs.Common.{◌++◌, [], Err, refl, ap, sym, ◌∙◌}
 use Rattle.pit_model.specs.Pit.{Pit}
 use Rattle.pit_text.specs.Cutting.{cut_of}
 use Rattle.pit_text.specs.Left.{cut_seen, fields_left, lines_left}
 use Rattle.pit_text.specs.Precedence.{precedence_line, with_line}
 use Rattle.pit_text.proofs.ModelLines.{either_map}
 use Rattle.pit_text.proofs.Pits.{preds_none, preds_more, preds_judged}
-use Rattle.pit_text.proofs.Reading.{read_more, read_all}
+use Rattle.pit_text.proofs.Reading.{read_more}
 use Rattle.pit_text.proofs.precedence.read_precedence.Goals as goal
 
 pub loop-line-init : goal.loop-line-init

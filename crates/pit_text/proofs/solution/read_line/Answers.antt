@@ -1,6 +1,6 @@
 use Rattle.std.proofs.Common.{◌≡◌, ◌<◌, ℕ, Option, Some, None, Ok, is_some, true, ap, sym, ◌∙◌, slice_index_or}
 use Rattle.pit_text.specs.Left.{fields_left}
-use Rattle.pit_text.specs.Solution.{mined_of, period_in}
+use Rattle.pit_text.specs.Solution.{period_in}
 use Rattle.pit_text.proofs.Standing.{some_of, slots_more, slots_same, slot_is, is_none, line_none, line_new, line_again, line_bad}
 use Rattle.pit_text.proofs.solution.read_line.Goals as goal
 

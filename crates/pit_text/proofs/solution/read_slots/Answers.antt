@@ -1,4 +1,4 @@
-use Rattle.std.proofs.Common.{[], List, refl, rules, sym}
+use Rattle.std.proofs.Common.{[], refl, rules, sym}
 use Rattle.pit_text.specs.Cutting.{cut_of}
 use Rattle.pit_text.specs.Left.{cut_seen, lines_left}
 use Rattle.pit_text.specs.Solution.{solution_line}

@@ -1,4 +1,4 @@
-use Rattle.std.proofs.Common.{◌≡◌, ℕ, List, Option, length}
+use Rattle.std.proofs.Common.{ℕ, List, Option, length}
 use Rattle.pit_text.specs.Cutting.{cut_of}
 use Rattle.pit_text.specs.Left.{lines_left}
 use Rattle.pit_text.specs.Stands.{IsReadTo}
