@@ -20,6 +20,16 @@ pub fn write_value<W: Sink>(w: &mut W, value: i128) -> Result<(), WriteFault>
     write_fixed(w, value, 18)
 }
 
+/// Writes a load or a limit, in millionths: the same with 6 digits. Takes no memory.
+pub fn write_micro<W: Sink>(w: &mut W, value: i128) -> Result<(), WriteFault>
+    ensures ok { OnOk result (Appends (W.contents w.old) (W.contents w.new) (fixed_text 6 value)) }
+    ensures err { OnErr result (AppendsFront (W.contents w.old) (W.contents w.new) (fixed_text 6 value)) }
+    ensures fault { OnErr result (IsTrue (W.has_failed w.new)) }
+    ensures sound { OnOk result (IsFalse (W.has_failed w.new)) }
+{
+    write_fixed(w, value, 6)
+}
+
 /// Writes a number in units of 10^-`places`.
 fn write_fixed<W: Sink>(w: &mut W, value: i128, places: u32) -> Result<(), WriteFault>
     requires { (0 < places) × (places ≤ 18) }

@@ -32,6 +32,31 @@ fn values(rt: HostRuntime) -> Result<(), Fail> {
     Ok(())
 }
 
+// In millionths.
+#[test]
+fn loads_and_limits(rt: HostRuntime) -> Result<(), Fail> {
+    let rows: [(i128, &str); 8] = [
+        (1, "0.000001"),
+        (-500_000, "-0.500000"),
+        (0, "0.000000"),
+        (1_000_000, "1.000000"),
+        (-1, "-0.000001"),
+        (5_000_000, "5.000000"),
+        (999_999_999_999_999_999, "999999999999.999999"),
+        (i128::MIN, "-170141183460469231731687303715884.105728"),
+    ];
+    for (value, wanted) in rows {
+        let mut out = Out::new(Vec::new(rt.alloc()));
+        assert_eq!(rt; write_micro(&mut out, value), Ok(()));
+        assert_eq!(rt;
+            out.into_inner().as_slice(),
+            wanted.as_bytes(),
+            "of {value}"
+        );
+    }
+    Ok(())
+}
+
 #[test]
 fn texts_follow_each_other(rt: HostRuntime) -> Result<(), Fail> {
     let mut out = Out::new(Vec::new(rt.alloc()));

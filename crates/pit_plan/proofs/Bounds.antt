@@ -1,0 +1,21 @@
+-- How large the terms of sums are.
+use Rattle.std.proofs.Common.{ℕ, suc, ◌≤◌, ◌*◌, ℤ, pos, negsuc, ◌*ℤ◌, ◌≤ℤ◌, arith}
+use Rattle.std.proofs.lemmas.Int.{ints}
+use Rattle.std.proofs.lemmas.Nat.{mul-le}
+use Rattle.pit_num.specs.Within.{IsWithin}
+
+pub zero-within : (m : ℕ) → IsWithin m (pos 0)
+zero-within m = record { low = omega (arith, ints); high = omega (arith, ints) }
+
+pub product-within : (m k : ℕ) (p q : ℤ) → IsWithin m p → pos 0 ≤ℤ q → q ≤ℤ pos k → IsWithin (m * k) (p *ℤ q)
+product-within m k (pos a) (pos n) h low high =
+    let s : a ≤ m = omega (arith, ints, h.high) in
+    let l : n ≤ k = omega (arith, ints, high) in
+    let t : a * n ≤ m * k = mul-le a n m k s l in
+    record { low = omega (arith, ints, t); high = omega (arith, ints, t) }
+product-within m k (negsuc a) (pos n) h low high =
+    let s : suc a ≤ m = omega (arith, ints, h.low) in
+    let l : n ≤ k = omega (arith, ints, high) in
+    let t : suc a * n ≤ m * k = mul-le (suc a) n m k s l in
+    record { low = omega (arith, ints, t); high = omega (arith, ints, t) }
+product-within m k p (negsuc n) h low high = absurd (omega (arith, ints, low))

@@ -1,0 +1,60 @@
+-- Predecessors, which are rising lists.
+use Rattle.std.proofs.Common.{◌≡◌, ℕ, zero, suc, ◌<◌, ◌≤◌, true, false, List, [], length, get_or, Option, None, sym, ap, subst, ◌∙◌, arith, add-one, inl, inr, All}
+use Rattle.std.specs.List.Sorted.{IsStrictlyIncreasing}
+use Rattle.std.proofs.lemmas.Grind.{get_or_default_zero}
+use Rattle.std.proofs.lemmas.Bool.Decides.{eqb_tells, leb_tells}
+use Rattle.std.specs.Prelude.{unwrap_or}
+use Rattle.std.proofs.lemmas.List.{get_or_past}
+use Rattle.std.proofs.lemmas.List.Elements.{Contains-get_or, All-from_get_or, All-contains}
+use Rattle.pit_model.specs.Pit.{Pit, IsSound, preds_of}
+use Rattle.pit_plan.specs.Schedule.{in_order, IsPred}
+use Rattle.pit_plan.specs.InsideSchedule.{IsFirstLate}
+
+-- what stands later is no less
+pub rising-le : (xs : List ℕ) (j k : ℕ) → IsStrictlyIncreasing xs → j ≤ k → k < length xs → get_or xs j 0 ≤ get_or xs k 0
+rising-le xs j zero up l within = let e : j ≡ 0 = omega arith in rw e (omega arith)
+rising-le xs j (suc k) up l within =
+    elim (eqb_tells j (suc k)) [
+      | inl here ↦ rw here.1 (omega arith)
+      | inr before ↦
+          let rest = rising-le xs j k up (omega (arith, before.1)) (omega arith) in
+          let step = rw add-one at (up k (rw add-one within)) in
+          omega (arith, rest, step)
+    ]
+
+-- the first that fails, in a rising list, is the least that fails
+pub first_is_least : (schedule : ℕ → Option ℕ) (later : Option ℕ) (xs : List ℕ) (j : ℕ) → IsStrictlyIncreasing xs → j < length xs
+    → ((k : ℕ) → k < j → in_order later (schedule (get_or xs k 0)) ≡ true)
+    → in_order later (schedule (get_or xs j 0)) ≡ false
+    → IsFirstLate schedule later xs (get_or xs j 0)
+first_is_least schedule later xs j up within before fails =
+    record {
+      pred = Contains-get_or xs j 0 within;
+      fails = fails;
+      first = λ x has less.
+          let at : get_or xs has.0 0 ≡ x = sym (get_or_default_zero xs has.0 x has.1) ∙ has.2 in
+          let below : has.0 < j = elim (leb_tells j has.0) [ inr under ↦ under.1 | inl above ↦ absurd (omega (arith, rising-le xs j has.0 up above.1 has.1, at)) ] in
+          subst (λ y. in_order later (schedule y) ≡ true) at (before has.0 below);
+    }
+
+-- what holds below the place where the list ends holds of each
+pub all_in_order : (schedule : ℕ → Option ℕ) (later : Option ℕ) (xs : List ℕ) (n : ℕ) → length xs ≤ n
+    → ((k : ℕ) → k < n → in_order later (schedule (get_or xs k 0)) ≡ true)
+    → All (λ a. in_order later (schedule a) ≡ true) xs
+all_in_order schedule later xs n whole each = All-from_get_or (λ a. in_order later (schedule a) ≡ true) xs 0 (λ k below. each k (omega (arith, below)))
+
+-- no predecessors of what is no block
+preds-past : (pit : Pit) (b : ℕ) → IsSound pit → pit.blocks ≤ b → preds_of pit b ≡ []
+preds-past pit b sound past = ap (λ row. unwrap_or row []) (get_or_past pit.preds b None (omega (arith, sound.each_preds)))
+
+-- a predecessor and its successor are blocks
+pub pred-known : (pit : Pit) (b a : ℕ) → IsSound pit → IsPred pit b a → (b < pit.blocks) × (a < pit.blocks)
+pred-known pit b a sound is = (
+  elim (leb_tells pit.blocks b) [
+    | inr below ↦ below.1
+    | inl past ↦
+        let none : is.0 < 0 = subst (λ (xs : List ℕ). is.0 < length xs) (preds-past pit b sound past.1) is.1 in
+        absurd (omega arith)
+  ],
+  All-contains (λ x. x < pit.blocks) (preds_of pit b) a (sound.preds b).in_range is,
+)

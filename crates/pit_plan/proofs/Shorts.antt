@@ -1,0 +1,27 @@
+-- Lists of what stands at each number.
+use Rattle.std.proofs.Common.{◌≡◌, ℕ, ◌+◌, List, [], ◌∷◌, ◌++◌, refl, sym, ap, ◌∙◌, arith}
+use Rattle.std.specs.Prelude.{flat_map}
+use Rattle.std.specs.List.{range_with_len}
+use Rattle.std.proofs.lemmas.List.{map-id, flat_map_more}
+use Rattle.std.proofs.lemmas.List.FromFn.{map-range_with_len_more}
+
+pub flat_map-same : {X : Type 0} (f g : ℕ → List X) (ns : List ℕ) → ((n : ℕ) → f n ≡ g n) → flat_map f ns ≡ flat_map g ns
+flat_map-same f g [] h = refl
+flat_map-same f g (n ∷ ns) h =
+    let first = h n in
+    let more = flat_map-same f g ns h in
+    cc
+
+range-more : (n : ℕ) → range_with_len 0 (n + 1) ≡ range_with_len 0 n ++ n ∷ []
+range-more n =
+    sym (map-id (range_with_len 0 (n + 1)))
+    ∙ (map-range_with_len_more (λ k. k) 0 n n (omega arith) ∙ ap (λ ns. ns ++ n ∷ []) (map-id (range_with_len 0 n)))
+
+-- one more number
+pub flat_map-more : {X : Type 0} (f : ℕ → List X) (before : List X) (n : ℕ)
+    → (before ++ flat_map f (range_with_len 0 n)) ++ f n ≡ before ++ flat_map f (range_with_len 0 (n + 1))
+flat_map-more f before n = flat_map_more f before (range_with_len 0 n) n ∙ ap (λ ns. before ++ flat_map f ns) (sym (range-more n))
+
+pub flat_map-pushed : {X : Type 0} (f : ℕ → List X) (before list after : List X) (n : ℕ) → list ≡ before ++ flat_map f (range_with_len 0 n) → after ≡ list ++ f n
+    → after ≡ before ++ flat_map f (range_with_len 0 (n + 1))
+flat_map-pushed f before list after n is pushed = pushed ∙ (ap (λ xs. xs ++ f n) is ∙ flat_map-more f before n)

@@ -1,0 +1,25 @@
+-- Laws of sums over all blocks.
+use Rattle.std.proofs.Common.{◌≡◌, ℕ, zero, suc, ◌<◌, ◌+◌, ℤ, pos, ◌+ℤ◌, refl, sym, ap, ◌∙◌, arith, add-one}
+use Rattle.pit_plan.specs.Sums.{total}
+
+pub total-zero : (f : ℕ → ℤ) → total f 0 ≡ pos 0
+unfolding total
+total-zero f = refl
+
+-- one more block
+pub total-more : (f : ℕ → ℤ) (n : ℕ) → total f (n + 1) ≡ total f n +ℤ f n
+unfolding total
+total-more f n = rw (add-one) refl
+
+-- a sum that is kept while the blocks are gone over
+pub total-kept : (f : ℕ → ℤ) (n : ℕ) (sum term more : ℤ) → sum ≡ total f n → term ≡ f n → more ≡ sum +ℤ term → more ≡ total f (n + 1)
+total-kept f n sum term more is one e = e ∙ (ap (λ z. z +ℤ term) is ∙ (ap (λ z. total f n +ℤ z) one ∙ sym (total-more f n)))
+
+-- sums of equal terms are equal
+pub total-same : (f g : ℕ → ℤ) (n : ℕ) → ((b : ℕ) → b < n → f b ≡ g b) → total f n ≡ total g n
+unfolding total
+total-same f g zero h = refl
+total-same f g (suc n) h =
+    let rest = total-same f g n (λ b l. h b (omega arith)) in
+    let last = h n (omega arith) in
+    cc

@@ -1,0 +1,11 @@
+use Rattle.std.proofs.Common.{sym, ap, ◌∙◌}
+use Rattle.pit_plan.specs.Schedule.{Commit, last}
+use Rattle.std.specs.Prelude.{List}
+use Rattle.pit_plan.proofs.Same.{stands-kept}
+use Rattle.pit_plan.proofs.plan.Plan.version.Goals as goal
+
+pub returns : goal.returns
+returns g c =
+    c.last_in.ensures
+    ∙ (ap (λ (k : List Commit). last k c.args.b) c.deref.ensures.value
+    ∙ sym ((stands-kept c.self.inside.pit c.self.inside.kept.items c.args.self.now c.self.view_is).version c.args.b c.requires))

@@ -1,0 +1,7 @@
+pub mod Sums
+pub mod Schedule
+pub mod Standing
+pub mod Breaches
+pub mod Shortfalls
+pub mod InsidePlan
+pub mod InsideSchedule

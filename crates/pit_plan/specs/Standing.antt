@@ -1,0 +1,34 @@
+-- What contracts see of a plan.
+use Rattle.std.specs.Prelude.{◌≡◌, ◌≢◌, ℕ, ◌<◌, List, [], ◌∷◌, ◌++◌, length, Option, None, slice_index_or, All, AllPairs, IfSome}
+use Rattle.pit_model.specs.Pit.{Pit}
+use Rattle.pit_plan.specs.Schedule.{Commit, held, last}
+
+-- a plan: its pit, the number of commits, and for each block its period and the number of the last commit that named it
+pub record Standing : Type 0 where
+  pub pit : Pit
+  pub commits : ℕ
+  pub periods : List (Option ℕ)
+  pub versions : List ℕ
+
+abbrev pub period_of : Standing → ℕ → Option ℕ
+period_of plan b = slice_index_or plan.periods b None
+
+abbrev pub version_of : Standing → ℕ → ℕ
+version_of plan b = slice_index_or plan.versions b 0
+
+-- the plan is what the commits leave
+pub record StandsFor (plan : Standing) (commits : List Commit) : Type 0 where
+  pub count : plan.commits ≡ length commits
+  pub period : (b : ℕ) → b < plan.pit.blocks → period_of plan b ≡ held commits b
+  pub version : (b : ℕ) → b < plan.pit.blocks → version_of plan b ≡ last commits b
+
+-- writes that name blocks and periods of the pit, and no block twice
+pub record Fits (pit : Pit) (writes : Commit) : Type 0 where
+  pub blocks : All (λ w. w.0 < pit.blocks) writes
+  pub periods : All (λ w. IfSome w.1 (λ t. t < pit.periods)) writes
+  pub once : AllPairs (λ v w. v.0 ≢ w.0) writes
+
+-- the writes were added: whatever the plan stood for, it stands for that and then the writes
+pub record Adds (old : Standing) (writes : Commit) (new : Standing) : Type 0 where
+  pub pit : new.pit ≡ old.pit
+  pub stands : (commits : List Commit) → StandsFor old commits → StandsFor new (commits ++ writes ∷ [])

@@ -1,0 +1,20 @@
+//! Laws of the definitions, each as the contract of a function that does nothing.
+ghost use Rattle.std.specs.Prelude.{◌≡◌, ℕ, ℤ, ◌+◌, ◌++◌, ◌∷◌, [], List, length, Option, None, unwrap_or, is_some, if◌then◌else◌};
+ghost use Rattle.pit_model.specs.Pit.{Pit};
+ghost use Rattle.pit_plan.specs.Schedule.{Commit, said, held, last};
+ghost use Rattle.pit_plan.specs.Breaches.{IsFirstBreach};
+ghost use Rattle.pit_plan.specs.declared.breach.Breach.{Breach};
+
+/// A law of commits: what none leaves, and what one more at the end changes.
+pub fn commits_follow()
+    ensures held_none { (b : ℕ) → held [] b ≡ None }
+    ensures held_more { (commits : List Commit) (commit : Commit) (b : ℕ) → held (commits ++ commit ∷ []) b ≡ unwrap_or (said commit b) (held commits b) }
+    ensures last_none { (b : ℕ) → last [] b ≡ 0 }
+    ensures last_more { (commits : List Commit) (commit : Commit) (b : ℕ) → last (commits ++ commit ∷ []) b ≡ (if is_some (said commit b) then length commits + 1 else last commits b) }
+{}
+
+/// A law of breaches: a schedule has no two first breaches, and none where it is good.
+pub fn one_breach()
+    ensures { (pit : Pit) (schedule : ℕ → Option ℕ) (limit : ℕ → ℕ → Option ℤ) (breach other : Option Breach)
+        → IsFirstBreach pit schedule limit breach → IsFirstBreach pit schedule limit other → breach ≡ other }
+{}
