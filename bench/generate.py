@@ -1,19 +1,20 @@
 #!/usr/bin/env python3
 """Writes a made-up pit of NX by NY blocks on NZ benches, and a solution that mines it bench by bench.
 
-usage: bench/generate.py PREFIX NX NY NZ PERIODS SEED      writes PREFIX.cpit and PREFIX.sol
+usage: bench/generate.py PREFIX NX NY NZ PERIODS SEED [REACH]      writes PREFIX.cpit and PREFIX.sol
 
-Each block has a profit and coefficients for two resources. The same words always make the same files.
+Each block has a profit and coefficients for two resources. With REACH it writes PREFIX.prec and PREFIX.blocks too: a block has to be mined
+after those of the bench above that are at most REACH blocks away in either direction. The same words always make the same files.
 """
 import random
 import sys
 
 
 def main():
-    if len(sys.argv) != 7:
+    if len(sys.argv) not in (7, 8):
         sys.exit(__doc__)
     prefix = sys.argv[1]
-    nx, ny, nz, periods, seed = (int(word) for word in sys.argv[2:])
+    nx, ny, nz, periods, seed = (int(word) for word in sys.argv[2:7])
     blocks = nx * ny * nz
     draw = random.Random(seed)
     with open(prefix + ".cpit", "w", encoding="ascii", newline="\n") as model:
@@ -44,6 +45,26 @@ def main():
             period = depth * periods * 10 // (nz * 9)
             if period < periods:
                 solution.write(f"{block} {period}\n")
+    if len(sys.argv) == 8:
+        write_order(prefix, nx, ny, nz, int(sys.argv[7]))
+
+
+def write_order(prefix, nx, ny, nz, reach):
+    with open(prefix + ".prec", "w", encoding="ascii", newline="\n") as precedence, open(
+        prefix + ".blocks", "w", encoding="ascii", newline="\n"
+    ) as places:
+        for z in range(nz):
+            for y in range(ny):
+                for x in range(nx):
+                    block = (z * ny + y) * nx + x
+                    places.write(f"{block} {x} {y} {z}\n")
+                    above = [
+                        ((z + 1) * ny + j) * nx + i
+                        for j in range(max(0, y - reach), min(ny, y + reach + 1))
+                        for i in range(max(0, x - reach), min(nx, x + reach + 1))
+                        if z + 1 < nz
+                    ]
+                    precedence.write(" ".join(str(n) for n in [block, len(above), *above]) + "\n")
 
 
 main()
