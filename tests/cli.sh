@@ -72,7 +72,7 @@ printf '0 0\n1 0\n2 1\n' >solution
 # Refused at its first line, if anything reads it.
 printf 'no model\n' >refused
 mkdir folder
-# -10 + 20.5 and 30 in the second period are 10.5 * 0.909090909091 + 30 * 0.826446280992.
+# -10 + 20.5 in the first period, and 30 * 0.909090909091 in the second.
 readonly VALUE='37.772727272730000000'
 
 # Answers.
