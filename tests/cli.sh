@@ -69,6 +69,8 @@ RESOURCE_CONSTRAINT_LIMITS:
 EOF
 TEXT
 printf '0 0\n1 0\n2 1\n' >solution
+printf '1 1 0\n2 2 0 1\n' >precedence
+printf '2 0\n' >early
 # Refused at its first line, if anything reads it.
 printf 'no model\n' >refused
 mkdir folder
@@ -76,6 +78,13 @@ mkdir folder
 readonly VALUE='37.772727272730000000'
 
 # Answers.
+check 'check' 0 "value $VALUE
+fine" '' check model precedence solution
+check 'check, breach and shortfall' 1 'value 30.000000000000000000
+precedence 2 0
+short 0 1 0.000000 1.000000' '' check model precedence early
+check 'check, bad precedences' 2 '' 'pit: precedence line 1: bad number' check model refused solution
+check 'check, no precedences' 3 '' 'pit: cannot read precedence' check model absent solution
 check 'value' 0 "$VALUE" '' value model solution
 check 'value, files after --' 0 "$VALUE" '' value -- model solution
 

@@ -12,14 +12,22 @@ use std::io;
 /// The name of the argument for the model.
 pub const MODEL: &str = "MODEL";
 
+/// The name of the argument for the precedences.
+pub const PRECEDENCE: &str = "PREC";
+
 /// The name of the argument for the solution.
 pub const SOLUTION: &str = "SOLUTION";
 
 const MODEL_HELP: &str = "The model: a CPIT model text of MineLib";
 
+const PRECEDENCE_HELP: &str =
+    "The precedences: a line `BLOCK COUNT PREDECESSOR..` for each block that has predecessors";
+
 const SOLUTION_HELP: &str = "The solution: a line `BLOCK PERIOD` for each block that is mined";
 
 const VALUE_EXAMPLE: &str = "Example:\n  pit value tiny.cpit tiny.sol";
+
+const CHECK_EXAMPLE: &str = "Example:\n  pit check tiny.cpit tiny.prec tiny.sol";
 
 /// The words of the command line, the program's name first.
 pub fn words(rt: &HostRuntime) -> Result<Vec<String>, Fault> {
@@ -36,9 +44,10 @@ pub fn words(rt: &HostRuntime) -> Result<Vec<String>, Fault> {
 /// `pit`, with one subcommand for each engine.
 pub fn command<'a>(alloc: Global) -> Result<Command<'a>, AllocError> {
     Command::new(alloc, "pit")
-        .about("Values schedules of open pit mines")
+        .about("Values and checks schedules of open pit mines")
         .subcommand_required(true)
-        .subcommand(value_command(alloc)?)
+        .subcommand(value_command(alloc)?)?
+        .subcommand(check_command(alloc)?)
 }
 
 fn value_command<'a>(alloc: Global) -> Result<Command<'a>, AllocError> {
@@ -46,6 +55,15 @@ fn value_command<'a>(alloc: Global) -> Result<Command<'a>, AllocError> {
         .about("Prints the discounted value of a solution")
         .after_help(VALUE_EXAMPLE)
         .arg(file(alloc, MODEL, MODEL_HELP))?
+        .arg(file(alloc, SOLUTION, SOLUTION_HELP))
+}
+
+fn check_command<'a>(alloc: Global) -> Result<Command<'a>, AllocError> {
+    Command::new(alloc, "check")
+        .about("Prints the value of a solution, its first breach and its shortfalls")
+        .after_help(CHECK_EXAMPLE)
+        .arg(file(alloc, MODEL, MODEL_HELP))?
+        .arg(file(alloc, PRECEDENCE, PRECEDENCE_HELP))?
         .arg(file(alloc, SOLUTION, SOLUTION_HELP))
 }
 

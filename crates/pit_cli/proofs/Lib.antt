@@ -1,2 +1,4 @@
 pub mod Sums
 pub mod Known
+pub mod Schedules
+pub mod Shorts

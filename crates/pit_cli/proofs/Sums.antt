@@ -37,7 +37,7 @@ unfolding value_of
 value_of-push pit [] p = omega (arith, ints)
 value_of-push pit (q ∷ pairs) p = omega (arith, ints, value_of-push pit pairs p)
 
-take-push : {X : Type 0} (xs : List X) (i : ℕ) (d : X) → i < length xs → take (i + 1) xs ≡ take i xs ++ slice_index_or xs i d ∷ []
+pub take-push : {X : Type 0} (xs : List X) (i : ℕ) (d : X) → i < length xs → take (i + 1) xs ≡ take i xs ++ slice_index_or xs i d ∷ []
 take-push [] i d below = absurd (omega arith)
 take-push (x ∷ xs) zero d below = refl
 take-push (x ∷ xs) (suc i) d below = rw add-one (ap (λ ys. x ∷ ys) (sym (ap (λ (n : ℕ). take n xs) (add-one i)) ∙ take-push xs i d (omega arith)))

@@ -1,16 +1,18 @@
 -- What an engine answers to what its devices gave.
-use Rattle.std.specs.Prelude.{◌≡◌, ℕ, ℤ, ◌^◌, ◌<◌, ◌≤◌, ◌++◌, ◌∷◌, [], Bool, true, false, List, length, Option, ◌⊎◌}
+use Rattle.std.specs.Prelude.{◌≡◌, ℕ, ℤ, ◌^◌, ◌<◌, ◌≤◌, Bool, true, false, List, length, Option, ◌⊎◌}
 use Rattle.std.specs.Io.KnownBytes.{Appends, Consumes, IsAtEnd, Keeps}
-use Rattle.pit_num.specs.Printed.{fixed_text, AppendsFront}
+use Rattle.pit_num.specs.Printed.{AppendsFront}
 use Rattle.pit_text.specs.declared.error.TextError.{TextError}
 use Rattle.pit_text.specs.Cutting.{cut_of, end_line}
 use Rattle.pit_text.specs.Stands.{StandsFor, FailsFirst, StandsWhole, FailsWhole}
 use Rattle.pit_text.specs.Model.{Fact, model_line, model_end, pit_of}
 use Rattle.pit_model.specs.Pit.{Pit}
+use Rattle.pit_text.specs.Precedence.{precedence_line, pit_with_preds}
 use Rattle.pit_text.specs.Solution.{solution_line, period_in, scheduled}
 use Rattle.pit_cli.specs.Sum.{value_of}
 use Rattle.pit_cli.specs.declared.input.Input.{Input}
-use Rattle.pit_cli.specs.declared.input.Input.TheVariants.{Model, Solution}
+use Rattle.pit_cli.specs.declared.input.Input.TheVariants.{Model, Precedence, Solution}
+use Rattle.pit_cli.specs.CheckText.{value_text}
 use Rattle.pit_cli.specs.declared.fault.CliFault.{CliFault}
 use Rattle.pit_cli.specs.declared.fault.CliFault.TheVariants.{Text, TooLong, CannotRead, CannotWrite, NoMemory}
 
@@ -57,6 +59,15 @@ pub record IsModel (bytes : List ℕ) (pit : Pit) : Type 0 where
 abbrev pub IsBadModel : List ℕ → TextError → Type 0
 IsBadModel bytes error = FailsWhole model_line model_end (cut_of bytes) (end_line bytes) error.line error.cause
 
+-- precedences that stand for a pit, of one that is given; and one with its first fault
+pub record IsOrder (given : Pit) (bytes : List ℕ) (pit : Pit) : Type 0 where
+  pub facts : List (ℕ × List ℕ)
+  pub stands : StandsFor (precedence_line given) (cut_of bytes) facts
+  pub says : pit ≡ pit_with_preds given facts
+
+abbrev pub IsBadOrder : Pit → List ℕ → TextError → Type 0
+IsBadOrder given bytes error = FailsFirst (precedence_line given) (cut_of bytes) error.line error.cause
+
 -- a solution of a pit, its blocks with their periods by rising block, and one with its first fault
 pub record IsSolutionOf (pit : Pit) (bytes : List ℕ) (solution : List (ℕ × ℕ)) : Type 0 where
   pub facts : List (Option (ℕ × ℕ))
@@ -76,28 +87,24 @@ IsInputFault source file NoMemory = source.failed ≡ false
 IsInputFault source file (Text f error) = ⊥
 IsInputFault source file CannotWrite = ⊥
 
--- of a model's text, and of a solution's
+-- of its text, which has this first fault
+abbrev pub IsTextFault : Input → (TextError → Type 0) → CliFault → Type 0
+IsTextFault file IsBad (Text f error) = (f ≡ file) × IsBad error
+IsTextFault file IsBad NoMemory = Unit {0}
+IsTextFault file IsBad (TooLong f) = ⊥
+IsTextFault file IsBad (CannotRead f) = ⊥
+IsTextFault file IsBad CannotWrite = ⊥
+
 abbrev pub IsModelFault : List ℕ → CliFault → Type 0
-IsModelFault bytes (Text Model error) = IsBadModel bytes error
-IsModelFault bytes (Text Solution error) = ⊥
-IsModelFault bytes NoMemory = Unit {0}
-IsModelFault bytes (TooLong f) = ⊥
-IsModelFault bytes (CannotRead f) = ⊥
-IsModelFault bytes CannotWrite = ⊥
+IsModelFault bytes = IsTextFault Model (IsBadModel bytes)
+
+abbrev pub IsOrderFault : Pit → List ℕ → CliFault → Type 0
+IsOrderFault given bytes = IsTextFault Precedence (IsBadOrder given bytes)
 
 abbrev pub IsSolutionFault : Pit → List ℕ → CliFault → Type 0
-IsSolutionFault pit bytes (Text Model error) = ⊥
-IsSolutionFault pit bytes (Text Solution error) = IsBadSolution pit bytes error
-IsSolutionFault pit bytes NoMemory = Unit {0}
-IsSolutionFault pit bytes (TooLong f) = ⊥
-IsSolutionFault pit bytes (CannotRead f) = ⊥
-IsSolutionFault pit bytes CannotWrite = ⊥
+IsSolutionFault pit bytes = IsTextFault Solution (IsBadSolution pit bytes)
 
 -- ---- the value of a solution
-
--- a value, and a line feed
-abbrev pub value_text : ℤ → List ℕ
-value_text value = fixed_text 18 value ++ 10 ∷ []
 
 -- the model was read, and stands for a pit
 pub record ReadsPit (model : Reading) (pit : Pit) : Type 0 where

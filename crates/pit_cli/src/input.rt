@@ -4,6 +4,7 @@ use std::fmt;
 #[derive(Clone, Copy, Debug, PartialEq, Eq)]
 pub enum Input {
     Model,
+    Precedence,
     Solution,
 }
 
@@ -16,6 +17,7 @@ impl fmt::Display for Input {
     fn fmt<W: fmt::Write>(&self, f: &mut fmt::Formatter<W>) -> fmt::Result {
         match self {
             Input::Model => write!(f, "model"),
+            Input::Precedence => write!(f, "precedence"),
             Input::Solution => write!(f, "solution"),
         }
     }

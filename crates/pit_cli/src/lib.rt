@@ -4,6 +4,8 @@
 //! of what its inputs stand for, or nothing where an input has a fault; the fault is the first one.
 #![tactic(auto)]
 
+mod check_text;
+mod checking;
 mod engine;
 mod fault;
 mod input;
@@ -13,7 +15,9 @@ mod status;
 mod sum;
 #[cfg(test)]
 mod tests;
+mod text;
 
+pub use checking::check;
 pub use engine::value;
 pub use fault::CliFault;
 pub use input::Input;

@@ -1,13 +1,13 @@
-ghost use Rattle.std.specs.Prelude.{IfOk, MatchResult};
+ghost use Rattle.std.specs.Prelude.{◌≡◌, IfOk, MatchResult};
 ghost use Rattle.pit_text.specs.Solution.{IsSolution};
-ghost use Rattle.pit_cli.specs.Outcome.{reading, IsWhole, IsModel, IsSolutionOf, IsInputFault, IsModelFault, IsSolutionFault};
+ghost use Rattle.pit_cli.specs.Outcome.{reading, IsWhole, IsModel, IsOrder, IsSolutionOf, IsInputFault, IsModelFault, IsOrderFault, IsSolutionFault};
 
 use super::fault::CliFault;
 use super::input::Input;
 use super::read::{ReadError, read_all};
-use pit_model::Instance;
+use pit_model::{Builder, Instance};
 use pit_num::Source;
-use pit_text::{Cause, read_model, read_solution};
+use pit_text::{Cause, read_model, read_precedence, read_solution};
 use std::alloc::Allocator;
 
 /// The bytes of an input.
@@ -27,23 +27,47 @@ pub(crate) fn bytes_of<A: Allocator, R: Source>(
     }
 }
 
-/// The pit of a model.
-pub(crate) fn instance_of<A: Allocator + Copy + Drop>(
+/// The pit of a model, to which facts can be added.
+pub(crate) fn builder_of<A: Allocator + Copy + Drop>(
     alloc: A,
     model: &[u8],
-) -> Result<Instance<A>, CliFault>
+) -> Result<Builder<A>, CliFault>
     ensures { MatchResult result (IsModel model.now) (IsModelFault model.now) }
 {
-    let builder = match read_model(alloc, model) {
-        Ok(builder) => builder,
-        Err(error) if error.cause == Cause::NoMemory => return Err(CliFault::NoMemory),
-        Err(error) => {
-            return Err(CliFault::Text {
-                file: Input::Model,
-                error,
-            });
-        }
-    };
+    match read_model(alloc, model) {
+        Ok(builder) => Ok(builder),
+        Err(error) if error.cause == Cause::NoMemory => Err(CliFault::NoMemory),
+        Err(error) => Err(CliFault::Text {
+            file: Input::Model,
+            error,
+        }),
+    }
+}
+
+/// The pit with the precedences of a text.
+pub(crate) fn ordered<A: Allocator + Copy + Drop>(
+    alloc: A,
+    precedence: &[u8],
+    given: Builder<A>,
+) -> Result<Builder<A>, CliFault>
+    ensures { MatchResult result (IsOrder given precedence.now) (IsOrderFault given precedence.now) }
+{
+    match read_precedence(alloc, precedence, given) {
+        Ok(builder) => Ok(builder),
+        Err(error) if error.cause == Cause::NoMemory => Err(CliFault::NoMemory),
+        Err(error) => Err(CliFault::Text {
+            file: Input::Precedence,
+            error,
+        }),
+    }
+}
+
+/// The pit as it was set.
+pub(crate) fn built<A: Allocator + Copy + Drop>(
+    builder: Builder<A>,
+) -> Result<Instance<A>, CliFault>
+    ensures { MatchResult result (λ instance. instance ≡ builder) (λ fault. fault ≡ CliFault.NoMemory) }
+{
     match builder.build() {
         Ok(instance) => Ok(instance),
         Err(_) => Err(CliFault::NoMemory),

@@ -1,5 +1,6 @@
 //! The engine against answers that were calculated by hand, devices that fail, and want of memory.
 mod broken;
+mod checks;
 mod devices;
 mod faults;
 mod memory;

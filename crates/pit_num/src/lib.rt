@@ -23,7 +23,7 @@ pub use parse::{
     DIGITS_MAX, EXPONENT_DIGITS_MAX, NumError, micro_from_bytes, parse_micro, parse_whole,
     whole_from_bytes,
 };
-pub use print::{WriteFault, write_micro, write_text, write_value};
+pub use print::{WriteFault, write_micro, write_text, write_value, write_whole};
 pub use rounding::nearest_is_greatest;
 pub use sink::{Out, Sink};
 pub use source::{In, Source};

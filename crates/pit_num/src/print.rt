@@ -1,4 +1,4 @@
-ghost use Rattle.std.specs.Prelude.{◌≡◌, ◌<◌, ◌≤◌, [], IsTrue, IsFalse, IsOk, OnErr, OnOk, length};
+ghost use Rattle.std.specs.Prelude.{◌≡◌, ◌<◌, ◌≤◌, [], IsTrue, IsFalse, IsOk, OnErr, OnOk, decimal, length};
 ghost use Rattle.std.specs.Io.KnownBytes.{Appends};
 ghost use Rattle.pit_num.specs.Printed.{unsigned_text, fixed_text, AppendsFront};
 
@@ -28,6 +28,17 @@ pub fn write_micro<W: Sink>(w: &mut W, value: i128) -> Result<(), WriteFault>
     ensures sound { OnOk result (IsFalse (W.has_failed w.new)) }
 {
     write_fixed(w, value, 6)
+}
+
+/// Writes a whole number. Takes no memory.
+pub fn write_whole<W: Sink>(w: &mut W, n: u32) -> Result<(), WriteFault>
+    ensures ok { OnOk result (Appends (W.contents w.old) (W.contents w.new) (decimal n)) }
+    ensures err { OnErr result (AppendsFront (W.contents w.old) (W.contents w.new) (decimal n)) }
+    ensures fault { OnErr result (IsTrue (W.has_failed w.new)) }
+    ensures sound { OnOk result (IsFalse (W.has_failed w.new)) }
+{
+    let mut buffer = Buffer::new();
+    write_text(w, buffer.format(n).as_bytes())
 }
 
 /// Writes a number in units of 10^-`places`.

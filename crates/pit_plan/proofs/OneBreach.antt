@@ -4,8 +4,8 @@ use Rattle.std.proofs.lemmas.Bool.{true≢false}
 use Rattle.std.proofs.lemmas.Bool.Decides.{eqb_tells, leb_tells}
 use Rattle.std.proofs.lemmas.Option.{same_Some}
 use Rattle.pit_model.specs.Pit.{Pit}
-use Rattle.pit_plan.specs.Schedule.{load_of, in_order, is_within, IsPred}
-use Rattle.pit_plan.specs.Breaches.{ComesBefore, IsOrdered, IsGood, IsFirstOutOfOrder, IsFirstOver, IsFirstBreach}
+use Rattle.pit_plan.specs.Schedule.{load_of, in_order, is_within}
+use Rattle.pit_plan.specs.Breaches.{ComesBefore, IsOrdered, IsFirstOutOfOrder, IsFirstOver, IsFirstBreach}
 use Rattle.pit_plan.specs.declared.breach.Breach.{Breach}
 use Rattle.pit_plan.specs.declared.breach.Breach.TheVariants.{Precedence, Over}
 

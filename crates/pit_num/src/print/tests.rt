@@ -58,6 +58,16 @@ fn loads_and_limits(rt: HostRuntime) -> Result<(), Fail> {
 }
 
 #[test]
+fn whole_numbers(rt: HostRuntime) -> Result<(), Fail> {
+    for (n, wanted) in [(0, "0"), (7, "7"), (4_294_967_295, "4294967295")] {
+        let mut out = Out::new(Vec::new(rt.alloc()));
+        assert_eq!(rt; write_whole(&mut out, n), Ok(()));
+        assert_eq!(rt; out.into_inner().as_slice(), wanted.as_bytes());
+    }
+    Ok(())
+}
+
+#[test]
 fn texts_follow_each_other(rt: HostRuntime) -> Result<(), Fail> {
     let mut out = Out::new(Vec::new(rt.alloc()));
     write_text(&mut out, b"value ")?;

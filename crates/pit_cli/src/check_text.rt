@@ -1,0 +1,141 @@
+//! The lines of `check`.
+ghost use Rattle.std.specs.Prelude.{◌≡◌, ◌++◌, OnOk, codes, decimal};
+ghost use Rattle.std.specs.Io.KnownBytes.{Appends};
+ghost use Rattle.pit_num.specs.Printed.{fixed_text};
+ghost use Rattle.pit_cli.specs.CheckText.{load_text, pair_text, breach_text, short_text, shorts_text, is_fine as fine_of, fine_text, check_text};
+
+use super::engine::write_line;
+use pit_num::{Sink, WriteFault, write_micro, write_text, write_whole};
+use pit_plan::{Breach, Short};
+
+/// The value, the first breach where there is one, the shortfalls, and `fine` where there is neither.
+pub(crate) fn write_check<W: Sink>(
+    w: &mut W,
+    value: i128,
+    breach: Option<Breach>,
+    shorts: &[Short],
+) -> Result<(), WriteFault>
+    ensures { OnOk result (Appends (W.contents w.old) (W.contents w.new) (check_text value breach shorts.now)) }
+{
+    write_text(w, b"value ")?;
+    write_line(w, value)?;
+    write_breach(w, breach)?;
+    write_shorts(w, shorts)?;
+    write_fine(w, is_fine(breach, shorts))
+}
+
+/// Whether nothing is broken and nothing falls short.
+pub(crate) fn is_fine(breach: Option<Breach>, shorts: &[Short]) -> bool
+    ensures { result ≡ fine_of breach shorts.now }
+{
+    match (breach, shorts) {
+        (None, []) => true,
+        _ => false,
+    }
+}
+
+fn write_fine<W: Sink>(w: &mut W, is_fine: bool) -> Result<(), WriteFault>
+    ensures { OnOk result (Appends (W.contents w.old) (W.contents w.new) (fine_text is_fine)) }
+{
+    match is_fine {
+        true => write_text(w, b"fine\n"),
+        false => write_text(w, b""),
+    }
+}
+
+fn write_breach<W: Sink>(w: &mut W, breach: Option<Breach>) -> Result<(), WriteFault>
+    ensures { OnOk result (Appends (W.contents w.old) (W.contents w.new) (breach_text breach)) }
+{
+    match breach {
+        None => write_text(w, b""),
+        Some(Breach::Precedence { block, before }) => write_precedence(w, block, before),
+        Some(
+            Breach::Over {
+                resource,
+                period,
+                load,
+                limit,
+            },
+        ) => write_over(w, resource, period, load, limit),
+    }
+}
+
+fn write_precedence<W: Sink>(w: &mut W, block: u32, before: u32) -> Result<(), WriteFault>
+    ensures { OnOk result (Appends (W.contents w.old) (W.contents w.new) (codes "precedence " ++ pair_text block before)) }
+{
+    write_text(w, b"precedence ")?;
+    write_pair(w, block, before)
+}
+
+fn write_over<W: Sink>(
+    w: &mut W,
+    resource: u32,
+    period: u32,
+    load: i128,
+    limit: i64,
+) -> Result<(), WriteFault>
+    ensures { OnOk result (Appends (W.contents w.old) (W.contents w.new) (codes "over " ++ load_text resource period load limit)) }
+{
+    write_text(w, b"over ")?;
+    write_load(w, resource, period, load, i128::from(limit))
+}
+
+fn write_shorts<W: Sink>(w: &mut W, shorts: &[Short]) -> Result<(), WriteFault>
+    ensures { OnOk result (Appends (W.contents w.old) (W.contents w.new) (shorts_text shorts.now)) }
+{
+    for short in shorts {
+        write_short(w, *short)?;
+    }
+    Ok(())
+}
+
+fn write_short<W: Sink>(w: &mut W, short: Short) -> Result<(), WriteFault>
+    ensures { OnOk result (Appends (W.contents w.old) (W.contents w.new) (short_text short)) }
+{
+    write_text(w, b"short ")?;
+    write_load(
+        w,
+        short.resource,
+        short.period,
+        short.load,
+        i128::from(short.limit),
+    )
+}
+
+fn write_pair<W: Sink>(w: &mut W, block: u32, before: u32) -> Result<(), WriteFault>
+    ensures { OnOk result (Appends (W.contents w.old) (W.contents w.new) (pair_text block before)) }
+{
+    write_field(w, block, b" ")?;
+    write_field(w, before, b"\n")
+}
+
+fn write_load<W: Sink>(
+    w: &mut W,
+    resource: u32,
+    period: u32,
+    load: i128,
+    limit: i128,
+) -> Result<(), WriteFault>
+    ensures { OnOk result (Appends (W.contents w.old) (W.contents w.new) (load_text resource period load limit)) }
+{
+    write_field(w, resource, b" ")?;
+    write_field(w, period, b" ")?;
+    write_amount(w, load, b" ")?;
+    write_amount(w, limit, b"\n")
+}
+
+/// A whole number, and the byte behind it.
+fn write_field<W: Sink>(w: &mut W, n: u32, end: &[u8; 1]) -> Result<(), WriteFault>
+    ensures { OnOk result (Appends (W.contents w.old) (W.contents w.new) (decimal n ++ end.now)) }
+{
+    write_whole(w, n)?;
+    write_text(w, end)
+}
+
+/// A number of millionths, and the byte behind it.
+fn write_amount<W: Sink>(w: &mut W, z: i128, end: &[u8; 1]) -> Result<(), WriteFault>
+    ensures { OnOk result (Appends (W.contents w.old) (W.contents w.new) (fixed_text 6 z ++ end.now)) }
+{
+    write_micro(w, z)?;
+    write_text(w, end)
+}
