@@ -5,3 +5,4 @@ pub mod Commits
 pub mod Shorts
 pub mod Same
 pub mod OneBreach
+pub mod SomeBreach

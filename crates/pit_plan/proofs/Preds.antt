@@ -1,5 +1,5 @@
 -- Predecessors, which are rising lists.
-use Rattle.std.proofs.Common.{◌≡◌, ℕ, zero, suc, ◌<◌, ◌≤◌, true, false, List, [], length, get_or, Option, None, sym, ap, subst, ◌∙◌, arith, add-one, inl, inr, All}
+use Rattle.std.proofs.Common.{◌≡◌, ℕ, zero, suc, ◌<◌, ◌≤◌, true, false, List, [], length, get_or, Option, None, sym, subst, ◌∙◌, arith, add-one, inl, inr, All}
 use Rattle.std.specs.List.Sorted.{IsStrictlyIncreasing}
 use Rattle.std.proofs.lemmas.Grind.{get_or_default_zero}
 use Rattle.std.proofs.lemmas.Bool.Decides.{eqb_tells, leb_tells}
@@ -43,18 +43,17 @@ pub all_in_order : (schedule : ℕ → Option ℕ) (later : Option ℕ) (xs : Li
     → All (λ a. in_order later (schedule a) ≡ true) xs
 all_in_order schedule later xs n whole each = All-from_get_or (λ a. in_order later (schedule a) ≡ true) xs 0 (λ k below. each k (omega (arith, below)))
 
--- no predecessors of what is no block
-preds-past : (pit : Pit) (b : ℕ) → IsSound pit → pit.blocks ≤ b → preds_of pit b ≡ []
-preds-past pit b sound past = ap (λ row. unwrap_or row []) (get_or_past pit.preds b None (omega (arith, sound.each_preds)))
+-- what has a predecessor is listed
+pub pred-listed : (pit : Pit) (b a : ℕ) → IsPred pit b a → b < length pit.preds
+pred-listed pit b a is =
+    elim (leb_tells (length pit.preds) b) [
+      | inr below ↦ below.1
+      | inl past ↦
+          let none : is.0 < 0 = subst (λ (row : Option (List ℕ)). is.0 < length (unwrap_or row [])) (get_or_past pit.preds b None past.1) is.1 in
+          absurd (omega arith)
+    ]
 
 -- a predecessor and its successor are blocks
 pub pred-known : (pit : Pit) (b a : ℕ) → IsSound pit → IsPred pit b a → (b < pit.blocks) × (a < pit.blocks)
-pred-known pit b a sound is = (
-  elim (leb_tells pit.blocks b) [
-    | inr below ↦ below.1
-    | inl past ↦
-        let none : is.0 < 0 = subst (λ (xs : List ℕ). is.0 < length xs) (preds-past pit b sound past.1) is.1 in
-        absurd (omega arith)
-  ],
-  All-contains (λ x. x < pit.blocks) (preds_of pit b) a (sound.preds b).in_range is,
-)
+pred-known pit b a sound is =
+    (omega (arith, pred-listed pit b a is, sound.each_preds), All-contains (λ x. x < pit.blocks) (preds_of pit b) a (sound.preds b).in_range is)

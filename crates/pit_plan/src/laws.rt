@@ -13,8 +13,9 @@ pub fn commits_follow()
     ensures last_more { (commits : List Commit) (commit : Commit) (b : ℕ) → last (commits ++ commit ∷ []) b ≡ (if is_some (said commit b) then length commits + 1 else last commits b) }
 {}
 
-/// A law of breaches: a schedule has no two first breaches, and none where it is good.
+/// A law of breaches: each schedule is good or has a first breach, and never both, nor two of them.
 pub fn one_breach()
-    ensures { (pit : Pit) (schedule : ℕ → Option ℕ) (limit : ℕ → ℕ → Option ℤ) (breach other : Option Breach)
+    ensures some { (pit : Pit) (schedule : ℕ → Option ℕ) (limit : ℕ → ℕ → Option ℤ) → (breach : Option Breach) × IsFirstBreach pit schedule limit breach }
+    ensures same { (pit : Pit) (schedule : ℕ → Option ℕ) (limit : ℕ → ℕ → Option ℤ) (breach other : Option Breach)
         → IsFirstBreach pit schedule limit breach → IsFirstBreach pit schedule limit other → breach ≡ other }
 {}
