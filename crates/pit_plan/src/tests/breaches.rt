@@ -1,6 +1,8 @@
 //! The first of several breaches.
-use super::{Coef, Fact, Limit, Preds, Writes, apply, planned};
+use super::{Coef, Fact, Limit, Preds, Writes, assert_breach, written};
 use crate::Breach;
+use std::alloc::Allocator;
+use std::process::Abort;
 use std::test::Fail;
 
 /// Blocks 2 and 3 have predecessors, and each load has an upper limit.
@@ -42,6 +44,19 @@ fn precedence(block: u32, before: u32) -> Option<Breach> {
     Some(Breach::Precedence { block, before })
 }
 
+/// Compares the first breach that one commit leaves.
+fn assert_row<A: Allocator + Copy + Drop>(
+    rt: &impl Abort,
+    alloc: A,
+    facts: &[Fact],
+    row: (Writes, Option<Breach>),
+) -> Result<(), Fail> {
+    let (writes, wanted) = row;
+    let plan = written(rt, alloc, facts, writes)?;
+    assert_breach(rt, &plan, wanted);
+    Ok(())
+}
+
 /// Of the pairs the least by block and then by predecessor, and a pair before any load.
 #[test]
 fn finds_the_first_pair(rt: HostRuntime) -> Result<(), Fail> {
@@ -64,10 +79,8 @@ fn finds_the_first_pair(rt: HostRuntime) -> Result<(), Fail> {
             precedence(2, 1),
         ),
     ];
-    for (writes, wanted) in rows {
-        let mut plan = planned(rt.alloc(), LIMITED)?;
-        apply(&rt, &mut plan, writes)?;
-        assert_eq!(rt; plan.check(), *wanted);
+    for row in rows {
+        assert_row(&rt, rt.alloc(), LIMITED, *row)?;
     }
     Ok(())
 }
@@ -93,10 +106,8 @@ fn finds_the_first_load(rt: HostRuntime) -> Result<(), Fail> {
             over(0, 1, 4, 2),
         ),
     ];
-    for (writes, wanted) in rows {
-        let mut plan = planned(rt.alloc(), LIMITED)?;
-        apply(&rt, &mut plan, writes)?;
-        assert_eq!(rt; plan.check(), *wanted);
+    for row in rows {
+        assert_row(&rt, rt.alloc(), LIMITED, *row)?;
     }
     Ok(())
 }
@@ -112,10 +123,8 @@ fn compares_numbers_below_zero(rt: HostRuntime) -> Result<(), Fail> {
         (&[(0, Some(1))], over(1, 0, 0, -1)),
         (&[(0, Some(0)), (2, Some(1))], over(1, 1, 2, 0)),
     ];
-    for (writes, wanted) in rows {
-        let mut plan = planned(rt.alloc(), NEGATIVE)?;
-        apply(&rt, &mut plan, writes)?;
-        assert_eq!(rt; plan.check(), *wanted);
+    for row in rows {
+        assert_row(&rt, rt.alloc(), NEGATIVE, *row)?;
     }
     Ok(())
 }

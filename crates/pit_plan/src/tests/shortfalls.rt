@@ -1,6 +1,8 @@
 //! The loads that are below their lower limits.
-use super::{Coef, Fact, Limit, Writes, apply, planned};
+use super::{Coef, Fact, Limit, Writes, assert_shortfalls, written};
 use crate::Short;
+use std::alloc::Allocator;
+use std::process::Abort;
 use std::test::Fail;
 
 /// Loads of which all but one have a lower limit.
@@ -22,6 +24,17 @@ fn short(resource: u32, period: u32, load: i128, limit: i64) -> Short {
     }
 }
 
+/// Compares the shortfalls that one commit leaves.
+fn assert_row<A: Allocator + Copy + Drop>(
+    rt: &impl Abort,
+    alloc: A,
+    row: (Writes, &[Short]),
+) -> Result<(), Fail> {
+    let (writes, wanted) = row;
+    let plan = written(rt, alloc, FACTS, writes)?;
+    assert_shortfalls(rt, &plan, wanted)
+}
+
 /// By rising period, and in it by rising resource. A load that is equal to its limit is not below it.
 #[test]
 fn lists_each_shortfall(rt: HostRuntime) -> Result<(), Fail> {
@@ -32,10 +45,8 @@ fn lists_each_shortfall(rt: HostRuntime) -> Result<(), Fail> {
         (&[(0, Some(1))], &[short(0, 0, 0, 2), short(1, 1, -2, 0)]),
         (&[(0, Some(0)), (1, Some(0))], &[short(1, 0, -2, -1)]),
     ];
-    for (writes, wanted) in rows {
-        let mut plan = planned(rt.alloc(), FACTS)?;
-        apply(&rt, &mut plan, writes)?;
-        assert_eq!(rt; plan.shortfalls()?.as_slice(), *wanted);
+    for row in rows {
+        assert_row(&rt, rt.alloc(), *row)?;
     }
     Ok(())
 }

@@ -1,6 +1,9 @@
 //! The tiny pit, worked by hand.
-use super::{Reading, TINY, Writes, apply, judge, planned, read};
-use crate::{Breach, Plan, Short};
+use super::{
+    IDLE, Reading, TINY, Writes, apply, assert_breach, assert_shortfalls, judge, planned, read,
+    written,
+};
+use crate::{Breach, Plan};
 use pit_num::NoMemory;
 use std::alloc::Allocator;
 use std::process::Abort;
@@ -65,118 +68,120 @@ const STEPS: &[(Writes, Reading)] = &[
 #[test]
 fn follows_the_commits(rt: HostRuntime) -> Result<(), Fail> {
     let mut plan = planned(rt.alloc(), TINY)?;
-    for step in STEPS {
-        follow(&rt, &mut plan, *step)?;
-    }
-    assert_eq!(rt; plan.into_instance().blocks(), 4);
+    follow(&rt, &mut plan)?;
+    assert_pit(&rt, plan);
     Ok(())
 }
 
-fn follow<A: Allocator + Copy + Drop>(
-    rt: &impl Abort,
-    plan: &mut Plan<A>,
-    step: (Writes, Reading),
-) -> Result<(), NoMemory> {
-    let (writes, wanted) = step;
-    apply(rt, plan, writes)?;
-    assert_eq!(rt; read(rt, plan), wanted);
+fn follow<A: Allocator + Copy + Drop>(rt: &impl Abort, plan: &mut Plan<A>) -> Result<(), NoMemory> {
+    for (writes, wanted) in STEPS {
+        apply(rt, plan, writes)?;
+        assert_eq!(rt; read(rt, plan), *wanted);
+    }
     Ok(())
 }
+
+fn assert_pit<A: Allocator + Copy + Drop>(rt: &impl Abort, plan: Plan<A>) {
+    assert_eq!(rt; plan.into_instance().blocks(), 4);
+}
+
+/// What stands in a plan, the writes over it, and the first breach that they make.
+const JUDGED: &[(Writes, Writes, Option<Breach>)] = &[
+    (&[], &[(0, Some(0)), (1, Some(0))], None),
+    (
+        &[(0, Some(0)), (1, Some(0))],
+        &[(0, None)],
+        Some(Breach::Precedence {
+            block: 1,
+            before: 0,
+        }),
+    ),
+    (
+        &[(0, Some(0)), (1, Some(0))],
+        &[(3, Some(0))],
+        Some(Breach::Over {
+            resource: 0,
+            period: 0,
+            load: 5_000_000,
+            limit: 4_000_000,
+        }),
+    ),
+    (
+        &[],
+        &[(0, Some(1)), (2, Some(1))],
+        Some(Breach::Precedence {
+            block: 2,
+            before: 1,
+        }),
+    ),
+    (
+        &[],
+        &[(2, Some(1)), (1, Some(1)), (0, Some(1))],
+        Some(Breach::Over {
+            resource: 0,
+            period: 1,
+            load: 7_000_000,
+            limit: 4_000_000,
+        }),
+    ),
+];
 
 /// Writes are judged by what the plan would be after them: a block that none of them names may have lost its predecessor.
 #[test]
 fn judges_writes(rt: HostRuntime) -> Result<(), Fail> {
-    let empty: Writes = &[];
-    let two: Writes = &[(0, Some(0)), (1, Some(0))];
-    let clear: Writes = &[(0, None)];
-    let third: Writes = &[(3, Some(0))];
-    let early: Writes = &[(0, Some(1)), (2, Some(1))];
-    let many: Writes = &[(2, Some(1)), (1, Some(1)), (0, Some(1))];
-    for (before, writes, wanted) in [
-        (empty, two, None),
-        (
-            two,
-            clear,
-            Some(Breach::Precedence {
-                block: 1,
-                before: 0,
-            }),
-        ),
-        (
-            two,
-            third,
-            Some(Breach::Over {
-                resource: 0,
-                period: 0,
-                load: 5_000_000,
-                limit: 4_000_000,
-            }),
-        ),
-        (
-            empty,
-            early,
-            Some(Breach::Precedence {
-                block: 2,
-                before: 1,
-            }),
-        ),
-        (
-            empty,
-            many,
-            Some(Breach::Over {
-                resource: 0,
-                period: 1,
-                load: 7_000_000,
-                limit: 4_000_000,
-            }),
-        ),
-    ] {
-        let mut plan = planned(rt.alloc(), TINY)?;
-        apply(&rt, &mut plan, before)?;
-        assert_eq!(rt; judge(&rt, &plan, writes)?, wanted);
-        apply(&rt, &mut plan, writes)?;
-        assert_eq!(rt; plan.check(), wanted);
+    for row in JUDGED {
+        assert_row(&rt, rt.alloc(), *row)?;
     }
+    Ok(())
+}
+
+fn assert_row<A: Allocator + Copy + Drop>(
+    rt: &impl Abort,
+    alloc: A,
+    row: (Writes, Writes, Option<Breach>),
+) -> Result<(), Fail> {
+    let (before, writes, wanted) = row;
+    let mut plan = written(rt, alloc, TINY, before)?;
+    judge_and_add(rt, &mut plan, writes, wanted)
+}
+
+/// Judges writes and adds them, and compares the first breach of both.
+fn judge_and_add<A: Allocator + Copy + Drop>(
+    rt: &impl Abort,
+    plan: &mut Plan<A>,
+    writes: Writes,
+    wanted: Option<Breach>,
+) -> Result<(), Fail> {
+    assert_eq!(rt; judge(rt, plan, writes)?, wanted);
+    apply(rt, plan, writes)?;
+    assert_breach(rt, plan, wanted);
     Ok(())
 }
 
 /// A plan that is not good has its value, its load and its shortfalls too.
 #[test]
 fn values_a_plan_that_is_not_good(rt: HostRuntime) -> Result<(), Fail> {
-    let mut plan = planned(rt.alloc(), TINY)?;
-    apply(&rt, &mut plan, &[(2, Some(0))])?;
-    assert_eq!(rt;
-        plan.check(),
-        Some(Breach::Precedence {
-            block: 2,
-            before: 0
-        })
-    );
-    assert_eq!(rt; plan.value(), 30_000_000_000_000_000_000);
-    let short = Short {
-        resource: 0,
-        period: 1,
-        load: 0,
-        limit: 1_000_000,
+    let plan = written(&rt, rt.alloc(), TINY, &[(2, Some(0))])?;
+    let breach = Breach::Precedence {
+        block: 2,
+        before: 0,
     };
-    assert_eq!(rt; plan.shortfalls()?.as_slice(), [short].as_slice());
-    Ok(())
+    assert_breach(&rt, &plan, Some(breach));
+    assert_eq!(rt; plan.value(), 30_000_000_000_000_000_000);
+    assert_shortfalls(&rt, &plan, &[IDLE])
 }
 
 /// What is mined in period 1 meets the lower limit there, which the empty plan does not.
 #[test]
 fn meets_the_lower_limit(rt: HostRuntime) -> Result<(), Fail> {
     let mut plan = planned(rt.alloc(), TINY)?;
-    let short = Short {
-        resource: 0,
-        period: 1,
-        load: 0,
-        limit: 1_000_000,
-    };
+    meet(&rt, &mut plan)
+}
+
+fn meet<A: Allocator + Copy + Drop>(rt: &impl Abort, plan: &mut Plan<A>) -> Result<(), Fail> {
     assert_eq!(rt; plan.value(), 0);
-    assert_eq!(rt; plan.shortfalls()?.as_slice(), [short].as_slice());
-    apply(&rt, &mut plan, &[(0, Some(0)), (1, Some(0)), (2, Some(1))])?;
-    assert_eq!(rt; plan.check(), None);
-    assert!(rt; plan.shortfalls()?.is_empty());
-    Ok(())
+    assert_shortfalls(rt, plan, &[IDLE])?;
+    apply(rt, plan, &[(0, Some(0)), (1, Some(0)), (2, Some(1))])?;
+    assert_breach(rt, plan, None);
+    assert_shortfalls(rt, plan, &[])
 }
