@@ -1,5 +1,5 @@
 -- What one more commit changes.
-use Rattle.std.proofs.Common.{◌≡◌, ℕ, ◌<◌, ◌+◌, Bool, true, false, cond, List, [], ◌∷◌, ◌++◌, length, take, get_or, None, refl, ap, ◌∙◌, arith}
+use Rattle.std.proofs.Common.{◌≡◌, ℕ, ◌<◌, ◌+◌, cond, List, [], ◌∷◌, ◌++◌, length, take, get_or, None, refl, ap, ◌∙◌, arith}
 use Rattle.std.specs.Prelude.{is_some, unwrap_or}
 use Rattle.std.proofs.lemmas.List.Sums.{fold_push}
 use Rattle.std.proofs.lemmas.List.{take_more, length-take-le}
@@ -60,9 +60,3 @@ stands pit commits = record {
   period = λ b below. period-standing_of pit commits b below;
   version = λ b below. version-standing_of pit commits b below;
 }
-
-pub if_true : {A : Type 0} (x : Bool) (a b : A) → x ≡ true → cond x a b ≡ a
-if_true x a b is = ap (λ y. cond y a b) is
-
-pub if_false : {A : Type 0} (x : Bool) (a b : A) → x ≡ false → cond x a b ≡ b
-if_false x a b is = ap (λ y. cond y a b) is

@@ -1,7 +1,6 @@
 -- A schedule has at most one first breach.
-use Rattle.std.proofs.Common.{◌≡◌, ℕ, ℤ, ◌⊎◌, inl, inr, Option, None, Some, Bool, true, false, refl, sym, ap, subst, ◌∙◌, arith}
-use Rattle.std.proofs.lemmas.Bool.{true≢false}
-use Rattle.std.proofs.lemmas.Bool.Decides.{eqb_tells, leb_tells}
+use Rattle.std.proofs.Common.{◌≡◌, ℕ, ℤ, ◌⊎◌, inl, inr, Option, None, Some, Bool, true, false, refl, sym, ap, subst, ◌∙◌}
+use Rattle.std.proofs.lemmas.Bool.{true≢false, cases_order}
 use Rattle.std.proofs.lemmas.Option.{same_Some}
 use Rattle.pit_model.specs.Pit.{Pit}
 use Rattle.pit_plan.specs.Schedule.{load_of, in_order, is_within}
@@ -12,21 +11,13 @@ use Rattle.pit_plan.specs.declared.breach.Breach.TheVariants.{Precedence, Over}
 -- of two pairs one comes before the other, or they are one
 placed : (x y b a : ℕ) → ((x ≡ b) × (y ≡ a)) ⊎ (ComesBefore x y b a ⊎ ComesBefore b a x y)
 placed x y b a =
-    elim (eqb_tells x b) [
+    elim (cases_order x b) [
       | inl same ↦
-          elim (eqb_tells y a) [
-            | inl also ↦ inl (same.1, also.1)
-            | inr other ↦
-                elim (leb_tells y a) [
-                  | inl below ↦ inr (inl (inr (same.1, omega (arith, below.1, other.1))))
-                  | inr above ↦ inr (inr (inr (sym same.1, above.1)))
-                ]
+          elim (cases_order y a) [
+            | inl also ↦ inl (same, also)
+            | inr apart ↦ inr (elim apart [ inl below ↦ inl (inr (same, below)) | inr above ↦ inr (inr (sym same, above)) ])
           ]
-      | inr other ↦
-          elim (leb_tells x b) [
-            | inl below ↦ inr (inl (inl (omega (arith, below.1, other.1))))
-            | inr above ↦ inr (inr (inl above.1))
-          ]
+      | inr apart ↦ inr (elim apart [ inl below ↦ inl (inl below) | inr above ↦ inr (inl above) ])
     ]
 
 never : (x : Bool) → x ≡ true → x ≡ false → ⊥

@@ -1,26 +1,16 @@
 -- Predecessors, which are rising lists.
-use Rattle.std.proofs.Common.{◌≡◌, ℕ, zero, suc, ◌<◌, ◌≤◌, true, false, List, [], length, get_or, Option, None, sym, subst, ◌∙◌, arith, add-one, inl, inr, All}
+use Rattle.std.proofs.Common.{◌≡◌, ℕ, ◌<◌, ◌≤◌, true, false, List, [], length, get_or, Option, None, sym, ap, subst, ◌∙◌, arith, inl, inr, All}
 use Rattle.std.specs.List.Sorted.{IsStrictlyIncreasing}
 use Rattle.std.proofs.lemmas.Grind.{get_or_default_zero}
-use Rattle.std.proofs.lemmas.Bool.Decides.{eqb_tells, leb_tells}
+use Rattle.std.proofs.lemmas.Bool.{cases_order}
+use Rattle.std.proofs.lemmas.List.Kept.{AllPairs-from_increasing}
+use Rattle.std.proofs.lemmas.Bool.Decides.{leb_tells}
 use Rattle.std.specs.Prelude.{unwrap_or}
 use Rattle.std.proofs.lemmas.List.{get_or_past}
 use Rattle.std.proofs.lemmas.List.Elements.{Contains-get_or, All-from_get_or, All-contains}
 use Rattle.pit_model.specs.Pit.{Pit, IsSound, preds_of}
 use Rattle.pit_plan.specs.Schedule.{in_order, IsPred}
 use Rattle.pit_plan.specs.InsideSchedule.{IsFirstLate}
-
--- what stands later is no less
-pub rising-le : (xs : List ℕ) (j k : ℕ) → IsStrictlyIncreasing xs → j ≤ k → k < length xs → get_or xs j 0 ≤ get_or xs k 0
-rising-le xs j zero up l within = let e : j ≡ 0 = omega arith in rw e (omega arith)
-rising-le xs j (suc k) up l within =
-    elim (eqb_tells j (suc k)) [
-      | inl here ↦ rw here.1 (omega arith)
-      | inr before ↦
-          let rest = rising-le xs j k up (omega (arith, before.1)) (omega arith) in
-          let step = rw add-one at (up k (rw add-one within)) in
-          omega (arith, rest, step)
-    ]
 
 -- the first that fails, in a rising list, is the least that fails
 pub first_is_least : (schedule : ℕ → Option ℕ) (later : Option ℕ) (xs : List ℕ) (j : ℕ) → IsStrictlyIncreasing xs → j < length xs
@@ -33,7 +23,11 @@ first_is_least schedule later xs j up within before fails =
       fails = fails;
       first = λ x has less.
           let at : get_or xs has.0 0 ≡ x = sym (get_or_default_zero xs has.0 x has.1) ∙ has.2 in
-          let below : has.0 < j = elim (leb_tells j has.0) [ inr under ↦ under.1 | inl above ↦ absurd (omega (arith, rising-le xs j has.0 up above.1 has.1, at)) ] in
+          let below : has.0 < j =
+          elim (cases_order has.0 j) [
+            | inl here ↦ absurd (omega (arith, at, ap (λ k. get_or xs k 0) here))
+            | inr apart ↦ elim apart [ inl under ↦ under | inr above ↦ absurd (omega (arith, at, AllPairs-from_increasing xs up j has.0 0 above has.1)) ]
+          ] in
           subst (λ y. in_order later (schedule y) ≡ true) at (before has.0 below);
     }
 

@@ -4,7 +4,7 @@ use Rattle.pit_plan.proofs.Same.{pit-kept, breach-of}
 use Rattle.pit_plan.proofs.plan.Plan.check.Goals as goal
 
 pub first_breach-requires : goal.first_breach-requires
-first_breach-requires g c = ap (λ (p : Pit). p.blocks) (sym (pit-kept c.self.inside.pit c.self.inside.kept.items c.args.self.now c.self.view_is))
+first_breach-requires g c = ap (λ (p : Pit). p.blocks) (sym (pit-kept _ _ _ c.self.view_is))
 
 pub returns : goal.returns
-returns g c = λ commits st. breach-of c.self.inside.pit c.args.self.now commits c.first_breach.result (pit-kept c.self.inside.pit c.self.inside.kept.items c.args.self.now c.self.view_is) c.self.invariant.sound st c.first_breach.ensures
+returns g c = λ commits st. breach-of _ _ commits _ (pit-kept _ _ _ c.self.view_is) c.self.invariant.sound st c.first_breach.ensures

@@ -2,4 +2,4 @@ use Rattle.pit_plan.proofs.Same.{pit-kept}
 use Rattle.pit_plan.proofs.plan.Plan.instance.Goals as goal
 
 pub returns : goal.returns
-returns g c = pit-kept c.self.inside.pit c.self.inside.kept.items c.args.self.now c.self.view_is
+returns g c = pit-kept _ _ _ c.self.view_is

@@ -8,4 +8,4 @@ pub returns : goal.returns
 returns g c =
     c.held_in.ensures
     ∙ (ap (λ (k : List Commit). held k c.args.b) c.deref.ensures.value
-    ∙ sym ((stands-kept c.self.inside.pit c.self.inside.kept.items c.args.self.now c.self.view_is).period c.args.b c.requires))
+    ∙ sym ((stands-kept _ _ _ c.self.view_is).period c.args.b c.requires))

@@ -5,7 +5,7 @@ use Rattle.pit_plan.proofs.Same.{pit-kept, shortfalls-at}
 use Rattle.pit_plan.proofs.plan.Plan.shortfalls.Goals as goal
 
 pub shortfalls-requires : goal.shortfalls-requires
-shortfalls-requires g c = ap (λ (p : Pit). p.blocks) (sym (pit-kept c.self.inside.pit c.self.inside.kept.items c.args.self.now c.self.view_is))
+shortfalls-requires g c = ap (λ (p : Pit). p.blocks) (sym (pit-kept _ _ _ c.self.view_is))
 
 pub returns : goal.returns
-returns g c = IfOk-weaker c.shortfalls.result _ _ (λ shorts is commits st. is ∙ shortfalls-at c.self.inside.pit c.args.self.now commits (pit-kept c.self.inside.pit c.self.inside.kept.items c.args.self.now c.self.view_is) st) c.shortfalls.ensures
+returns g c = IfOk-weaker c.shortfalls.result _ _ (λ shorts is commits st. is ∙ shortfalls-at _ _ commits (pit-kept _ _ _ c.self.view_is) st) c.shortfalls.ensures
