@@ -14,7 +14,7 @@ mod solution;
 mod solution_text;
 mod words;
 
-use crate::{Cause, TextError};
+use crate::{Cause, TextError, read_model};
 use pit_model::{BuildError, Builder, Instance};
 use pit_num::{NoMemory, NumError};
 use std::alloc::{AllocError, Allocator, Global};
@@ -175,27 +175,69 @@ fn has_factors<A: Allocator + Copy + Drop>(instance: &Instance<A>, factors: &[i6
     factors.len() == instance.periods() as usize
 }
 
+/// The numbers of blocks, periods and resources that a builder says.
+fn builder_numbers<A: Allocator + Copy + Drop>(builder: &Builder<A>) -> [u32; 3] {
+    [builder.blocks(), builder.periods(), builder.resources()]
+}
+
+/// Those that an instance says.
+fn instance_numbers<A: Allocator + Copy + Drop>(instance: &Instance<A>) -> [u32; 3] {
+    [instance.blocks(), instance.periods(), instance.resources()]
+}
+
+/// The instance says these facts.
+fn assert_instance<A: Allocator + Copy + Drop>(
+    rt: &impl Abort,
+    instance: &Instance<A>,
+    wanted: Facts<'_>,
+    text: &[&[u8]],
+) {
+    assert_eq!(rt; instance_numbers(instance), wanted.numbers, "of {text:?}");
+    assert!(rt;
+        has_profits(instance, wanted.profits),
+        "profits of {text:?}"
+    );
+    assert!(rt;
+        has_factors(instance, wanted.factors),
+        "factors of {text:?}"
+    );
+}
+
 /// The builder, and the instance that it builds, say these facts.
 fn assert_facts<A: Allocator + Copy + Drop>(
     rt: &impl Abort,
     builder: Builder<A>,
     wanted: Facts<'_>,
-    text: &[u8],
+    text: &[&[u8]],
 ) -> Result<(), Fail> {
-    let numbers = [builder.blocks(), builder.periods(), builder.resources()];
-    assert_eq!(rt; numbers, wanted.numbers, "of {text:?}");
+    assert_eq!(rt; builder_numbers(&builder), wanted.numbers, "of {text:?}");
     let instance = built(builder)?;
-    let numbers = [instance.blocks(), instance.periods(), instance.resources()];
-    assert_eq!(rt; numbers, wanted.numbers, "of {text:?}");
-    assert!(rt;
-        has_profits(&instance, wanted.profits),
-        "profits of {text:?}"
-    );
-    assert!(rt;
-        has_factors(&instance, wanted.factors),
-        "factors of {text:?}"
-    );
+    assert_instance(rt, &instance, wanted, text);
     Ok(())
+}
+
+/// The fault of a model of these parts.
+fn model_fault(alloc: Global, parts: &[&[u8]]) -> Result<Option<TextError>, AllocError> {
+    let text = joined(alloc, parts)?;
+    Ok(read_model(alloc, &text).err())
+}
+
+/// What a model of these parts is read as.
+fn model_read(alloc: Global, parts: &[&[u8]]) -> Result<Builder<Global>, Fail> {
+    let text = joined(alloc, parts)?;
+    let builder = read_model(alloc, &text)?;
+    Ok(builder)
+}
+
+/// A model of these parts says these facts.
+fn assert_model(
+    rt: &impl Abort,
+    alloc: Global,
+    parts: &[&[u8]],
+    wanted: Facts<'_>,
+) -> Result<(), Fail> {
+    let builder = model_read(alloc, parts)?;
+    assert_facts(rt, builder, wanted, parts)
 }
 
 /// These parts, one behind the other.

@@ -1,7 +1,16 @@
 //! The lines of a block text.
 use super::{BLOCK_RANGE, MALFORMED, REPEATED, TOO_LARGE, built, fault, place_of, tiny};
-use crate::{Cause, read_blocks};
+use crate::{Cause, TextError, read_blocks};
+use pit_num::NoMemory;
+use std::alloc::Global;
+use std::process::Abort;
 use std::test::Fail;
+
+/// The fault of a block text of the small pit.
+fn blocks_fault(alloc: Global, text: &[u8]) -> Result<Option<TextError>, NoMemory> {
+    let builder = tiny(alloc)?;
+    Ok(read_blocks(text, builder).err())
+}
 
 // The number of fields, then the four that are read, then what is known of the pit. Four blocks.
 #[test]
@@ -17,10 +26,22 @@ fn lines_that_are_refused(rt: HostRuntime) -> Result<(), Fail> {
         (b"0 0 0 2\n0 0 0", 2, Cause::FieldCount),
     ];
     for (text, line, cause) in rows {
-        let answer = read_blocks(text, tiny(rt.alloc())?).err();
+        let answer = blocks_fault(rt.alloc(), text)?;
         assert_eq!(rt; answer, Some(fault(line, cause)), "of {text:?}");
     }
     Ok(())
+}
+
+/// The place that a block text of the small pit gives a block.
+fn place_read(
+    rt: &impl Abort,
+    alloc: Global,
+    text: &[u8],
+    block: u32,
+) -> Result<Option<(i64, i64, i64)>, Fail> {
+    let builder = read_blocks(text, tiny(alloc)?)?;
+    let instance = built(builder)?;
+    Ok(place_of(rt, &instance, block))
 }
 
 // Further fields aren't read, and a block without a line has no place.
@@ -49,12 +70,8 @@ fn places(rt: HostRuntime) -> Result<(), Fail> {
         (b"2 0 0 1\nEOF\n1 0 0 1", 1, None),
     ];
     for (text, block, place) in rows {
-        let instance = built(read_blocks(text, tiny(rt.alloc())?)?)?;
-        assert_eq!(rt;
-            place_of(&rt, &instance, block),
-            place,
-            "{block} of {text:?}"
-        );
+        let read = place_read(&rt, rt.alloc(), text, block)?;
+        assert_eq!(rt; read, place, "{block} of {text:?}");
     }
     Ok(())
 }

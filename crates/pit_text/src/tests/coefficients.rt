@@ -1,9 +1,12 @@
 //! The lines of the section of coefficients.
 use super::{
     BLOCK_RANGE, MALFORMED, REPEATED, RESOURCE_RANGE, TINY_COEFFICIENTS, TINY_HEADER, built,
-    coefs_of, fault, joined,
+    coefs_of, fault, model_fault, model_read,
 };
-use crate::{Cause, read_model};
+use crate::Cause;
+use pit_model::Instance;
+use std::alloc::Global;
+use std::process::Abort;
 use std::test::Fail;
 
 // The line after the header of the small pit, which has four blocks and one resource.
@@ -24,29 +27,31 @@ fn lines_that_are_refused(rt: HostRuntime) -> Result<(), Fail> {
         (b"0 0 0\n0 0 x", 9, MALFORMED),
     ];
     for (lines, line, cause) in rows {
-        let text = joined(rt.alloc(), &[TINY_HEADER, SECTION, lines])?;
-        let answer = read_model(rt.alloc(), &text).err();
+        let answer = model_fault(rt.alloc(), &[TINY_HEADER, SECTION, lines])?;
         assert_eq!(rt; answer, Some(fault(line, cause)), "of {lines:?}");
     }
     Ok(())
 }
 
+/// The coefficients of a block.
+type Row<'a> = (u32, &'a [(u32, i64)]);
+
+fn assert_coefs(rt: &impl Abort, instance: &Instance<Global>, rows: &[Row<'_>]) {
+    for (block, wanted) in rows {
+        assert_eq!(rt; coefs_of(rt, instance, *block), *wanted, "of {block}");
+    }
+}
+
 #[test]
 fn coefficients_of_the_small_pit(rt: HostRuntime) -> Result<(), Fail> {
-    let text = joined(rt.alloc(), &[TINY_HEADER, TINY_COEFFICIENTS])?;
-    let instance = built(read_model(rt.alloc(), &text)?)?;
-    for (block, value) in [
-        (0, 2_000_000),
-        (1, 2_000_000),
-        (2, 3_000_000),
-        (3, 1_000_000),
-    ] {
-        assert_eq!(rt;
-            coefs_of(&rt, &instance, block),
-            [(0, value)].as_slice(),
-            "of {block}"
-        );
-    }
+    let builder = model_read(rt.alloc(), &[TINY_HEADER, TINY_COEFFICIENTS])?;
+    let rows: [Row<'_>; 4] = [
+        (0, &[(0, 2_000_000)]),
+        (1, &[(0, 2_000_000)]),
+        (2, &[(0, 3_000_000)]),
+        (3, &[(0, 1_000_000)]),
+    ];
+    assert_coefs(&rt, &built(builder)?, &rows);
     Ok(())
 }
 
@@ -55,11 +60,11 @@ fn coefficients_of_the_small_pit(rt: HostRuntime) -> Result<(), Fail> {
 fn coefficients_by_rising_resource(rt: HostRuntime) -> Result<(), Fail> {
     let text = b"TYPE CPIT\nNBLOCKS 2\nNPERIODS 1\nNRESOURCE_SIDE_CONSTRAINTS 3\nDISCOUNT_RATE 0
 RESOURCE_CONSTRAINT_COEFFICIENTS\n1 2 -1.5\n0 1 7\n1 0 0\r\n1:1:3\n";
-    let instance = built(read_model(rt.alloc(), text)?)?;
-    assert_eq!(rt; coefs_of(&rt, &instance, 0), [(1, 7_000_000)].as_slice());
-    assert_eq!(rt;
-        coefs_of(&rt, &instance, 1),
-        [(0, 0), (1, 3_000_000), (2, -1_500_000)].as_slice()
-    );
+    let builder = model_read(rt.alloc(), &[text])?;
+    let rows: [Row<'_>; 2] = [
+        (0, &[(1, 7_000_000)]),
+        (1, &[(0, 0), (1, 3_000_000), (2, -1_500_000)]),
+    ];
+    assert_coefs(&rt, &built(builder)?, &rows);
     Ok(())
 }

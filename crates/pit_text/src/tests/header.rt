@@ -1,7 +1,10 @@
 //! The header of a model text.
-use super::{HEADER, assert_facts, built, facts_of, fault, joined};
+use super::{
+    HEADER, assert_model, builder_numbers, built, facts_of, fault, instance_numbers, model_fault,
+};
 use crate::{Cause, Key, read_model};
 use Cause::{BadHeader, MissingHeader, NotCpit, Unsupported};
+use pit_model::Instance;
 use std::alloc::{AllocError, Global};
 use std::process::Abort;
 use std::test::Fail;
@@ -138,12 +141,23 @@ fn header_of(alloc: Global, values: &[&[u8]; 5]) -> Result<Vec<u8>, AllocError> 
     Ok(text)
 }
 
-/// The numbers of blocks, periods and resources that a header gives, and the factor of period 1.
-fn header_read(rt: &impl Abort, alloc: Global, header: &[u8]) -> Result<([u32; 3], i64), Fail> {
-    let instance = built(read_model(alloc, header)?)?;
+/// The factor of period 1.
+fn factor_of(rt: &impl Abort, instance: &Instance<Global>) -> i64 {
     assert!(rt; instance.periods() > 1);
-    let numbers = [instance.blocks(), instance.periods(), instance.resources()];
-    Ok((numbers, instance.factor(1)))
+    instance.factor(1)
+}
+
+/// The numbers of blocks, periods and resources that a header gives a builder, those of its instance, and the factor of period 1.
+fn header_read(
+    rt: &impl Abort,
+    alloc: Global,
+    header: &[u8],
+) -> Result<([u32; 3], [u32; 3], i64), Fail> {
+    let builder = read_model(alloc, header)?;
+    let numbers = builder_numbers(&builder);
+    let instance = built(builder)?;
+    let factor = factor_of(rt, &instance);
+    Ok((numbers, instance_numbers(&instance), factor))
 }
 
 // The factor of period 1 is 10^18 / (10^6 + rate), rounded: for a rate of 10^9 it is 999000999.0.., and for
@@ -190,7 +204,7 @@ fn values_that_are_read(rt: HostRuntime) -> Result<(), Fail> {
     for (values, numbers, factor) in &rows {
         let header = header_of(rt.alloc(), values)?;
         let read = header_read(&rt, rt.alloc(), &header)?;
-        assert_eq!(rt; read, (*numbers, *factor), "of {header:?}");
+        assert_eq!(rt; read, (*numbers, *numbers, *factor), "of {header:?}");
     }
     Ok(())
 }
@@ -210,12 +224,8 @@ fn lines_that_are_skipped(rt: HostRuntime) -> Result<(), Fail> {
         b"EOFX\neof\n",
     ];
     for text in rows {
-        let before = joined(rt.alloc(), &[text, HEADER])?;
-        let builder = read_model(rt.alloc(), &before)?;
-        assert_facts(&rt, builder, facts_of(&[0, 0]), &before)?;
-        let behind = joined(rt.alloc(), &[HEADER, text])?;
-        let builder = read_model(rt.alloc(), &behind)?;
-        assert_facts(&rt, builder, facts_of(&[0, 0]), &behind)?;
+        assert_model(&rt, rt.alloc(), &[text, HEADER], facts_of(&[0, 0]))?;
+        assert_model(&rt, rt.alloc(), &[HEADER, text], facts_of(&[0, 0]))?;
     }
     Ok(())
 }
@@ -249,9 +259,9 @@ fn keys_that_are_missing(rt: HostRuntime) -> Result<(), Fail> {
     ];
     for ([first, second, third, fourth], key) in rows {
         for end in ends {
-            let text = joined(rt.alloc(), &[first, second, third, fourth, end])?;
-            let answer = read_model(rt.alloc(), &text).err();
-            assert_eq!(rt; answer, Some(fault(5, MissingHeader(key))), "of {text:?}");
+            let parts = [first, second, third, fourth, end];
+            let answer = model_fault(rt.alloc(), &parts)?;
+            assert_eq!(rt; answer, Some(fault(5, MissingHeader(key))), "of {parts:?}");
         }
     }
     Ok(())

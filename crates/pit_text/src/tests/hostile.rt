@@ -100,19 +100,40 @@ fn assert_answers(
     Ok(())
 }
 
+/// The same of the text and of each of its first fronts.
+fn assert_fronts(
+    rt: &impl Abort,
+    alloc: Global,
+    text: &[u8],
+    instance: &Instance<Global>,
+) -> Result<(), Fail> {
+    assert_answers(rt, alloc, text, instance)?;
+    for end in 0..400 {
+        if let Some(front) = text.get(..end) {
+            assert_answers(rt, alloc, front, instance)?;
+        }
+    }
+    Ok(())
+}
+
+/// The same of the two texts from a seed.
+fn assert_seed(
+    rt: &impl Abort,
+    alloc: Global,
+    seed: u64,
+    instance: &Instance<Global>,
+) -> Result<(), Fail> {
+    let noise = noise(alloc, seed)?;
+    assert_fronts(rt, alloc, &noise, instance)?;
+    let babble = babble(alloc, seed)?;
+    assert_fronts(rt, alloc, &babble, instance)
+}
+
 #[test]
 fn whole_and_in_front(rt: HostRuntime) -> Result<(), Fail> {
-    let alloc = rt.alloc();
-    let instance = built(tiny(alloc)?)?;
+    let instance = built(tiny(rt.alloc())?)?;
     for seed in 1..9u64 {
-        for text in [noise(alloc, seed)?, babble(alloc, seed)?] {
-            assert_answers(&rt, alloc, &text, &instance)?;
-            for end in 0..400 {
-                if let Some(front) = text.get(..end) {
-                    assert_answers(&rt, alloc, front, &instance)?;
-                }
-            }
-        }
+        assert_seed(&rt, rt.alloc(), seed, &instance)?;
     }
     Ok(())
 }

@@ -1,9 +1,9 @@
 //! The lines of the section of limits.
 use super::{
     MALFORMED, PERIOD_RANGE, RESOURCE_RANGE, TINY_HEADER, TINY_LIMITS, TOO_LARGE, bounds_of, built,
-    fault, joined,
+    fault, model_fault, model_read,
 };
-use crate::{Cause, read_model};
+use crate::Cause;
 use pit_model::BuildError;
 use std::alloc::Global;
 use std::process::Abort;
@@ -28,8 +28,7 @@ fn fields_that_are_refused(rt: HostRuntime) -> Result<(), Fail> {
         (b"0 0 I 4 5 6", Cause::FieldCount),
     ];
     for (line, cause) in rows {
-        let text = joined(rt.alloc(), &[TINY_HEADER, SECTION, line])?;
-        let answer = read_model(rt.alloc(), &text).err();
+        let answer = model_fault(rt.alloc(), &[TINY_HEADER, SECTION, line])?;
         assert_eq!(rt; answer, Some(fault(8, cause)), "of {line:?}");
     }
     Ok(())
@@ -49,22 +48,22 @@ fn bounds_that_are_refused(rt: HostRuntime) -> Result<(), Fail> {
         (b"0 0 I 5 4", INTERVAL),
     ];
     for (line, cause) in rows {
-        let text = joined(rt.alloc(), &[TINY_HEADER, SECTION, line])?;
-        let answer = read_model(rt.alloc(), &text).err();
+        let answer = model_fault(rt.alloc(), &[TINY_HEADER, SECTION, line])?;
         assert_eq!(rt; answer, Some(fault(8, cause)), "of {line:?}");
     }
     Ok(())
 }
 
-/// The bounds of the one resource in period 0 that the lines of limits give.
+/// The bounds of the one resource in a period that a model of these parts gives.
 fn bounds_read(
     rt: &impl Abort,
     alloc: Global,
-    lines: &[u8],
+    parts: &[&[u8]],
+    t: u32,
 ) -> Result<(Option<i64>, Option<i64>), Fail> {
-    let text = joined(alloc, &[TINY_HEADER, SECTION, lines])?;
-    let instance = built(read_model(alloc, &text)?)?;
-    Ok(bounds_of(rt, &instance, 0, 0))
+    let builder = model_read(alloc, parts)?;
+    let instance = built(builder)?;
+    Ok(bounds_of(rt, &instance, 0, t))
 }
 
 #[test]
@@ -85,7 +84,7 @@ fn limits(rt: HostRuntime) -> Result<(), Fail> {
         ),
     ];
     for (lines, lower, upper) in rows {
-        let bounds = bounds_read(&rt, rt.alloc(), lines)?;
+        let bounds = bounds_read(&rt, rt.alloc(), &[TINY_HEADER, SECTION, lines], 0)?;
         assert_eq!(rt; bounds, (lower, upper), "of {lines:?}");
     }
     Ok(())
@@ -93,12 +92,10 @@ fn limits(rt: HostRuntime) -> Result<(), Fail> {
 
 #[test]
 fn limits_of_the_small_pit(rt: HostRuntime) -> Result<(), Fail> {
-    let text = joined(rt.alloc(), &[TINY_HEADER, TINY_LIMITS])?;
-    let instance = built(read_model(rt.alloc(), &text)?)?;
-    assert_eq!(rt; bounds_of(&rt, &instance, 0, 0), (None, Some(4_000_000)));
-    assert_eq!(rt;
-        bounds_of(&rt, &instance, 0, 1),
-        (Some(1_000_000), Some(4_000_000))
-    );
+    let parts = [TINY_HEADER, TINY_LIMITS];
+    let first = bounds_read(&rt, rt.alloc(), &parts, 0)?;
+    assert_eq!(rt; first, (None, Some(4_000_000)));
+    let second = bounds_read(&rt, rt.alloc(), &parts, 1)?;
+    assert_eq!(rt; second, (Some(1_000_000), Some(4_000_000)));
     Ok(())
 }

@@ -20,7 +20,7 @@ fn assert_kept<A: Allocator + Copy + Drop>(
     let Err((builder, NoMemory)) = builder.build() else {
         return Err(Fail::from("a request that was not refused"));
     };
-    assert_facts(rt, builder, wanted, b"")
+    assert_facts(rt, builder, wanted, &[])
 }
 
 #[test]

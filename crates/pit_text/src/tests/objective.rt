@@ -1,9 +1,9 @@
 //! The lines of the objective section.
 use super::{
-    BLOCK_RANGE, HEADER, MALFORMED, REPEATED, TOO_LARGE, TOO_LONG, assert_facts, facts_of, fault,
-    joined,
+    BLOCK_RANGE, HEADER, MALFORMED, REPEATED, TOO_LARGE, TOO_LONG, assert_model, facts_of, fault,
+    model_fault,
 };
-use crate::{Cause, read_model};
+use crate::Cause;
 use std::test::Fail;
 
 // The line after `HEADER`.
@@ -47,8 +47,7 @@ fn lines_that_are_refused(rt: HostRuntime) -> Result<(), Fail> {
         (b"0\xc2\xa01 5", Cause::NotAscii),
     ];
     for (line, cause) in rows {
-        let text = joined(rt.alloc(), &[HEADER, SECTION, line])?;
-        let answer = read_model(rt.alloc(), &text).err();
+        let answer = model_fault(rt.alloc(), &[HEADER, SECTION, line])?;
         assert_eq!(rt; answer, Some(fault(7, cause)), "of {line:?}");
     }
     Ok(())
@@ -73,8 +72,7 @@ fn blocks_that_come_twice(rt: HostRuntime) -> Result<(), Fail> {
         ),
     ];
     for (lines, line, cause) in rows {
-        let text = joined(rt.alloc(), &[HEADER, SECTION, lines])?;
-        let answer = read_model(rt.alloc(), &text).err();
+        let answer = model_fault(rt.alloc(), &[HEADER, SECTION, lines])?;
         assert_eq!(rt; answer, Some(fault(line, cause)), "of {lines:?}");
     }
     Ok(())
@@ -98,9 +96,12 @@ fn profits(rt: HostRuntime) -> Result<(), Fail> {
         (b"0 +.5E1\n1 -0", &[5_000_000, 0]),
     ];
     for (lines, profits) in rows {
-        let text = joined(rt.alloc(), &[HEADER, SECTION, lines])?;
-        let builder = read_model(rt.alloc(), &text)?;
-        assert_facts(&rt, builder, facts_of(profits), &text)?;
+        assert_model(
+            &rt,
+            rt.alloc(),
+            &[HEADER, SECTION, lines],
+            facts_of(profits),
+        )?;
     }
     Ok(())
 }

@@ -1,7 +1,17 @@
 //! The lines of a precedence text.
 use super::{BLOCK_RANGE, MALFORMED, REPEATED, TOO_LARGE, built, fault, preds_of, tiny};
-use crate::{Cause, read_precedence};
+use crate::{Cause, TextError, read_precedence};
+use pit_model::Instance;
+use pit_num::NoMemory;
+use std::alloc::Global;
+use std::process::Abort;
 use std::test::Fail;
+
+/// The fault of a precedence text of the small pit.
+fn precedence_fault(alloc: Global, text: &[u8]) -> Result<Option<TextError>, NoMemory> {
+    let builder = tiny(alloc)?;
+    Ok(read_precedence(alloc, text, builder).err())
+}
 
 // The number of fields, the block and the number of predecessors, whether there are so many, then these, and then what is known of
 // the pit. Four blocks.
@@ -18,7 +28,7 @@ fn lines_that_are_refused(rt: HostRuntime) -> Result<(), Fail> {
         (b"4 0", 1, BLOCK_RANGE),
     ];
     for (text, line, cause) in rows {
-        let answer = read_precedence(rt.alloc(), text, tiny(rt.alloc())?).err();
+        let answer = precedence_fault(rt.alloc(), text)?;
         assert_eq!(rt; answer, Some(fault(line, cause)), "of {text:?}");
     }
     Ok(())
@@ -34,10 +44,26 @@ fn blocks_that_are_refused(rt: HostRuntime) -> Result<(), Fail> {
         (b"0 0\n1 1 0\n0 1 1\nx", 3, REPEATED),
     ];
     for (text, line, cause) in rows {
-        let answer = read_precedence(rt.alloc(), text, tiny(rt.alloc())?).err();
+        let answer = precedence_fault(rt.alloc(), text)?;
         assert_eq!(rt; answer, Some(fault(line, cause)), "of {text:?}");
     }
     Ok(())
+}
+
+/// The small pit with these predecessors.
+fn precedence_built(alloc: Global, text: &[u8]) -> Result<Instance<Global>, Fail> {
+    let builder = read_precedence(alloc, text, tiny(alloc)?)?;
+    built(builder)
+}
+
+fn assert_preds(
+    rt: &impl Abort,
+    instance: &Instance<Global>,
+    block: u32,
+    wanted: &[u32],
+    text: &[u8],
+) {
+    assert_eq!(rt; preds_of(rt, instance, block), wanted, "of {text:?}");
 }
 
 // Predecessors rise, without the block itself and each once; a block without a line has none.
@@ -54,8 +80,8 @@ fn predecessors(rt: HostRuntime) -> Result<(), Fail> {
         (b"0 1 1\n1 1 0", 0, &[1]),
     ];
     for (text, block, wanted) in rows {
-        let instance = built(read_precedence(rt.alloc(), text, tiny(rt.alloc())?)?)?;
-        assert_eq!(rt; preds_of(&rt, &instance, block), wanted, "of {text:?}");
+        let instance = precedence_built(rt.alloc(), text)?;
+        assert_preds(&rt, &instance, block, wanted, text);
     }
     Ok(())
 }

@@ -1,7 +1,7 @@
 //! The sections of a model text, and whole texts.
 use super::{
     HEADER, REPEATED, TINY_COEFFICIENTS, TINY_FACTS, TINY_HEADER, TINY_LIMITS, TINY_OBJECTIVE,
-    assert_facts, facts_of, fault, joined,
+    assert_model, facts_of, fault, model_fault,
 };
 use crate::{Cause, Key, read_model};
 use std::test::Fail;
@@ -19,9 +19,8 @@ fn tiny_with_its_sections_in_any_order(rt: HostRuntime) -> Result<(), Fail> {
     ] {
         let [first, second, third] = sections;
         for end in [b"EOF\n".as_slice(), b"".as_slice()] {
-            let text = joined(rt.alloc(), &[TINY_HEADER, first, second, third, end])?;
-            let builder = read_model(rt.alloc(), &text)?;
-            assert_facts(&rt, builder, TINY_FACTS, &text)?;
+            let parts = [TINY_HEADER, first, second, third, end];
+            assert_model(&rt, rt.alloc(), &parts, TINY_FACTS)?;
         }
     }
     Ok(())
@@ -34,8 +33,7 @@ fn tiny_with_other_line_ends_and_comments(rt: HostRuntime) -> Result<(), Fail> {
 NRESOURCE_SIDE_CONSTRAINTS: 1\r\nDISCOUNT_RATE: 0.1\r\n  %\r\nOBJECTIVE_FUNCTION:\r\n0 -10\r\n%0 -10\r\n1 20.5\r\n2 30\r\n3 5\r
 RESOURCE_CONSTRAINT_COEFFICIENTS:\r\n0 0 2\r\n1 0 2\r\n\t%\r\n2 0 3\r\n3 0 1\r\nRESOURCE_CONSTRAINT_LIMITS:\r\n0 0 L 4\r
 0 1 I 1 4\r";
-    let builder = read_model(rt.alloc(), text)?;
-    assert_facts(&rt, builder, TINY_FACTS, text)
+    assert_model(&rt, rt.alloc(), &[text], TINY_FACTS)
 }
 
 #[test]
@@ -89,9 +87,8 @@ fn tiny_with_a_fault(rt: HostRuntime) -> Result<(), Fail> {
         ),
     ];
     for (parts, line, cause) in rows {
-        let text = joined(rt.alloc(), &parts)?;
-        let answer = read_model(rt.alloc(), &text).err();
-        assert_eq!(rt; answer, Some(fault(line, cause)), "of {text:?}");
+        let answer = model_fault(rt.alloc(), &parts)?;
+        assert_eq!(rt; answer, Some(fault(line, cause)), "of {parts:?}");
     }
     let answer = read_model(rt.alloc(), b"").err();
     assert_eq!(rt; answer, Some(fault(1, Cause::MissingHeader(Key::Kind))));
@@ -129,8 +126,7 @@ fn sections_that_come_twice(rt: HostRuntime) -> Result<(), Fail> {
         ),
     ];
     for (lines, line) in rows {
-        let text = joined(rt.alloc(), &[HEADER, lines])?;
-        let answer = read_model(rt.alloc(), &text).err();
+        let answer = model_fault(rt.alloc(), &[HEADER, lines])?;
         assert_eq!(rt;
             answer,
             Some(fault(line, Cause::SectionTwice)),
@@ -161,9 +157,7 @@ fn sections_that_are_read(rt: HostRuntime) -> Result<(), Fail> {
         (b"EOF\nTYPE: PCPSP\nOBJECTIVE_FUNCTION\n0 x", &[0, 0]),
     ];
     for (lines, profits) in rows {
-        let text = joined(rt.alloc(), &[HEADER, lines])?;
-        let builder = read_model(rt.alloc(), &text)?;
-        assert_facts(&rt, builder, facts_of(profits), &text)?;
+        assert_model(&rt, rt.alloc(), &[HEADER, lines], facts_of(profits))?;
     }
     Ok(())
 }
@@ -186,8 +180,7 @@ fn lines_of_another_section(rt: HostRuntime) -> Result<(), Fail> {
         (b"OBJECTIVE_FUNCTION\nNAME: a b", 7),
     ];
     for (lines, line) in rows {
-        let text = joined(rt.alloc(), &[HEADER, lines])?;
-        let answer = read_model(rt.alloc(), &text).err();
+        let answer = model_fault(rt.alloc(), &[HEADER, lines])?;
         assert_eq!(rt;
             answer,
             Some(fault(line, Cause::FieldCount)),

@@ -3,13 +3,29 @@ use super::{
     BLOCK_RANGE, MALFORMED, PERIOD_RANGE, REPEATED, TOO_LARGE, TOO_LONG, built, fault, tiny,
 };
 use crate::{Cause, Key, read_solution};
+use pit_model::Instance;
 use std::alloc::Global;
+use std::process::Abort;
 use std::test::Fail;
 
 /// What a text is read as, as a solution of the small pit: four blocks and two periods.
 fn solution_of(alloc: Global, text: &[u8]) -> Result<Vec<(u32, u32)>, Fail> {
     let instance = built(tiny(alloc)?)?;
     Ok(read_solution(alloc, text, &instance)?)
+}
+
+fn assert_solution(rt: &impl Abort, solution: &[(u32, u32)], wanted: &[(u32, u32)], text: &[u8]) {
+    assert_eq!(rt; solution, wanted, "of {text:?}");
+}
+
+/// A text, and the line and the cause of its fault.
+type Row<'a> = (&'a [u8], u64, Cause);
+
+fn assert_faults(rt: &impl Abort, alloc: Global, instance: &Instance<Global>, rows: &[Row<'_>]) {
+    for (text, line, cause) in rows {
+        let answer = read_solution(alloc, text, instance).err();
+        assert_eq!(rt; answer, Some(fault(*line, *cause)), "of {text:?}");
+    }
 }
 
 #[test]
@@ -28,7 +44,7 @@ fn solutions_that_are_read(rt: HostRuntime) -> Result<(), Fail> {
     ];
     for (text, wanted) in rows {
         let solution = solution_of(rt.alloc(), text)?;
-        assert_eq!(rt; solution.as_slice(), wanted, "of {text:?}");
+        assert_solution(&rt, &solution, wanted, text);
     }
     Ok(())
 }
@@ -38,7 +54,7 @@ fn solutions_that_are_read(rt: HostRuntime) -> Result<(), Fail> {
 #[test]
 fn lines_that_are_refused(rt: HostRuntime) -> Result<(), Fail> {
     let instance = built(tiny(rt.alloc())?)?;
-    let rows: [(&[u8], u64, Cause); 32] = [
+    let rows: [Row<'_>; 32] = [
         (b"3", 1, Cause::FieldCount),
         (b"3 0 1", 1, Cause::FieldCount),
         (b"3 0 1 1 1", 1, Cause::FieldCount),
@@ -73,10 +89,7 @@ fn lines_that_are_refused(rt: HostRuntime) -> Result<(), Fail> {
         (b"3 1\n3", 2, Cause::FieldCount),
         (b"0 0\n1 0\n4 0\n", 3, BLOCK_RANGE),
     ];
-    for (text, line, cause) in rows {
-        let answer = read_solution(rt.alloc(), text, &instance).err();
-        assert_eq!(rt; answer, Some(fault(line, cause)), "of {text:?}");
-    }
+    assert_faults(&rt, rt.alloc(), &instance, &rows);
     Ok(())
 }
 
@@ -94,7 +107,7 @@ fn solutions_of_four_fields(rt: HostRuntime) -> Result<(), Fail> {
     ];
     for (text, wanted) in rows {
         let solution = solution_of(rt.alloc(), text)?;
-        assert_eq!(rt; solution.as_slice(), wanted, "of {text:?}");
+        assert_solution(&rt, &solution, wanted, text);
     }
     Ok(())
 }
@@ -104,7 +117,7 @@ fn solutions_of_four_fields(rt: HostRuntime) -> Result<(), Fail> {
 fn lines_of_four_fields_that_are_refused(rt: HostRuntime) -> Result<(), Fail> {
     let instance = built(tiny(rt.alloc())?)?;
     let destinations = Cause::Unsupported(Key::Destinations);
-    let rows: [(&[u8], u64, Cause); 8] = [
+    let rows: [Row<'_>; 9] = [
         (b"9 x 9 \xff", 1, MALFORMED),
         (b"9 1 9 \xff", 1, Cause::NotAscii),
         (b"4 1 2 0.5", 1, BLOCK_RANGE),
@@ -113,12 +126,8 @@ fn lines_of_four_fields_that_are_refused(rt: HostRuntime) -> Result<(), Fail> {
         (b"3 1 1 0", 1, destinations),
         (b"3 0 1 0.5", 1, Cause::PartBlock),
         (b"3 0 1 -1", 1, Cause::PartBlock),
+        (b"3 1\n3 0 1 0\n3 0 1 1", 3, REPEATED),
     ];
-    for (text, line, cause) in rows {
-        let answer = read_solution(rt.alloc(), text, &instance).err();
-        assert_eq!(rt; answer, Some(fault(line, cause)), "of {text:?}");
-    }
-    let answer = read_solution(rt.alloc(), b"3 1\n3 0 1 0\n3 0 1 1", &instance).err();
-    assert_eq!(rt; answer, Some(fault(3, REPEATED)));
+    assert_faults(&rt, rt.alloc(), &instance, &rows);
     Ok(())
 }

@@ -1,7 +1,21 @@
 //! The words of each fault.
 use super::{BLOCK_RANGE, MALFORMED, PERIOD_RANGE, REPEATED, TOO_LARGE, TOO_LONG, fault};
 use crate::{Cause, Key};
+use std::alloc::Global;
+use std::fmt;
+use std::process::Abort;
 use std::test::Fail;
+
+fn assert_words<T: fmt::Display>(
+    rt: &impl Abort,
+    alloc: Global,
+    value: &T,
+    words: &str,
+) -> Result<(), Fail> {
+    let shown = format!(in alloc; "{value}")?;
+    assert_eq!(rt; shown.as_str(), words);
+    Ok(())
+}
 
 #[test]
 fn each_cause_has_its_words(rt: HostRuntime) -> Result<(), Fail> {
@@ -24,8 +38,7 @@ fn each_cause_has_its_words(rt: HostRuntime) -> Result<(), Fail> {
         (REPEATED, "repeated"),
         (Cause::NoMemory, "no memory"),
     ] {
-        let shown = format!(in rt.alloc(); "{cause}")?;
-        assert_eq!(rt; shown.as_str(), words);
+        assert_words(&rt, rt.alloc(), &cause, words)?;
     }
     Ok(())
 }
@@ -41,8 +54,7 @@ fn each_key_has_the_text_of_the_model_file(rt: HostRuntime) -> Result<(), Fail> 
         (Key::Destinations, "NDESTINATIONS"),
         (Key::Generals, "NGENERAL_SIDE_CONSTRAINTS"),
     ] {
-        let shown = format!(in rt.alloc(); "{key}")?;
-        assert_eq!(rt; shown.as_str(), words);
+        assert_words(&rt, rt.alloc(), &key, words)?;
     }
     Ok(())
 }
@@ -55,9 +67,7 @@ fn a_fault_names_its_line(rt: HostRuntime) -> Result<(), Fail> {
         (1207, REPEATED, "line 1207: repeated"),
         (u64::MAX, MALFORMED, "line 18446744073709551615: bad number"),
     ] {
-        let error = fault(line, cause);
-        let shown = format!(in rt.alloc(); "{error}")?;
-        assert_eq!(rt; shown.as_str(), words);
+        assert_words(&rt, rt.alloc(), &fault(line, cause), words)?;
     }
     Ok(())
 }
