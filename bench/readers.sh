@@ -22,14 +22,20 @@ cp "$here/readers.txt" "$build/crates/readers/src/main.rt"
 [ -d "$build/.git" ] || git init -q "$build"
 readers=$build/crates/readers/out/readers
 rm -f "$readers"
+# With no words it answers 2; what counts is that it was made.
 (cd "$build/crates/readers" && rt run >../../log 2>&1) || true
 [ -x "$readers" ] || { tail "$build/log" >&2; exit 1; }
 
-# best NAME WORD..: keeps the least seconds and the least peak memory, in KB, of the runs so far.
+# best NAME WORD..: keeps the least seconds and the least peak memory, in KB, of the runs so far. A status above 1 ends the script: that of
+# a program that did not read its files. A twin's 1 says that its solution does not fit.
 best() {
-    local of=$1 s u m
+    local of=$1 s u m status=0
     shift
-    /usr/bin/time -f '%U %S %M' -o "$build/measured" "$@" >"$build/answer" || true
+    /usr/bin/time -f '%U %S %M' -o "$build/measured" "$@" >"$build/answer" || status=$?
+    if [ "$status" -gt 1 ]; then
+        echo "$of: status $status" >&2
+        exit 1
+    fi
     read -r u s m < <(tail -1 "$build/measured")
     s=$(awk "BEGIN { print $u + $s }")
     if awk "BEGIN { exit !($s < ${seconds[$of]:-999999}) }"; then seconds[$of]=$s; fi

@@ -216,6 +216,38 @@ fn assert_facts<A: Allocator + Copy + Drop>(
     Ok(())
 }
 
+/// A text, and the line and the cause of its fault.
+type Row<'a> = (&'a [u8], u64, Cause);
+
+/// Each text has the fault beside it, as a model behind these parts.
+fn assert_faults(
+    rt: &impl Abort,
+    alloc: Global,
+    front: [&[u8]; 2],
+    rows: &[Row<'_>],
+) -> Result<(), AllocError> {
+    let [first, second] = front;
+    for (text, line, cause) in rows {
+        let answer = model_fault(alloc, &[first, second, text])?;
+        assert_eq!(rt; answer, Some(fault(*line, *cause)), "of {text:?}");
+    }
+    Ok(())
+}
+
+/// The same where each fault stands in this line.
+fn assert_faults_in(
+    rt: &impl Abort,
+    alloc: Global,
+    front: [&[u8]; 2],
+    line: u64,
+    rows: &[(&[u8], Cause)],
+) -> Result<(), AllocError> {
+    for (text, cause) in rows {
+        assert_faults(rt, alloc, front, &[(text, line, *cause)])?;
+    }
+    Ok(())
+}
+
 /// The fault of a model of these parts.
 fn model_fault(alloc: Global, parts: &[&[u8]]) -> Result<Option<TextError>, AllocError> {
     let text = joined(alloc, parts)?;

@@ -15,7 +15,7 @@ fn blocks_fault(alloc: Global, text: &[u8]) -> Result<Option<TextError>, NoMemor
 // The number of fields, then the four that are read, then what is known of the pit. Four blocks.
 #[test]
 fn lines_that_are_refused(rt: HostRuntime) -> Result<(), Fail> {
-    let rows: [(&[u8], u64, Cause); 8] = [
+    const ROWS: &[(&[u8], u64, Cause)] = &[
         (b"0 0 2", 1, Cause::FieldCount),
         (b"9 x \xff 0", 1, MALFORMED),
         (b"9 0 \xff 0", 1, Cause::NotAscii),
@@ -25,9 +25,9 @@ fn lines_that_are_refused(rt: HostRuntime) -> Result<(), Fail> {
         (b"1 0 0 1\n\n0 1 2 3 x\n1 0 0 1 \xff", 4, REPEATED),
         (b"0 0 0 2\n0 0 0", 2, Cause::FieldCount),
     ];
-    for (text, line, cause) in rows {
+    for (text, line, cause) in ROWS {
         let answer = blocks_fault(rt.alloc(), text)?;
-        assert_eq!(rt; answer, Some(fault(line, cause)), "of {text:?}");
+        assert_eq!(rt; answer, Some(fault(*line, *cause)), "of {text:?}");
     }
     Ok(())
 }
@@ -47,7 +47,7 @@ fn place_read(
 // Further fields aren't read, and a block without a line has no place.
 #[test]
 fn places(rt: HostRuntime) -> Result<(), Fail> {
-    let rows: [(&[u8], u32, Option<(i64, i64, i64)>); 8] = [
+    const ROWS: &[(&[u8], u32, Option<(i64, i64, i64)>)] = &[
         (b"", 0, None),
         (
             b"0 0 0 2\n1 0 0 1\n2 0 0 0\n3 1 0 2",
@@ -69,9 +69,9 @@ fn places(rt: HostRuntime) -> Result<(), Fail> {
         (b"3:0:1:0\r\n% 3\r\n", 3, Some((0, 1_000_000, 0))),
         (b"2 0 0 1\nEOF\n1 0 0 1", 1, None),
     ];
-    for (text, block, place) in rows {
-        let read = place_read(&rt, rt.alloc(), text, block)?;
-        assert_eq!(rt; read, place, "{block} of {text:?}");
+    for (text, block, place) in ROWS {
+        let read = place_read(&rt, rt.alloc(), text, *block)?;
+        assert_eq!(rt; read, *place, "{block} of {text:?}");
     }
     Ok(())
 }

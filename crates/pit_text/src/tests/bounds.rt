@@ -5,7 +5,7 @@ use std::test::Fail;
 
 #[test]
 fn upper_bounds(rt: HostRuntime) -> Result<(), Fail> {
-    let rows: [(&str, Option<i64>); 8] = [
+    const ROWS: &[(&str, Option<i64>)] = &[
         ("4", Some(4_000_000)),
         ("-1", Some(-1_000_000)),
         ("1e3", Some(1_000_000_000)),
@@ -15,15 +15,15 @@ fn upper_bounds(rt: HostRuntime) -> Result<(), Fail> {
         ("+infinity", None),
         ("0.0000005", Some(1)),
     ];
-    for (text, bound) in rows {
-        assert_eq!(rt; upper_bound(text), Ok(bound), "of {text:?}");
+    for (text, bound) in ROWS {
+        assert_eq!(rt; upper_bound(text), Ok(*bound), "of {text:?}");
     }
     Ok(())
 }
 
 #[test]
 fn upper_bounds_that_are_refused(rt: HostRuntime) -> Result<(), Fail> {
-    let rows: [(&str, NumError); 8] = [
+    const ROWS: &[(&str, NumError)] = &[
         ("-inf", NumError::Malformed),
         ("-infinity", NumError::Malformed),
         ("++inf", NumError::Malformed),
@@ -33,8 +33,8 @@ fn upper_bounds_that_are_refused(rt: HostRuntime) -> Result<(), Fail> {
         ("1e1000", NumError::TooLong),
         ("1e12", NumError::TooLarge),
     ];
-    for (text, error) in rows {
-        assert_eq!(rt; upper_bound(text), Err(error), "of {text:?}");
+    for (text, error) in ROWS {
+        assert_eq!(rt; upper_bound(text), Err(*error), "of {text:?}");
     }
     Ok(())
 }

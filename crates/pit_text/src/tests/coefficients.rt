@@ -1,7 +1,7 @@
 //! The lines of the section of coefficients.
 use super::{
-    BLOCK_RANGE, MALFORMED, REPEATED, RESOURCE_RANGE, TINY_COEFFICIENTS, TINY_HEADER, built,
-    coefs_of, fault, model_fault, model_read,
+    BLOCK_RANGE, MALFORMED, REPEATED, RESOURCE_RANGE, Row, TINY_COEFFICIENTS, TINY_HEADER,
+    assert_faults, built, coefs_of, model_read,
 };
 use crate::Cause;
 use pit_model::Instance;
@@ -16,7 +16,7 @@ const SECTION: &[u8] = b"RESOURCE_CONSTRAINT_COEFFICIENTS\n";
 // these lines is line 8.
 #[test]
 fn lines_that_are_refused(rt: HostRuntime) -> Result<(), Fail> {
-    let rows: [(&[u8], u64, Cause); 8] = [
+    const ROWS: &[Row<'static>] = &[
         (b"2 0", 8, Cause::FieldCount),
         (b"0 0 2 \xff", 8, Cause::FieldCount),
         (b"9 x \xff", 8, MALFORMED),
@@ -26,17 +26,14 @@ fn lines_that_are_refused(rt: HostRuntime) -> Result<(), Fail> {
         (b"0 0 2\n1 0 2\n0 0 2", 10, REPEATED),
         (b"0 0 0\n0 0 x", 9, MALFORMED),
     ];
-    for (lines, line, cause) in rows {
-        let answer = model_fault(rt.alloc(), &[TINY_HEADER, SECTION, lines])?;
-        assert_eq!(rt; answer, Some(fault(line, cause)), "of {lines:?}");
-    }
+    assert_faults(&rt, rt.alloc(), [TINY_HEADER, SECTION], ROWS)?;
     Ok(())
 }
 
-/// The coefficients of a block.
-type Row<'a> = (u32, &'a [(u32, i64)]);
+/// A block, and its coefficients.
+type Coefs<'a> = (u32, &'a [(u32, i64)]);
 
-fn assert_coefs(rt: &impl Abort, instance: &Instance<Global>, rows: &[Row<'_>]) {
+fn assert_coefs(rt: &impl Abort, instance: &Instance<Global>, rows: &[Coefs<'_>]) {
     for (block, wanted) in rows {
         assert_eq!(rt; coefs_of(rt, instance, *block), *wanted, "of {block}");
     }
@@ -45,13 +42,13 @@ fn assert_coefs(rt: &impl Abort, instance: &Instance<Global>, rows: &[Row<'_>]) 
 #[test]
 fn coefficients_of_the_small_pit(rt: HostRuntime) -> Result<(), Fail> {
     let builder = model_read(rt.alloc(), &[TINY_HEADER, TINY_COEFFICIENTS])?;
-    let rows: [Row<'_>; 4] = [
+    const ROWS: &[Coefs<'static>] = &[
         (0, &[(0, 2_000_000)]),
         (1, &[(0, 2_000_000)]),
         (2, &[(0, 3_000_000)]),
         (3, &[(0, 1_000_000)]),
     ];
-    assert_coefs(&rt, &built(builder)?, &rows);
+    assert_coefs(&rt, &built(builder)?, ROWS);
     Ok(())
 }
 
@@ -61,10 +58,10 @@ fn coefficients_by_rising_resource(rt: HostRuntime) -> Result<(), Fail> {
     let text = b"TYPE CPIT\nNBLOCKS 2\nNPERIODS 1\nNRESOURCE_SIDE_CONSTRAINTS 3\nDISCOUNT_RATE 0
 RESOURCE_CONSTRAINT_COEFFICIENTS\n1 2 -1.5\n0 1 7\n1 0 0\r\n1:1:3\n";
     let builder = model_read(rt.alloc(), &[text])?;
-    let rows: [Row<'_>; 2] = [
+    const ROWS: &[Coefs<'static>] = &[
         (0, &[(1, 7_000_000)]),
         (1, &[(0, 0), (1, 3_000_000), (2, -1_500_000)]),
     ];
-    assert_coefs(&rt, &built(builder)?, &rows);
+    assert_coefs(&rt, &built(builder)?, ROWS);
     Ok(())
 }

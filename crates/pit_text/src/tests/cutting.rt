@@ -36,7 +36,7 @@ fn assert_fields(rt: &impl Abort, mut fields: Fields<'_>, wanted: &[&[u8]], text
 
 #[test]
 fn fields(rt: HostRuntime) {
-    let rows: [(&[u8], &[&[u8]]); 13] = [
+    const ROWS: &[(&[u8], &[&[u8]])] = &[
         (b"", &[]),
         (b" \t:", &[]),
         (b"TYPE: CPIT", &[b"TYPE", b"CPIT"]),
@@ -54,14 +54,14 @@ fn fields(rt: HostRuntime) {
         (b"% EOF", &[b"%", b"EOF"]),
         (b"0 -10 % waste", &[b"0", b"-10", b"%", b"waste"]),
     ];
-    for (line, wanted) in rows {
+    for (line, wanted) in ROWS {
         assert_fields(&rt, Fields::new(line), wanted, line);
     }
 }
 
 #[test]
 fn lines(rt: HostRuntime) -> Result<(), Fail> {
-    let rows: [(&[u8], &[Cut<'_>], u64); 14] = [
+    const ROWS: &[(&[u8], &[Cut<'static>], u64)] = &[
         // The end line is the count of lines plus one. What follows the last LF is a line if it isn't empty.
         (b"", &[], 1),
         (b"\n", &[], 2),
@@ -81,15 +81,15 @@ fn lines(rt: HostRuntime) -> Result<(), Fail> {
         (b"\r\n\r\r\n", &[(2, &[b"\r"])], 3),
         (b"a\n ", &[(1, &[b"a"])], 3),
     ];
-    for (text, wanted, end_line) in rows {
-        assert_cut(&rt, text, wanted, end_line)?;
+    for (text, wanted, end_line) in ROWS {
+        assert_cut(&rt, text, wanted, *end_line)?;
     }
     Ok(())
 }
 
 #[test]
 fn comments(rt: HostRuntime) -> Result<(), Fail> {
-    let rows: [(&[u8], &[Cut<'_>], u64); 7] = [
+    const ROWS: &[(&[u8], &[Cut<'static>], u64)] = &[
         (b"%\n% a\n\t %%\n  %b\nc", &[(5, &[b"c"])], 6),
         // The first byte other than a space and a tab is a colon here.
         (b":% x", &[(1, &[b"%", b"x"])], 2),
@@ -100,15 +100,15 @@ fn comments(rt: HostRuntime) -> Result<(), Fail> {
         (b"\0%", &[(1, &[b"\0%"])], 2),
         (b"\r%\n", &[(1, &[b"\r%"])], 2),
     ];
-    for (text, wanted, end_line) in rows {
-        assert_cut(&rt, text, wanted, end_line)?;
+    for (text, wanted, end_line) in ROWS {
+        assert_cut(&rt, text, wanted, *end_line)?;
     }
     Ok(())
 }
 
 #[test]
 fn ends(rt: HostRuntime) -> Result<(), Fail> {
-    let rows: [(&[u8], &[Cut<'_>], u64); 13] = [
+    const ROWS: &[(&[u8], &[Cut<'static>], u64)] = &[
         // A line whose first field is `EOF` ends the text, and nothing after it is looked at.
         (b"a\nEOF\nb\nEOF\n", &[(1, &[b"a"])], 2),
         (b"EOF", &[], 1),
@@ -126,8 +126,8 @@ fn ends(rt: HostRuntime) -> Result<(), Fail> {
         (b"% EOF\na", &[(2, &[b"a"])], 3),
         (b"%EOF\n% \nEOF", &[], 3),
     ];
-    for (text, wanted, end_line) in rows {
-        assert_cut(&rt, text, wanted, end_line)?;
+    for (text, wanted, end_line) in ROWS {
+        assert_cut(&rt, text, wanted, *end_line)?;
     }
     Ok(())
 }

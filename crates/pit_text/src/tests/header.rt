@@ -1,6 +1,7 @@
 //! The header of a model text.
 use super::{
-    HEADER, assert_model, builder_numbers, built, facts_of, fault, instance_numbers, model_fault,
+    HEADER, Row, assert_faults, assert_faults_in, assert_model, builder_numbers, built, facts_of,
+    fault, instance_numbers, model_fault,
 };
 use crate::{Cause, Key, read_model};
 use Cause::{BadHeader, MissingHeader, NotCpit, Unsupported};
@@ -10,8 +11,8 @@ use std::process::Abort;
 use std::test::Fail;
 
 #[test]
-fn values_that_are_refused(rt: HostRuntime) {
-    let rows: [(&[u8], Cause); 47] = [
+fn values_that_are_refused(rt: HostRuntime) -> Result<(), Fail> {
+    const ROWS: &[(&[u8], Cause)] = &[
         (b"TYPE: PCPSP", NotCpit),
         (b"TYPE: CPITX", NotCpit),
         (b"TYPE: CPI", NotCpit),
@@ -67,16 +68,14 @@ fn values_that_are_refused(rt: HostRuntime) {
         // The first fault is that of the first line.
         (b"NBLOCKS: 0\nTYPE: PCPSP", BadHeader(Key::Blocks)),
     ];
-    for (text, cause) in rows {
-        let answer = read_model(rt.alloc(), text).err();
-        assert_eq!(rt; answer, Some(fault(1, cause)), "of {text:?}");
-    }
+    assert_faults_in(&rt, rt.alloc(), [b"", b""], 1, ROWS)?;
+    Ok(())
 }
 
 // That a key comes twice goes before what its second value is.
 #[test]
-fn keys_that_come_twice(rt: HostRuntime) {
-    let rows: [(&[u8], u64, Cause); 12] = [
+fn keys_that_come_twice(rt: HostRuntime) -> Result<(), Fail> {
+    const ROWS: &[Row<'static>] = &[
         (b"TYPE: CPIT\nTYPE: CPIT", 2, BadHeader(Key::Kind)),
         (b"TYPE: CPIT\nTYPE: PCPSP", 2, BadHeader(Key::Kind)),
         (b"NBLOCKS: 4\nNBLOCKS: 4", 2, BadHeader(Key::Blocks)),
@@ -118,10 +117,8 @@ fn keys_that_come_twice(rt: HostRuntime) {
             BadHeader(Key::Kind),
         ),
     ];
-    for (text, line, cause) in rows {
-        let answer = read_model(rt.alloc(), text).err();
-        assert_eq!(rt; answer, Some(fault(line, cause)), "of {text:?}");
-    }
+    assert_faults(&rt, rt.alloc(), [b"", b""], ROWS)?;
+    Ok(())
 }
 
 /// A whole header of these values.
@@ -164,7 +161,7 @@ fn header_read(
 // 10^-6 it is 999999000001.0..
 #[test]
 fn values_that_are_read(rt: HostRuntime) -> Result<(), Fail> {
-    let rows: [([&[u8]; 5], [u32; 3], i64); 7] = [
+    const ROWS: &[([&[u8]; 5], [u32; 3], i64)] = &[
         (
             [b"CPIT", b"4", b"2", b"1", b"0.1"],
             [4, 2, 1],
@@ -201,7 +198,7 @@ fn values_that_are_read(rt: HostRuntime) -> Result<(), Fail> {
             909_090_909_091,
         ),
     ];
-    for (values, numbers, factor) in &rows {
+    for (values, numbers, factor) in ROWS {
         let header = header_of(rt.alloc(), values)?;
         let read = header_read(&rt, rt.alloc(), &header)?;
         assert_eq!(rt; read, (*numbers, *numbers, *factor), "of {header:?}");
@@ -211,7 +208,7 @@ fn values_that_are_read(rt: HostRuntime) -> Result<(), Fail> {
 
 #[test]
 fn lines_that_are_skipped(rt: HostRuntime) -> Result<(), Fail> {
-    let rows: [&[u8]; 9] = [
+    const ROWS: &[&[u8]] = &[
         b"",
         b"NAME: a b\nNAME\n",
         b"NAME: \xff\xfe\n",
@@ -223,9 +220,32 @@ fn lines_that_are_skipped(rt: HostRuntime) -> Result<(), Fail> {
         b"\r\n   \t\n::\n%TYPE: PCPSP\n % EOF\n",
         b"EOFX\neof\n",
     ];
-    for text in rows {
+    for text in ROWS {
         assert_model(&rt, rt.alloc(), &[text, HEADER], facts_of(&[0, 0]))?;
         assert_model(&rt, rt.alloc(), &[HEADER, text], facts_of(&[0, 0]))?;
+    }
+    Ok(())
+}
+
+/// Whatever these four lines end in, the fault is that the key is missing, and stands in line 5.
+fn assert_missing(
+    rt: &impl Abort,
+    alloc: Global,
+    lines: [&[u8]; 4],
+    key: Key,
+) -> Result<(), AllocError> {
+    const ENDS: &[&[u8]] = &[
+        b"",
+        b"EOF\n",
+        b"OBJECTIVE_FUNCTION:\n0 x\nOBJECTIVE_FUNCTION:\n",
+        b"RESOURCE_CONSTRAINT_COEFFICIENTS:\nTYPE: CPIT\n",
+        b" RESOURCE_CONSTRAINT_LIMITS \xff\n",
+    ];
+    let [first, second, third, fourth] = lines;
+    for end in ENDS {
+        let parts = [first, second, third, fourth, end];
+        let answer = model_fault(alloc, &parts)?;
+        assert_eq!(rt; answer, Some(fault(5, MissingHeader(key))), "of {parts:?}");
     }
     Ok(())
 }
@@ -233,14 +253,11 @@ fn lines_that_are_skipped(rt: HostRuntime) -> Result<(), Fail> {
 // Five keys are needed. With four lines the end line is 5, and so is the line of a section that follows them.
 #[test]
 fn keys_that_are_missing(rt: HostRuntime) -> Result<(), Fail> {
-    let lines: [&[u8]; 5] = [
-        b"TYPE: CPIT\n",
-        b"NBLOCKS: 2\n",
-        b"NPERIODS: 2\n",
-        b"NRESOURCE_SIDE_CONSTRAINTS: 0\n",
-        b"DISCOUNT_RATE: 0\n",
-    ];
-    let [kind, blocks, periods, resources, rate] = lines;
+    let kind = b"TYPE: CPIT\n";
+    let blocks = b"NBLOCKS: 2\n";
+    let periods = b"NPERIODS: 2\n";
+    let resources = b"NRESOURCE_SIDE_CONSTRAINTS: 0\n";
+    let rate = b"DISCOUNT_RATE: 0\n";
     let rows: [([&[u8]; 4], Key); 6] = [
         ([blocks, periods, resources, rate], Key::Kind),
         ([kind, periods, resources, rate], Key::Blocks),
@@ -250,26 +267,15 @@ fn keys_that_are_missing(rt: HostRuntime) -> Result<(), Fail> {
         // The first of the list, whatever the order of the lines.
         ([rate, b"\n", resources, periods], Key::Kind),
     ];
-    let ends: [&[u8]; 5] = [
-        b"",
-        b"EOF\n",
-        b"OBJECTIVE_FUNCTION:\n0 x\nOBJECTIVE_FUNCTION:\n",
-        b"RESOURCE_CONSTRAINT_COEFFICIENTS:\nTYPE: CPIT\n",
-        b" RESOURCE_CONSTRAINT_LIMITS \xff\n",
-    ];
-    for ([first, second, third, fourth], key) in rows {
-        for end in ends {
-            let parts = [first, second, third, fourth, end];
-            let answer = model_fault(rt.alloc(), &parts)?;
-            assert_eq!(rt; answer, Some(fault(5, MissingHeader(key))), "of {parts:?}");
-        }
+    for (lines, key) in rows {
+        assert_missing(&rt, rt.alloc(), lines, key)?;
     }
     Ok(())
 }
 
 #[test]
-fn headers_that_are_not_there(rt: HostRuntime) {
-    let rows: [(&[u8], u64); 8] = [
+fn headers_that_are_not_there(rt: HostRuntime) -> Result<(), Fail> {
+    const ROWS: &[(&[u8], u64)] = &[
         (b"", 1),
         (b"\n", 2),
         (b"EOF", 1),
@@ -279,9 +285,10 @@ fn headers_that_are_not_there(rt: HostRuntime) {
         (b"\0TYPE: CPIT\r\n\r", 3),
         (b"LIMITS\nRESOURCE_CONSTRAINT_LIMITS\n", 2),
     ];
-    for (text, line) in rows {
-        let answer = read_model(rt.alloc(), text).err();
-        let wanted = Some(fault(line, MissingHeader(Key::Kind)));
+    for (text, line) in ROWS {
+        let answer = model_fault(rt.alloc(), &[text])?;
+        let wanted = Some(fault(*line, MissingHeader(Key::Kind)));
         assert_eq!(rt; answer, wanted, "of {text:?}");
     }
+    Ok(())
 }

@@ -138,14 +138,23 @@ fn whole_and_in_front(rt: HostRuntime) -> Result<(), Fail> {
     Ok(())
 }
 
-#[test]
-fn a_small_pit_cut_after_each_byte(rt: HostRuntime) -> Result<(), Fail> {
-    let alloc = rt.alloc();
-    let instance = built(tiny(alloc)?)?;
-    let parts = [TINY_HEADER, TINY_OBJECTIVE, TINY_COEFFICIENTS, TINY_LIMITS];
-    let text = joined(alloc, &parts)?;
+/// The same of each front of the text.
+fn assert_cuts(
+    rt: &impl Abort,
+    alloc: Global,
+    text: &[u8],
+    instance: &Instance<Global>,
+) -> Result<(), Fail> {
     for end in 0..=text.len() {
-        assert_answers(&rt, alloc, &text[..end], &instance)?;
+        assert_answers(rt, alloc, &text[..end], instance)?;
     }
     Ok(())
+}
+
+#[test]
+fn a_small_pit_cut_after_each_byte(rt: HostRuntime) -> Result<(), Fail> {
+    let parts = [TINY_HEADER, TINY_OBJECTIVE, TINY_COEFFICIENTS, TINY_LIMITS];
+    let text = joined(rt.alloc(), &parts)?;
+    let instance = built(tiny(rt.alloc())?)?;
+    assert_cuts(&rt, rt.alloc(), &text, &instance)
 }

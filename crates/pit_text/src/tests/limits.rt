@@ -1,7 +1,7 @@
 //! The lines of the section of limits.
 use super::{
-    MALFORMED, PERIOD_RANGE, RESOURCE_RANGE, TINY_HEADER, TINY_LIMITS, TOO_LARGE, bounds_of, built,
-    fault, model_fault, model_read,
+    MALFORMED, PERIOD_RANGE, RESOURCE_RANGE, TINY_HEADER, TINY_LIMITS, TOO_LARGE, assert_faults_in,
+    bounds_of, built, model_read,
 };
 use crate::Cause;
 use pit_model::BuildError;
@@ -17,7 +17,7 @@ const INTERVAL: Cause = Cause::Build(BuildError::Interval);
 // At least four fields, then the resource, the period and the kind; then the exact number of fields, and the bounds.
 #[test]
 fn fields_that_are_refused(rt: HostRuntime) -> Result<(), Fail> {
-    let rows: [(&[u8], Cause); 8] = [
+    const ROWS: &[(&[u8], Cause)] = &[
         (b"0 0 L", Cause::FieldCount),
         (b"x 0 X 4", MALFORMED),
         (b"0 0 \xff 4", Cause::NotAscii),
@@ -27,17 +27,14 @@ fn fields_that_are_refused(rt: HostRuntime) -> Result<(), Fail> {
         (b"0 0 I 4", Cause::FieldCount),
         (b"0 0 I 4 5 6", Cause::FieldCount),
     ];
-    for (line, cause) in rows {
-        let answer = model_fault(rt.alloc(), &[TINY_HEADER, SECTION, line])?;
-        assert_eq!(rt; answer, Some(fault(8, cause)), "of {line:?}");
-    }
+    assert_faults_in(&rt, rt.alloc(), [TINY_HEADER, SECTION], 8, ROWS)?;
     Ok(())
 }
 
 // A bound that is infinite the other way is no number. Then the resource, the period and the interval.
 #[test]
 fn bounds_that_are_refused(rt: HostRuntime) -> Result<(), Fail> {
-    let rows: [(&[u8], Cause); 8] = [
+    const ROWS: &[(&[u8], Cause)] = &[
         (b"0 0 L -inf", MALFORMED),
         (b"0 0 G inf", MALFORMED),
         (b"0 0 I inf 4", MALFORMED),
@@ -47,10 +44,7 @@ fn bounds_that_are_refused(rt: HostRuntime) -> Result<(), Fail> {
         (b"0 2 I 5 4", PERIOD_RANGE),
         (b"0 0 I 5 4", INTERVAL),
     ];
-    for (line, cause) in rows {
-        let answer = model_fault(rt.alloc(), &[TINY_HEADER, SECTION, line])?;
-        assert_eq!(rt; answer, Some(fault(8, cause)), "of {line:?}");
-    }
+    assert_faults_in(&rt, rt.alloc(), [TINY_HEADER, SECTION], 8, ROWS)?;
     Ok(())
 }
 
@@ -68,7 +62,7 @@ fn bounds_read(
 
 #[test]
 fn limits(rt: HostRuntime) -> Result<(), Fail> {
-    let rows: [(&[u8], Option<i64>, Option<i64>); 8] = [
+    const ROWS: &[(&[u8], Option<i64>, Option<i64>)] = &[
         (b"", None, None),
         (b"0 0 L inf", None, None),
         (b"0 0 I -inf 3", None, Some(3_000_000)),
@@ -83,9 +77,9 @@ fn limits(rt: HostRuntime) -> Result<(), Fail> {
             Some(5_000_000),
         ),
     ];
-    for (lines, lower, upper) in rows {
+    for (lines, lower, upper) in ROWS {
         let bounds = bounds_read(&rt, rt.alloc(), &[TINY_HEADER, SECTION, lines], 0)?;
-        assert_eq!(rt; bounds, (lower, upper), "of {lines:?}");
+        assert_eq!(rt; bounds, (*lower, *upper), "of {lines:?}");
     }
     Ok(())
 }

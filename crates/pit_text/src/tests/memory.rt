@@ -1,7 +1,7 @@
 //! Each allocation refused in turn.
 use super::{
     Facts, HEADER, REPEATED, TINY_COEFFICIENTS, TINY_FACTS, TINY_HEADER, TINY_LIMITS,
-    TINY_OBJECTIVE, assert_facts, facts_of, fault, joined,
+    TINY_OBJECTIVE, assert_facts, facts_of, fault, joined, model_fault,
 };
 use crate::{Cause, TextError, read_blocks, read_model, read_precedence, read_solution};
 use pit_model::Builder;
@@ -46,8 +46,8 @@ fn of_read_model_with_a_fault(rt: HostRuntime) -> Result<(), Fail> {
     let answer = read_model(&heap, b"TYPE: PCPSP").err();
     assert_eq!(rt; answer, Some(fault(1, Cause::NotCpit)));
     assert_eq!(rt; heap.count().asked, 0);
-    let text = joined(rt.alloc(), &[HEADER, b"OBJECTIVE_FUNCTION\n0 1\n0 2"])?;
-    let answer = read_model(rt.alloc(), &text).err();
+    let parts: [&[u8]; 2] = [HEADER, b"OBJECTIVE_FUNCTION\n0 1\n0 2"];
+    let answer = model_fault(rt.alloc(), &parts)?;
     assert_eq!(rt; answer, Some(fault(8, REPEATED)));
     Ok(())
 }

@@ -1,7 +1,7 @@
 //! The lines of the objective section.
 use super::{
-    BLOCK_RANGE, HEADER, MALFORMED, REPEATED, TOO_LARGE, TOO_LONG, assert_model, facts_of, fault,
-    model_fault,
+    BLOCK_RANGE, HEADER, MALFORMED, REPEATED, Row, TOO_LARGE, TOO_LONG, assert_faults,
+    assert_faults_in, assert_model, facts_of,
 };
 use crate::Cause;
 use std::test::Fail;
@@ -12,7 +12,7 @@ const SECTION: &[u8] = b"OBJECTIVE_FUNCTION:\n";
 // The number of fields, then the fields from left to right, each first its bytes and then its number, then the block.
 #[test]
 fn lines_that_are_refused(rt: HostRuntime) -> Result<(), Fail> {
-    let rows: [(&[u8], Cause); 31] = [
+    const ROWS: &[(&[u8], Cause)] = &[
         (b"0", Cause::FieldCount),
         (b"0 1 2", Cause::FieldCount),
         (b"0 -10 % waste", Cause::FieldCount),
@@ -46,17 +46,14 @@ fn lines_that_are_refused(rt: HostRuntime) -> Result<(), Fail> {
         (b"4294967295 1", BLOCK_RANGE),
         (b"0\xc2\xa01 5", Cause::NotAscii),
     ];
-    for (line, cause) in rows {
-        let answer = model_fault(rt.alloc(), &[HEADER, SECTION, line])?;
-        assert_eq!(rt; answer, Some(fault(7, cause)), "of {line:?}");
-    }
+    assert_faults_in(&rt, rt.alloc(), [HEADER, SECTION], 7, ROWS)?;
     Ok(())
 }
 
 // That a block comes twice is seen last of all. The first of these lines is line 7.
 #[test]
 fn blocks_that_come_twice(rt: HostRuntime) -> Result<(), Fail> {
-    let rows: [(&[u8], u64, Cause); 9] = [
+    const ROWS: &[Row<'static>] = &[
         (b"0 -10\n0 -10", 8, REPEATED),
         (b"0 -10\n0 5\n0 x", 8, REPEATED),
         (b"0 0\n0 0", 8, REPEATED),
@@ -71,17 +68,14 @@ fn blocks_that_come_twice(rt: HostRuntime) -> Result<(), Fail> {
             Cause::SectionTwice,
         ),
     ];
-    for (lines, line, cause) in rows {
-        let answer = model_fault(rt.alloc(), &[HEADER, SECTION, lines])?;
-        assert_eq!(rt; answer, Some(fault(line, cause)), "of {lines:?}");
-    }
+    assert_faults(&rt, rt.alloc(), [HEADER, SECTION], ROWS)?;
     Ok(())
 }
 
 // A block without a line has no profit.
 #[test]
 fn profits(rt: HostRuntime) -> Result<(), Fail> {
-    let rows: [(&[u8], &[i64]); 8] = [
+    const ROWS: &[(&[u8], &[i64])] = &[
         (b"", &[0, 0]),
         (b"1 20.5", &[0, 20_500_000]),
         (b"1 1\n0 -1", &[-1_000_000, 1_000_000]),
@@ -95,7 +89,7 @@ fn profits(rt: HostRuntime) -> Result<(), Fail> {
         (b"% 0 x\n\t0\t1e-6\t\nEOF\n0 x", &[1, 0]),
         (b"0 +.5E1\n1 -0", &[5_000_000, 0]),
     ];
-    for (lines, profits) in rows {
+    for (lines, profits) in ROWS {
         assert_model(
             &rt,
             rt.alloc(),

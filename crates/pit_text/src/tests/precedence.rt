@@ -17,7 +17,7 @@ fn precedence_fault(alloc: Global, text: &[u8]) -> Result<Option<TextError>, NoM
 // the pit. Four blocks.
 #[test]
 fn lines_that_are_refused(rt: HostRuntime) -> Result<(), Fail> {
-    let rows: [(&[u8], u64, Cause); 8] = [
+    const ROWS: &[(&[u8], u64, Cause)] = &[
         (b"2", 1, Cause::FieldCount),
         (b"x \xff", 1, MALFORMED),
         (b"2 3 0 1", 1, Cause::CountWrong),
@@ -27,25 +27,25 @@ fn lines_that_are_refused(rt: HostRuntime) -> Result<(), Fail> {
         (b"9 1 4294967296", 1, TOO_LARGE),
         (b"4 0", 1, BLOCK_RANGE),
     ];
-    for (text, line, cause) in rows {
+    for (text, line, cause) in ROWS {
         let answer = precedence_fault(rt.alloc(), text)?;
-        assert_eq!(rt; answer, Some(fault(line, cause)), "of {text:?}");
+        assert_eq!(rt; answer, Some(fault(*line, *cause)), "of {text:?}");
     }
     Ok(())
 }
 
 #[test]
 fn blocks_that_are_refused(rt: HostRuntime) -> Result<(), Fail> {
-    let rows: [(&[u8], u64, Cause); 5] = [
+    const ROWS: &[(&[u8], u64, Cause)] = &[
         (b"2 2 0 4", 1, BLOCK_RANGE),
         (b"2 0\n2 0", 2, REPEATED),
         (b"2 1 0\n% 2 1 0\n2 1 9", 3, BLOCK_RANGE),
         (b"2 1 0\n2 1", 2, Cause::CountWrong),
         (b"0 0\n1 1 0\n0 1 1\nx", 3, REPEATED),
     ];
-    for (text, line, cause) in rows {
+    for (text, line, cause) in ROWS {
         let answer = precedence_fault(rt.alloc(), text)?;
-        assert_eq!(rt; answer, Some(fault(line, cause)), "of {text:?}");
+        assert_eq!(rt; answer, Some(fault(*line, *cause)), "of {text:?}");
     }
     Ok(())
 }
@@ -69,7 +69,7 @@ fn assert_preds(
 // Predecessors rise, without the block itself and each once; a block without a line has none.
 #[test]
 fn predecessors(rt: HostRuntime) -> Result<(), Fail> {
-    let rows: [(&[u8], u32, &[u32]); 8] = [
+    const ROWS: &[(&[u8], u32, &[u32])] = &[
         (b"", 0, &[]),
         (b"0 0\n1 1 0\n2 2 0 1\n3 0", 2, &[0, 1]),
         (b"0 0\n1 1 0\n2 2 0 1\n3 0", 3, &[]),
@@ -79,9 +79,9 @@ fn predecessors(rt: HostRuntime) -> Result<(), Fail> {
         (b"1 1 1\n0 1 3\nEOF\n2 1 0", 1, &[]),
         (b"0 1 1\n1 1 0", 0, &[1]),
     ];
-    for (text, block, wanted) in rows {
+    for (text, block, wanted) in ROWS {
         let instance = precedence_built(rt.alloc(), text)?;
-        assert_preds(&rt, &instance, block, wanted, text);
+        assert_preds(&rt, &instance, *block, wanted, text);
     }
     Ok(())
 }

@@ -38,13 +38,13 @@ RESOURCE_CONSTRAINT_COEFFICIENTS:\r\n0 0 2\r\n1 0 2\r\n\t%\r\n2 0 3\r\n3 0 1\r\n
 
 #[test]
 fn tiny_with_a_fault(rt: HostRuntime) -> Result<(), Fail> {
-    let numbers: &[u8] =
+    const NUMBERS: &[u8] =
         b"NBLOCKS: 4\nNPERIODS: 2\nNRESOURCE_SIDE_CONSTRAINTS: 1\nDISCOUNT_RATE: 0.1\n";
-    let rows: [([&[u8]; 5], u64, Cause); 4] = [
+    const ROWS: &[([&[u8]; 5], u64, Cause)] = &[
         (
             [
                 b"NAME: Tiny\nTYPE: PCPSP\n",
-                numbers,
+                NUMBERS,
                 TINY_OBJECTIVE,
                 TINY_COEFFICIENTS,
                 TINY_LIMITS,
@@ -86,9 +86,9 @@ fn tiny_with_a_fault(rt: HostRuntime) -> Result<(), Fail> {
             Cause::FieldCount,
         ),
     ];
-    for (parts, line, cause) in rows {
-        let answer = model_fault(rt.alloc(), &parts)?;
-        assert_eq!(rt; answer, Some(fault(line, cause)), "of {parts:?}");
+    for (parts, line, cause) in ROWS {
+        let answer = model_fault(rt.alloc(), parts)?;
+        assert_eq!(rt; answer, Some(fault(*line, *cause)), "of {parts:?}");
     }
     let answer = read_model(rt.alloc(), b"").err();
     assert_eq!(rt; answer, Some(fault(1, Cause::MissingHeader(Key::Kind))));
@@ -98,7 +98,7 @@ fn tiny_with_a_fault(rt: HostRuntime) -> Result<(), Fail> {
 // The first of these lines is line 6.
 #[test]
 fn sections_that_come_twice(rt: HostRuntime) -> Result<(), Fail> {
-    let rows: [(&[u8], u64); 7] = [
+    const ROWS: &[(&[u8], u64)] = &[
         (b"OBJECTIVE_FUNCTION\nOBJECTIVE_FUNCTION\n", 7),
         (
             b"RESOURCE_CONSTRAINT_COEFFICIENTS\n\nRESOURCE_CONSTRAINT_COEFFICIENTS\n",
@@ -125,11 +125,11 @@ fn sections_that_come_twice(rt: HostRuntime) -> Result<(), Fail> {
             9,
         ),
     ];
-    for (lines, line) in rows {
+    for (lines, line) in ROWS {
         let answer = model_fault(rt.alloc(), &[HEADER, lines])?;
         assert_eq!(rt;
             answer,
-            Some(fault(line, Cause::SectionTwice)),
+            Some(fault(*line, Cause::SectionTwice)),
             "of {lines:?}"
         );
     }
@@ -139,7 +139,7 @@ fn sections_that_come_twice(rt: HostRuntime) -> Result<(), Fail> {
 // Behind `HEADER`: sections that are missing, and what isn't looked at.
 #[test]
 fn sections_that_are_read(rt: HostRuntime) -> Result<(), Fail> {
-    let rows: [(&[u8], &[i64]); 5] = [
+    const ROWS: &[(&[u8], &[i64])] = &[
         (b"OBJECTIVE_FUNCTION: 0 5 \xff\n1 2", &[0, 2_000_000]),
         (
             b"RESOURCE_CONSTRAINT_COEFFICIENTS \xff\nOBJECTIVE_FUNCTION\n0 6",
@@ -156,7 +156,7 @@ fn sections_that_are_read(rt: HostRuntime) -> Result<(), Fail> {
         ),
         (b"EOF\nTYPE: PCPSP\nOBJECTIVE_FUNCTION\n0 x", &[0, 0]),
     ];
-    for (lines, profits) in rows {
+    for (lines, profits) in ROWS {
         assert_model(&rt, rt.alloc(), &[HEADER, lines], facts_of(profits))?;
     }
     Ok(())
@@ -165,7 +165,7 @@ fn sections_that_are_read(rt: HostRuntime) -> Result<(), Fail> {
 // A line that begins no section is one of the section that it stands in. The first of these lines is line 6.
 #[test]
 fn lines_of_another_section(rt: HostRuntime) -> Result<(), Fail> {
-    let rows: [(&[u8], u64); 6] = [
+    const ROWS: &[(&[u8], u64)] = &[
         (b"RESOURCE_CONSTRAINT_LIMITS\n0 5", 7),
         (b"RESOURCE_CONSTRAINT_COEFFICIENTS\nNBLOCKS: 0", 7),
         (
@@ -179,11 +179,11 @@ fn lines_of_another_section(rt: HostRuntime) -> Result<(), Fail> {
         ),
         (b"OBJECTIVE_FUNCTION\nNAME: a b", 7),
     ];
-    for (lines, line) in rows {
+    for (lines, line) in ROWS {
         let answer = model_fault(rt.alloc(), &[HEADER, lines])?;
         assert_eq!(rt;
             answer,
-            Some(fault(line, Cause::FieldCount)),
+            Some(fault(*line, Cause::FieldCount)),
             "of {lines:?}"
         );
     }

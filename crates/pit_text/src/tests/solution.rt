@@ -1,6 +1,6 @@
 //! The lines of a solution.
 use super::{
-    BLOCK_RANGE, MALFORMED, PERIOD_RANGE, REPEATED, TOO_LARGE, TOO_LONG, built, fault, tiny,
+    BLOCK_RANGE, MALFORMED, PERIOD_RANGE, REPEATED, Row, TOO_LARGE, TOO_LONG, built, fault, tiny,
 };
 use crate::{Cause, Key, read_solution};
 use pit_model::Instance;
@@ -18,9 +18,6 @@ fn assert_solution(rt: &impl Abort, solution: &[(u32, u32)], wanted: &[(u32, u32
     assert_eq!(rt; solution, wanted, "of {text:?}");
 }
 
-/// A text, and the line and the cause of its fault.
-type Row<'a> = (&'a [u8], u64, Cause);
-
 fn assert_faults(rt: &impl Abort, alloc: Global, instance: &Instance<Global>, rows: &[Row<'_>]) {
     for (text, line, cause) in rows {
         let answer = read_solution(alloc, text, instance).err();
@@ -30,7 +27,7 @@ fn assert_faults(rt: &impl Abort, alloc: Global, instance: &Instance<Global>, ro
 
 #[test]
 fn solutions_that_are_read(rt: HostRuntime) -> Result<(), Fail> {
-    let rows: [(&[u8], &[(u32, u32)]); 9] = [
+    const ROWS: &[(&[u8], &[(u32, u32)])] = &[
         (b"", &[]),
         (b"EOF\n3 1", &[]),
         (b"3 1", &[(3, 1)]),
@@ -42,7 +39,7 @@ fn solutions_that_are_read(rt: HostRuntime) -> Result<(), Fail> {
         (b"003 01\n00 0", &[(0, 0), (3, 1)]),
         (b"2 0\nEOF\n2 0\nx", &[(2, 0)]),
     ];
-    for (text, wanted) in rows {
+    for (text, wanted) in ROWS {
         let solution = solution_of(rt.alloc(), text)?;
         assert_solution(&rt, &solution, wanted, text);
     }
@@ -54,7 +51,7 @@ fn solutions_that_are_read(rt: HostRuntime) -> Result<(), Fail> {
 #[test]
 fn lines_that_are_refused(rt: HostRuntime) -> Result<(), Fail> {
     let instance = built(tiny(rt.alloc())?)?;
-    let rows: [Row<'_>; 32] = [
+    const ROWS: &[Row<'static>] = &[
         (b"3", 1, Cause::FieldCount),
         (b"3 0 1", 1, Cause::FieldCount),
         (b"3 0 1 1 1", 1, Cause::FieldCount),
@@ -89,14 +86,14 @@ fn lines_that_are_refused(rt: HostRuntime) -> Result<(), Fail> {
         (b"3 1\n3", 2, Cause::FieldCount),
         (b"0 0\n1 0\n4 0\n", 3, BLOCK_RANGE),
     ];
-    assert_faults(&rt, rt.alloc(), &instance, &rows);
+    assert_faults(&rt, rt.alloc(), &instance, ROWS);
     Ok(())
 }
 
 // Four fields: a block, a destination, a period, and how much of the block is mined.
 #[test]
 fn solutions_of_four_fields(rt: HostRuntime) -> Result<(), Fail> {
-    let rows: [(&[u8], &[(u32, u32)]); 6] = [
+    const ROWS: &[(&[u8], &[(u32, u32)])] = &[
         (b"3 0 1 1.000000", &[(3, 1)]),
         (b"3 0 1 0", &[]),
         (b"3 0 1 0.9999995\n2 0 0 1e0", &[(2, 0), (3, 1)]),
@@ -105,29 +102,30 @@ fn solutions_of_four_fields(rt: HostRuntime) -> Result<(), Fail> {
         (b"3 0 1 0\n3 0 0 1\n3 0 1 0", &[(3, 0)]),
         (b"3 1\n2 00 1 1", &[(2, 1), (3, 1)]),
     ];
-    for (text, wanted) in rows {
+    for (text, wanted) in ROWS {
         let solution = solution_of(rt.alloc(), text)?;
         assert_solution(&rt, &solution, wanted, text);
     }
     Ok(())
 }
 
+const DESTINATIONS: Cause = Cause::Unsupported(Key::Destinations);
+
 // After the fields the block, the period, the destination, the part, and whether the block came before.
 #[test]
 fn lines_of_four_fields_that_are_refused(rt: HostRuntime) -> Result<(), Fail> {
     let instance = built(tiny(rt.alloc())?)?;
-    let destinations = Cause::Unsupported(Key::Destinations);
-    let rows: [Row<'_>; 9] = [
+    const ROWS: &[Row<'static>] = &[
         (b"9 x 9 \xff", 1, MALFORMED),
         (b"9 1 9 \xff", 1, Cause::NotAscii),
         (b"4 1 2 0.5", 1, BLOCK_RANGE),
         (b"0 1 2 0.5", 1, PERIOD_RANGE),
-        (b"0 1 1 0.5", 1, destinations),
-        (b"3 1 1 0", 1, destinations),
+        (b"0 1 1 0.5", 1, DESTINATIONS),
+        (b"3 1 1 0", 1, DESTINATIONS),
         (b"3 0 1 0.5", 1, Cause::PartBlock),
         (b"3 0 1 -1", 1, Cause::PartBlock),
         (b"3 1\n3 0 1 0\n3 0 1 1", 3, REPEATED),
     ];
-    assert_faults(&rt, rt.alloc(), &instance, &rows);
+    assert_faults(&rt, rt.alloc(), &instance, ROWS);
     Ok(())
 }

@@ -8,7 +8,7 @@ use std::test::Fail;
 
 #[test]
 fn texts(rt: HostRuntime) -> Result<(), Fail> {
-    let rows: [(&[Option<u32>], &str); 5] = [
+    const ROWS: &[(&[Option<u32>], &str)] = &[
         (&[], ""),
         (&[None, None, None], ""),
         (&[Some(0)], "0 0\n"),
@@ -18,7 +18,7 @@ fn texts(rt: HostRuntime) -> Result<(), Fail> {
             "1 1\n3 4294967295\n",
         ),
     ];
-    for (periods, wanted) in rows {
+    for (periods, wanted) in ROWS {
         let mut out = Out::new(Vec::new(rt.alloc()));
         assert_eq!(rt; write_solution(&mut out, periods), Ok(()));
         assert_eq!(rt;
