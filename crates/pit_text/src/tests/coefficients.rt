@@ -41,13 +41,13 @@ fn assert_coefs(rt: &impl Abort, instance: &Instance<Global>, rows: &[Coefs<'_>]
 
 #[test]
 fn coefficients_of_the_small_pit(rt: HostRuntime) -> Result<(), Fail> {
-    let builder = model_read(rt.alloc(), &[TINY_HEADER, TINY_COEFFICIENTS])?;
     const ROWS: &[Coefs<'static>] = &[
         (0, &[(0, 2_000_000)]),
         (1, &[(0, 2_000_000)]),
         (2, &[(0, 3_000_000)]),
         (3, &[(0, 1_000_000)]),
     ];
+    let builder = model_read(rt.alloc(), &[TINY_HEADER, TINY_COEFFICIENTS])?;
     assert_coefs(&rt, &built(builder)?, ROWS);
     Ok(())
 }
@@ -55,13 +55,13 @@ fn coefficients_of_the_small_pit(rt: HostRuntime) -> Result<(), Fail> {
 // Three resources: the pairs of a block rise by resource, in whatever order the lines come, and a 0 that is given stands.
 #[test]
 fn coefficients_by_rising_resource(rt: HostRuntime) -> Result<(), Fail> {
-    let text = b"TYPE CPIT\nNBLOCKS 2\nNPERIODS 1\nNRESOURCE_SIDE_CONSTRAINTS 3\nDISCOUNT_RATE 0
-RESOURCE_CONSTRAINT_COEFFICIENTS\n1 2 -1.5\n0 1 7\n1 0 0\r\n1:1:3\n";
-    let builder = model_read(rt.alloc(), &[text])?;
     const ROWS: &[Coefs<'static>] = &[
         (0, &[(1, 7_000_000)]),
         (1, &[(0, 0), (1, 3_000_000), (2, -1_500_000)]),
     ];
+    let text = b"TYPE CPIT\nNBLOCKS 2\nNPERIODS 1\nNRESOURCE_SIDE_CONSTRAINTS 3\nDISCOUNT_RATE 0
+RESOURCE_CONSTRAINT_COEFFICIENTS\n1 2 -1.5\n0 1 7\n1 0 0\r\n1:1:3\n";
+    let builder = model_read(rt.alloc(), &[text])?;
     assert_coefs(&rt, &built(builder)?, ROWS);
     Ok(())
 }

@@ -50,7 +50,6 @@ fn solutions_that_are_read(rt: HostRuntime) -> Result<(), Fail> {
 // the period, and last whether the block came before.
 #[test]
 fn lines_that_are_refused(rt: HostRuntime) -> Result<(), Fail> {
-    let instance = built(tiny(rt.alloc())?)?;
     const ROWS: &[Row<'static>] = &[
         (b"3", 1, Cause::FieldCount),
         (b"3 0 1", 1, Cause::FieldCount),
@@ -86,6 +85,7 @@ fn lines_that_are_refused(rt: HostRuntime) -> Result<(), Fail> {
         (b"3 1\n3", 2, Cause::FieldCount),
         (b"0 0\n1 0\n4 0\n", 3, BLOCK_RANGE),
     ];
+    let instance = built(tiny(rt.alloc())?)?;
     assert_faults(&rt, rt.alloc(), &instance, ROWS);
     Ok(())
 }
@@ -114,7 +114,6 @@ const DESTINATIONS: Cause = Cause::Unsupported(Key::Destinations);
 // After the fields the block, the period, the destination, the part, and whether the block came before.
 #[test]
 fn lines_of_four_fields_that_are_refused(rt: HostRuntime) -> Result<(), Fail> {
-    let instance = built(tiny(rt.alloc())?)?;
     const ROWS: &[Row<'static>] = &[
         (b"9 x 9 \xff", 1, MALFORMED),
         (b"9 1 9 \xff", 1, Cause::NotAscii),
@@ -126,6 +125,7 @@ fn lines_of_four_fields_that_are_refused(rt: HostRuntime) -> Result<(), Fail> {
         (b"3 0 1 -1", 1, Cause::PartBlock),
         (b"3 1\n3 0 1 0\n3 0 1 1", 3, REPEATED),
     ];
+    let instance = built(tiny(rt.alloc())?)?;
     assert_faults(&rt, rt.alloc(), &instance, ROWS);
     Ok(())
 }
