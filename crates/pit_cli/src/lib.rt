@@ -15,7 +15,6 @@ mod status;
 mod sum;
 #[cfg(test)]
 mod tests;
-mod text;
 
 pub use checking::check;
 pub use engine::value;
