@@ -1,5 +1,5 @@
 -- What `check` prints, and the status that goes with it.
-use Rattle.std.specs.Prelude.{ℕ, ℤ, Bool, true, false, List, [], ◌∷◌, ◌++◌, Option, Some, None, codes, decimal}
+use Rattle.std.specs.Prelude.{ℕ, ℤ, Bool, true, false, if◌then◌else◌, List, [], ◌∷◌, ◌++◌, Option, Some, None, codes, decimal}
 use Rattle.std.specs.List.{flat_map}
 use Rattle.pit_num.specs.Printed.{fixed_text}
 use Rattle.pit_plan.specs.declared.breach.Breach.{Breach}
@@ -52,6 +52,4 @@ abbrev pub check_text : ℤ → Option Breach → List Short → List ℕ
 check_text value breach shorts = codes "value " ++ (value_text value ++ (breach_text breach ++ (shorts_text shorts ++ fine_text (is_fine breach shorts))))
 
 abbrev pub check_status : Option Breach → List Short → Status
-check_status None [] = Fine
-check_status None (short ∷ more) = Failed
-check_status (Some breach) shorts = Failed
+check_status breach shorts = if is_fine breach shorts then Fine else Failed

@@ -8,8 +8,8 @@ use Rattle.pit_plan.specs.Breaches.{IsBreachOf}
 use Rattle.pit_plan.specs.Shortfalls.{shortfalls_of}
 use Rattle.pit_plan.specs.declared.breach.Breach.{Breach}
 use Rattle.pit_cli.specs.CheckText.{check_text, check_status}
-use Rattle.pit_cli.specs.Outcome.{Reading, Writing, IsWhole, IsInputFault, ReadsPit, IsPitFault, IsOrder, IsOrderFault, IsSolutionOf, IsSolutionFault}
-use Rattle.pit_cli.specs.declared.input.Input.TheVariants.{Precedence, Solution}
+use Rattle.pit_cli.specs.Outcome.{Reading, Writing, IsWhole, IsInputFault, ReadsPit, IsPitFault, IsOrder, IsOrderFault, ReadsSchedule, IsScheduleFault}
+use Rattle.pit_cli.specs.declared.input.Input.TheVariants.{Precedence}
 use Rattle.pit_cli.specs.declared.status.Status.{Status}
 use Rattle.pit_cli.specs.declared.fault.CliFault.{CliFault}
 use Rattle.pit_cli.specs.declared.fault.CliFault.TheVariants.{CannotWrite}
@@ -22,15 +22,6 @@ pub record ReadsOrder (precedence : Reading) (given pit : Pit) : Type 0 where
 
 abbrev pub IsOrderingFault : Reading → Pit → CliFault → Type 0
 IsOrderingFault precedence given fault = IsInputFault precedence Precedence fault ⊎ ((bytes : List ℕ) × IsWhole precedence bytes × IsOrderFault given bytes fault)
-
--- the solution was read, and stands for a schedule of the pit
-pub record ReadsSchedule (solution : Reading) (pit : Pit) (schedule : List (ℕ × ℕ)) : Type 0 where
-  pub bytes : List ℕ
-  pub whole : IsWhole solution bytes
-  pub stands : IsSolutionOf pit bytes schedule
-
-abbrev pub IsScheduleFault : Reading → Pit → CliFault → Type 0
-IsScheduleFault solution pit fault = IsInputFault solution Solution fault ⊎ ((bytes : List ℕ) × IsWhole solution bytes × IsSolutionFault pit bytes fault)
 
 -- a schedule as one commit
 abbrev pub commit_of : List (ℕ × ℕ) → Commit

@@ -104,7 +104,7 @@ IsOrderFault given bytes = IsTextFault Precedence (IsBadOrder given bytes)
 abbrev pub IsSolutionFault : Pit → List ℕ → CliFault → Type 0
 IsSolutionFault pit bytes = IsTextFault Solution (IsBadSolution pit bytes)
 
--- ---- the value of a solution
+-- ---- the facts of one input
 
 -- the model was read, and stands for a pit
 pub record ReadsPit (model : Reading) (pit : Pit) : Type 0 where
@@ -116,16 +116,22 @@ pub record ReadsPit (model : Reading) (pit : Pit) : Type 0 where
 abbrev pub IsPitFault : Reading → CliFault → Type 0
 IsPitFault model fault = IsInputFault model Model fault ⊎ ((bytes : List ℕ) × IsWhole model bytes × IsModelFault bytes fault)
 
--- the solution was read, and stands for a schedule of the pit that has this value
-pub record ReadsSum (solution : Reading) (pit : Pit) (value : ℤ) : Type 0 where
+-- the solution was read, and stands for a schedule of the pit
+pub record ReadsSchedule (solution : Reading) (pit : Pit) (schedule : List (ℕ × ℕ)) : Type 0 where
   pub bytes : List ℕ
   pub whole : IsWhole solution bytes
-  pub schedule : List (ℕ × ℕ)
   pub stands : IsSolutionOf pit bytes schedule
-  pub sum : value ≡ value_of pit schedule
 
-abbrev pub IsSumFault : Reading → Pit → CliFault → Type 0
-IsSumFault solution pit fault = IsInputFault solution Solution fault ⊎ ((bytes : List ℕ) × IsWhole solution bytes × IsSolutionFault pit bytes fault)
+abbrev pub IsScheduleFault : Reading → Pit → CliFault → Type 0
+IsScheduleFault solution pit fault = IsInputFault solution Solution fault ⊎ ((bytes : List ℕ) × IsWhole solution bytes × IsSolutionFault pit bytes fault)
+
+-- ---- the value of a solution
+
+-- the solution was read, and stands for a schedule of the pit that has this value
+pub record ReadsSum (solution : Reading) (pit : Pit) (value : ℤ) : Type 0 where
+  pub schedule : List (ℕ × ℕ)
+  pub read : ReadsSchedule solution pit schedule
+  pub sum : value ≡ value_of pit schedule
 
 -- both were read and are right, and the value was written
 pub record WritesValue (model solution : Reading) (out : Writing) : Type 0 where
@@ -150,5 +156,5 @@ pub record FailsToWrite (model solution : Reading) (out : Writing) : Type 0 wher
 abbrev pub IsValueFault : Reading → Reading → Writing → CliFault → Type 0
 IsValueFault model solution out fault =
     (IsPitFault model fault × Keeps solution.before solution.after × Keeps out.before out.after)
-    ⊎ (((pit : Pit) × ReadsPit model pit × IsSumFault solution pit fault × Keeps out.before out.after)
+    ⊎ (((pit : Pit) × ReadsPit model pit × IsScheduleFault solution pit fault × Keeps out.before out.after)
     ⊎ ((fault ≡ CannotWrite) × FailsToWrite model solution out))

@@ -1,21 +1,24 @@
 //! The lines of `check`.
-ghost use Rattle.std.specs.Prelude.{◌≡◌, ◌++◌, OnOk, codes, decimal};
+ghost use Rattle.std.specs.Prelude.{◌≡◌, ◌++◌, if◌then◌else◌, OnOk, IfOk, codes, decimal};
 ghost use Rattle.std.specs.Io.KnownBytes.{Appends};
 ghost use Rattle.pit_num.specs.Printed.{fixed_text};
-ghost use Rattle.pit_cli.specs.CheckText.{load_text, pair_text, breach_text, short_text, shorts_text, is_fine as fine_of, fine_text, check_text};
+ghost use Rattle.pit_cli.specs.CheckText.{load_text, pair_text, breach_text, short_text, shorts_text, is_fine as fine_of, fine_text, check_text, check_status};
+ghost use Rattle.pit_cli.specs.declared.status.Status.TheVariants.{Fine, Failed};
 
 use super::engine::write_line;
+use super::status::Status;
 use pit_num::{Sink, WriteFault, write_micro, write_text, write_whole};
 use pit_plan::{Breach, Short};
 
-/// The value, the first breach where there is one, the shortfalls, and `fine` where there is neither.
+/// The value, the first breach where there is one, the shortfalls, and `fine` where there is neither. Answers the status that goes with them.
 pub(crate) fn write_check<W: Sink>(
     w: &mut W,
     value: i128,
     breach: Option<Breach>,
     shorts: &[Short],
-) -> Result<(), WriteFault>
-    ensures { OnOk result (Appends (W.contents w.old) (W.contents w.new) (check_text value breach shorts.now)) }
+) -> Result<Status, WriteFault>
+    ensures text { OnOk result (Appends (W.contents w.old) (W.contents w.new) (check_text value breach shorts.now)) }
+    ensures status { IfOk result (λ status. status ≡ check_status breach shorts.now) }
 {
     write_text(w, b"value ")?;
     write_line(w, value)?;
@@ -25,7 +28,7 @@ pub(crate) fn write_check<W: Sink>(
 }
 
 /// Whether nothing is broken and nothing falls short.
-pub(crate) fn is_fine(breach: Option<Breach>, shorts: &[Short]) -> bool
+fn is_fine(breach: Option<Breach>, shorts: &[Short]) -> bool
     ensures { result ≡ fine_of breach shorts.now }
 {
     match (breach, shorts) {
@@ -34,13 +37,16 @@ pub(crate) fn is_fine(breach: Option<Breach>, shorts: &[Short]) -> bool
     }
 }
 
-fn write_fine<W: Sink>(w: &mut W, is_fine: bool) -> Result<(), WriteFault>
-    ensures { OnOk result (Appends (W.contents w.old) (W.contents w.new) (fine_text is_fine)) }
+fn write_fine<W: Sink>(w: &mut W, is_fine: bool) -> Result<Status, WriteFault>
+    ensures text { OnOk result (Appends (W.contents w.old) (W.contents w.new) (fine_text is_fine)) }
+    ensures status { IfOk result (λ status. status ≡ (if is_fine then Fine else Failed)) }
 {
-    match is_fine {
-        true => write_text(w, b"fine\n"),
-        false => write_text(w, b""),
+    if is_fine {
+        write_text(w, b"fine\n")?;
+        return Ok(Status::Fine);
     }
+    write_text(w, b"")?;
+    Ok(Status::Failed)
 }
 
 fn write_breach<W: Sink>(w: &mut W, breach: Option<Breach>) -> Result<(), WriteFault>

@@ -1,6 +1,6 @@
 ghost use Rattle.std.specs.Prelude.{◌≡◌, IfOk, MatchResult};
 ghost use Rattle.pit_text.specs.Solution.{IsSolution};
-ghost use Rattle.pit_cli.specs.Outcome.{reading, IsWhole, IsModel, IsOrder, IsSolutionOf, IsInputFault, IsModelFault, IsOrderFault, IsSolutionFault};
+ghost use Rattle.pit_cli.specs.Outcome.{reading, IsWhole, IsModel, IsOrder, IsSolutionOf, IsInputFault, IsModelFault, IsOrderFault, IsSolutionFault, ReadsPit, IsPitFault, ReadsSchedule, IsScheduleFault};
 
 use super::fault::CliFault;
 use super::input::Input;
@@ -28,10 +28,7 @@ pub(crate) fn bytes_of<A: Allocator, R: Source>(
 }
 
 /// The pit of a model, to which facts can be added.
-pub(crate) fn builder_of<A: Allocator + Copy + Drop>(
-    alloc: A,
-    model: &[u8],
-) -> Result<Builder<A>, CliFault>
+fn builder_of<A: Allocator + Copy + Drop>(alloc: A, model: &[u8]) -> Result<Builder<A>, CliFault>
     ensures { MatchResult result (IsModel model.now) (IsModelFault model.now) }
 {
     match read_model(alloc, model) {
@@ -75,7 +72,7 @@ pub(crate) fn built<A: Allocator + Copy + Drop>(
 }
 
 /// The blocks and periods of a solution, by rising block.
-pub(crate) fn schedule_of<A: Allocator + Copy + Drop>(
+fn schedule_of<A: Allocator + Copy + Drop>(
     alloc: A,
     solution: &[u8],
     instance: &Instance<A>,
@@ -91,4 +88,30 @@ pub(crate) fn schedule_of<A: Allocator + Copy + Drop>(
             error,
         }),
     }
+}
+
+/// The pit that a model stands for, to which facts can be added.
+pub(crate) fn read_builder<A: Allocator + Copy + Drop, M: Source>(
+    alloc: A,
+    model: &mut M,
+) -> Result<Builder<A>, CliFault>
+    ensures { let read = reading (M.remaining model.old) (M.remaining model.new) (M.has_failed model.new) in
+        MatchResult result (ReadsPit read) (IsPitFault read) }
+{
+    let bytes = bytes_of(alloc, model, Input::Model)?;
+    builder_of(alloc, &bytes)
+}
+
+/// The blocks and periods that a solution stands for, by rising block.
+pub(crate) fn read_schedule<A: Allocator + Copy + Drop, S: Source>(
+    alloc: A,
+    solution: &mut S,
+    pit: &Instance<A>,
+) -> Result<Vec<(u32, u32), A>, CliFault>
+    ensures read { let read = reading (S.remaining solution.old) (S.remaining solution.new) (S.has_failed solution.new) in
+        MatchResult result (λ schedule. ReadsSchedule read pit.now schedule.items) (IsScheduleFault read pit.now) }
+    ensures fits { IfOk result (λ schedule. IsSolution pit.now.blocks pit.now.periods schedule.items) }
+{
+    let bytes = bytes_of(alloc, solution, Input::Solution)?;
+    schedule_of(alloc, &bytes, pit)
 }
