@@ -1,7 +1,8 @@
 -- Sums of discounted profits, and their bounds.
-use Rattle.std.proofs.Common.{◌≡◌, ℕ, zero, suc, ◌+◌, ◌*◌, ◌^◌, ◌<◌, ◌≤◌, ℤ, pos, negsuc, ◌+ℤ◌, ◌*ℤ◌, ◌≤ℤ◌, FitsSigned, w64, to_z, of_z, List, [], ◌∷◌, ◌++◌, length, take, slice_index_or, ap, sym, ◌∙◌, refl, arith, add-one, subst}
+use Rattle.std.proofs.Common.{◌≡◌, ℕ, zero, suc, ◌+◌, ◌*◌, ◌^◌, ◌<◌, ◌≤◌, ℤ, pos, negsuc, ◌+ℤ◌, ◌*ℤ◌, ◌≤ℤ◌, FitsSigned, w64, to_z, of_z, List, [], ◌∷◌, ◌++◌, length, take, slice_index_or, ap, sym, ◌∙◌, refl, arith, subst}
 use Rattle.std.specs.Int.{w128}
 use Rattle.std.proofs.lemmas.Int.{ints}
+use Rattle.std.proofs.lemmas.List.{take_more}
 use Rattle.std.proofs.Math.Nat.{mul-le-mul}
 use Rattle.pit_num.specs.Within.{IsWithin}
 use Rattle.pit_model.specs.Pit.{Pit}
@@ -37,13 +38,8 @@ unfolding value_of
 value_of-push pit [] p = omega (arith, ints)
 value_of-push pit (q ∷ pairs) p = omega (arith, ints, value_of-push pit pairs p)
 
-pub take-push : {X : Type 0} (xs : List X) (i : ℕ) (d : X) → i < length xs → take (i + 1) xs ≡ take i xs ++ slice_index_or xs i d ∷ []
-take-push [] i d below = absurd (omega arith)
-take-push (x ∷ xs) zero d below = refl
-take-push (x ∷ xs) (suc i) d below = rw add-one (ap (λ ys. x ∷ ys) (sym (ap (λ (n : ℕ). take n xs) (add-one i)) ∙ take-push xs i d (omega arith)))
-
 pub value_of-more : (pit : Pit) (pairs : List (ℕ × ℕ)) (i : ℕ) (d : ℕ × ℕ) → i < length pairs → value_of pit (take (i + 1) pairs) ≡ value_of pit (take i pairs) +ℤ earned pit (slice_index_or pairs i d)
-value_of-more pit pairs i d below = ap (λ ps. value_of pit ps) (take-push pairs i d below) ∙ value_of-push pit (take i pairs) (slice_index_or pairs i d)
+value_of-more pit pairs i d below = ap (λ ps. value_of pit ps) (take_more pairs i d below) ∙ value_of-push pit (take i pairs) (slice_index_or pairs i d)
 
 -- ---- bounds
 
