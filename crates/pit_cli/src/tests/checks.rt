@@ -1,7 +1,7 @@
 //! What a solution is worth, breaks and falls short of.
 use super::broken::Broken;
 use super::short::Short;
-use super::{SOLUTION, TINY, VALUE};
+use super::{SOLUTION, TINY};
 use crate::{CliFault, Status, check};
 use pit_num::{In, Out};
 use pit_refuse::Refusing;
@@ -109,12 +109,13 @@ fn of_limits(rt: HostRuntime) -> Result<(), Fail> {
             Status::Failed,
             b"value 0.000000000000000000\nover 0 0 0.000000 -1.000000\nshort 0 1 0.000000 1.000000\n",
         ),
-        // The least period, and a lower limit for each.
+        // Over in both periods, of which the first is printed; and above the lower limit.
         (
             b"0 1 L -2\n0 0 L -1.5\n0 1 G -3",
             Status::Failed,
             b"value 0.000000000000000000\nover 0 0 0.000000 -1.500000\n",
         ),
+        // The least period first, and a lower limit for each.
         (
             b"0 1 G 0.5\n0 0 G 1e-6",
             Status::Failed,
@@ -252,12 +253,4 @@ fn of_little_memory(rt: HostRuntime) -> Result<(), Fail> {
         assert!(rt; written.is_empty(), "at {number}");
     }
     Err(Fail::from("never whole"))
-}
-
-// The value is that of `value`, behind its word.
-#[test]
-fn the_value_is_that_of_value(rt: HostRuntime) {
-    let (_, written) = checked(rt.alloc(), TINY, ORDER, SOLUTION);
-    assert!(rt; written.len() > 6 + VALUE.len());
-    assert_eq!(rt; &written[6..6 + VALUE.len()], VALUE);
 }
