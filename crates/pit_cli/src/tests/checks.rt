@@ -1,11 +1,11 @@
 //! What a solution is worth, breaks and falls short of.
 use super::broken::Broken;
 use super::short::Short;
-use super::{SOLUTION, TINY};
+use super::{SOLUTION, TINY, assert_fault, joined};
 use crate::{CliFault, Status, check};
-use pit_num::{In, Out};
+use pit_num::{In, Out, Sink, Source};
 use pit_refuse::Refusing;
-use std::alloc::{AllocError, Allocator, Global};
+use std::alloc::{Allocator, Global};
 use std::process::Abort;
 use std::test::Fail;
 
@@ -34,29 +34,41 @@ RESOURCE_CONSTRAINT_COEFFICIENTS:
 RESOURCE_CONSTRAINT_LIMITS:
 ";
 
-/// What `check` answers, and what it writes.
+/// What `check` answers to such sources, and what it writes.
+fn answered<M: Source, P: Source, S: Source>(
+    alloc: Global,
+    model: &mut M,
+    precedence: &mut P,
+    solution: &mut S,
+) -> (Result<Status, CliFault>, Vec<u8>) {
+    let mut out = Out::new(Vec::new(alloc));
+    let answer = check(alloc, model, precedence, solution, &mut out);
+    (answer, out.into_inner())
+}
+
+/// The same of texts.
 fn checked(
     alloc: Global,
     model: &[u8],
     precedence: &[u8],
     solution: &[u8],
 ) -> (Result<Status, CliFault>, Vec<u8>) {
-    let mut out = Out::new(Vec::new(alloc));
-    let answer = check(
-        alloc,
-        &mut In::new(model),
-        &mut In::new(precedence),
-        &mut In::new(solution),
-        &mut out,
-    );
-    (answer, out.into_inner())
+    let (mut model, mut precedence) = (In::new(model), In::new(precedence));
+    answered(alloc, &mut model, &mut precedence, &mut In::new(solution))
 }
 
-fn joined(alloc: Global, front: &[u8], back: &[u8]) -> Result<Vec<u8>, AllocError> {
-    let mut text = Vec::new(alloc);
-    text.extend_from_slice(front)?;
-    text.extend_from_slice(back)?;
-    Ok(text)
+/// `check` finds this of a model with precedences of the small pit, and writes this.
+fn assert_checked(
+    rt: &impl Abort,
+    alloc: Global,
+    model: &[u8],
+    solution: &[u8],
+    status: Status,
+    wanted: &[u8],
+) {
+    let (answer, written) = checked(alloc, model, ORDER, solution);
+    assert_eq!(rt; written.as_slice(), wanted);
+    assert_eq!(rt; answer, Ok(status), "of {wanted:?}");
 }
 
 #[test]
@@ -94,9 +106,7 @@ fn of_the_small_pit(rt: HostRuntime) {
         ),
     ];
     for (solution, status, wanted) in rows {
-        let (answer, written) = checked(rt.alloc(), TINY, ORDER, solution);
-        assert_eq!(rt; answer, Ok(status), "of {solution:?}");
-        assert_eq!(rt; written.as_slice(), wanted, "of {solution:?}");
+        assert_checked(&rt, rt.alloc(), TINY, solution, status, wanted);
     }
 }
 
@@ -129,9 +139,7 @@ fn of_limits(rt: HostRuntime) -> Result<(), Fail> {
     ];
     for (limits, status, wanted) in rows {
         let model = joined(rt.alloc(), UNLIMITED, limits)?;
-        let (answer, written) = checked(rt.alloc(), &model, ORDER, b"");
-        assert_eq!(rt; answer, Ok(status), "of {limits:?}");
-        assert_eq!(rt; written.as_slice(), wanted, "of {limits:?}");
+        assert_checked(&rt, rt.alloc(), &model, b"", status, wanted);
     }
     Ok(())
 }
@@ -144,14 +152,8 @@ fn assert_refused(
     line: &str,
 ) -> Result<(), Fail> {
     let (answer, written) = checked(alloc, texts[0], texts[1], texts[2]);
-    let Err(fault) = answer else {
-        return Err(Fail::from("no fault"));
-    };
-    let shown = format!(in alloc; "{fault}")?;
-    assert_eq!(rt; shown.as_str(), line);
-    assert_eq!(rt; fault.status(), 2, "of {line}");
     assert!(rt; written.is_empty(), "of {line}");
-    Ok(())
+    assert_fault(rt, alloc, answer, line, 2)
 }
 
 // The first of the inputs that has one.
@@ -188,49 +190,45 @@ fn precedences_that_fail_at_each_call(rt: HostRuntime) {
     for calls in 0..=ORDER.len() {
         let mut precedence = Broken::new(ORDER, 1, calls);
         let mut solution = Broken::new(SOLUTION, 1, 4);
-        let mut out = Out::new(Vec::new(rt.alloc()));
-        let answer = check(
-            rt.alloc(),
-            &mut In::new(TINY),
-            &mut precedence,
-            &mut solution,
-            &mut out,
-        );
+        let mut model = In::new(TINY);
+        let (answer, written) = answered(rt.alloc(), &mut model, &mut precedence, &mut solution);
         assert_eq!(rt; answer, Err(CliFault::CannotRead(crate::Input::Precedence)));
         assert_eq!(rt; solution.rest().len(), SOLUTION.len(), "at {calls}");
-        assert!(rt; out.into_inner().is_empty(), "at {calls}");
+        assert!(rt; written.is_empty(), "at {calls}");
     }
+}
+
+/// What `check` answers for the small pit and its solution.
+fn answer_to<A: Allocator + Copy + Drop, W: Sink>(
+    alloc: A,
+    out: &mut W,
+) -> Result<Status, CliFault> {
+    check(
+        alloc,
+        &mut In::new(TINY),
+        &mut In::new(ORDER),
+        &mut In::new(SOLUTION),
+        out,
+    )
 }
 
 #[test]
 fn a_sink_that_fails_keeps_a_front(rt: HostRuntime) {
     for room in 0..FINE.len() {
         let mut out = Short::new(rt.alloc(), 5, room);
-        let answer = check(
-            rt.alloc(),
-            &mut In::new(TINY),
-            &mut In::new(ORDER),
-            &mut In::new(SOLUTION),
-            &mut out,
-        );
+        let answer = answer_to(rt.alloc(), &mut out);
         assert_eq!(rt; out.taken(), &FINE[..room], "at {room}");
         assert_eq!(rt; answer, Err(CliFault::CannotWrite), "at {room}");
     }
 }
 
-/// What `check` answers for the small pit and its solution, and how many bytes it writes.
+/// The same, and what it writes.
 fn answer_from<A: Allocator + Copy + Drop>(
     alloc: A,
     plain: Global,
 ) -> (Result<Status, CliFault>, Vec<u8>) {
     let mut out = Out::new(Vec::new(plain));
-    let answer = check(
-        alloc,
-        &mut In::new(TINY),
-        &mut In::new(ORDER),
-        &mut In::new(SOLUTION),
-        &mut out,
-    );
+    let answer = answer_to(alloc, &mut out);
     (answer, out.into_inner())
 }
 

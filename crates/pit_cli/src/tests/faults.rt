@@ -1,7 +1,7 @@
 //! The line of each fault, and its status.
-use super::{SOLUTION, TINY};
-use crate::{CliFault, Input, Status, value};
-use pit_num::{In, Out};
+use super::{SOLUTION, TINY, answered, assert_fault, joined};
+use crate::{CliFault, Input, Status};
+use pit_num::In;
 use pit_text::{Cause, TextError};
 use std::alloc::Global;
 use std::process::Abort;
@@ -37,23 +37,16 @@ EOF
 ";
 
 /// Nothing is written, and the fault has this line and the status of a refused input.
-fn assert_fault(
+fn assert_refused(
     rt: &impl Abort,
     alloc: Global,
     model: &[u8],
     solution: &[u8],
     line: &str,
 ) -> Result<(), Fail> {
-    let mut out = Out::new(Vec::new(alloc));
-    let (mut model, mut solution) = (In::new(model), In::new(solution));
-    let Err(fault) = value(alloc, &mut model, &mut solution, &mut out) else {
-        return Err(Fail::from("no fault"));
-    };
-    let shown = format!(in alloc; "{fault}")?;
-    assert_eq!(rt; shown.as_str(), line);
-    assert_eq!(rt; fault.status(), 2, "of {line}");
-    assert!(rt; out.into_inner().is_empty(), "of {line}");
-    Ok(())
+    let (answer, written) = answered(alloc, &mut In::new(model), &mut In::new(solution));
+    assert!(rt; written.is_empty(), "of {line}");
+    assert_fault(rt, alloc, answer, line, 2)
 }
 
 #[test]
@@ -65,7 +58,7 @@ fn of_headers(rt: HostRuntime) -> Result<(), Fail> {
         (NOT_CPIT, "pit: model line 2: not cpit"),
     ];
     for (model, line) in rows {
-        assert_fault(&rt, rt.alloc(), model, SOLUTION, line)?;
+        assert_refused(&rt, rt.alloc(), model, SOLUTION, line)?;
     }
     Ok(())
 }
@@ -89,10 +82,8 @@ fn of_sections(rt: HostRuntime) -> Result<(), Fail> {
         (SECTION_TWICE, "pit: model line 20: section twice"),
     ];
     for (sections, line) in rows {
-        let mut model = Vec::new(rt.alloc());
-        model.extend_from_slice(HEADER)?;
-        model.extend_from_slice(sections)?;
-        assert_fault(&rt, rt.alloc(), &model, SOLUTION, line)?;
+        let model = joined(rt.alloc(), HEADER, sections)?;
+        assert_refused(&rt, rt.alloc(), &model, SOLUTION, line)?;
     }
     Ok(())
 }
@@ -108,7 +99,7 @@ fn of_solutions(rt: HostRuntime) -> Result<(), Fail> {
         (b"0 4294967296", "pit: solution line 1: number too large"),
     ];
     for (solution, line) in rows {
-        assert_fault(&rt, rt.alloc(), TINY, solution, line)?;
+        assert_refused(&rt, rt.alloc(), TINY, solution, line)?;
     }
     Ok(())
 }
@@ -119,7 +110,7 @@ fn of_both_is_the_model_s(rt: HostRuntime) -> Result<(), Fail> {
         (NOT_CPIT, b"4 0\n".as_slice(), "pit: model line 2: not cpit"),
         (b"", b"\xff", "pit: model line 1: missing TYPE"),
     ] {
-        assert_fault(&rt, rt.alloc(), model, solution, line)?;
+        assert_refused(&rt, rt.alloc(), model, solution, line)?;
     }
     Ok(())
 }
@@ -156,9 +147,7 @@ fn each_has_its_line_and_status(rt: HostRuntime) -> Result<(), Fail> {
         (CliFault::CannotWrite, "pit: cannot write", 3),
         (CliFault::NoMemory, "pit: no memory", 3),
     ] {
-        let shown = format!(in rt.alloc(); "{fault}")?;
-        assert_eq!(rt; shown.as_str(), line);
-        assert_eq!(rt; fault.status(), status, "of {line}");
+        assert_fault(&rt, rt.alloc(), Err(fault), line, status)?;
     }
     Ok(())
 }
