@@ -3,10 +3,6 @@ use Rattle.std.proofs.Common.{◌≡◌, ℕ, ◌<◌, ◌+◌, cond, List, [], 
 use Rattle.std.specs.Prelude.{is_some, unwrap_or}
 use Rattle.std.proofs.lemmas.List.Sums.{fold_push}
 use Rattle.std.proofs.lemmas.List.{take_more, length-take-le}
-use Rattle.std.proofs.lemmas.List.FromFn.{get_or-map-range_with_len}
-use Rattle.pit_model.specs.Pit.{Pit}
-use Rattle.pit_plan.specs.Standing.{period_of, version_of, StandsFor}
-use Rattle.pit_plan.specs.InsidePlan.{standing_of}
 use Rattle.pit_plan.specs.Schedule.{Commit, said, held, last, last_after}
 
 pub held-nil : (b : ℕ) → held [] b ≡ None
@@ -41,22 +37,3 @@ held-more commits i b w l is = rw (take_more commits i w l, ← is) (held-push (
 pub last-more : (commits : List Commit) (i b : ℕ) (w : Commit) → i < length commits → w ≡ get_or commits i w
     → last (take (i + 1) commits) b ≡ cond (is_some (said w b)) (i + 1) (last (take i commits) b)
 last-more commits i b w l is = rw (take_more commits i w l, ← is) (last-push (take i commits) w b ∙ ap (λ k. cond (is_some (said w b)) (k + 1) (last (take i commits) b)) (length-take-le i commits (omega arith)))
-
--- what commits leave has these periods
-pub period-standing_of : (pit : Pit) (commits : List Commit) (b : ℕ) → b < pit.blocks → period_of (standing_of pit commits) b ≡ held commits b
-unfolding standing_of
-period-standing_of pit commits b below = get_or-map-range_with_len (held commits) 0 pit.blocks b b None below (omega arith)
-
--- these versions
-pub version-standing_of : (pit : Pit) (commits : List Commit) (b : ℕ) → b < pit.blocks → version_of (standing_of pit commits) b ≡ last commits b
-unfolding standing_of
-version-standing_of pit commits b below = get_or-map-range_with_len (last commits) 0 pit.blocks b b 0 below (omega arith)
-
--- and stands for them
-pub stands : (pit : Pit) (commits : List Commit) → StandsFor (standing_of pit commits) commits
-unfolding standing_of
-stands pit commits = record {
-  count = refl;
-  period = λ b below. period-standing_of pit commits b below;
-  version = λ b below. version-standing_of pit commits b below;
-}

@@ -2,6 +2,7 @@ pub mod Sums
 pub mod Bounds
 pub mod Preds
 pub mod Commits
+pub mod Slots
 pub mod Shorts
 pub mod Same
 pub mod OneBreach

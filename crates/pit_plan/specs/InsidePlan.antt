@@ -1,21 +1,15 @@
--- What the fields of a plan stand for.
-use Rattle.std.specs.Prelude.{◌<◌, ◌^◌, List, map, length, All}
-use Rattle.std.specs.List.{range_with_len}
+-- What a plan keeps of its fields.
+use Rattle.std.specs.Prelude.{◌≡◌, ℕ, ◌<◌, List, length, Option, slice_set, fold, All, IfSome}
 use Rattle.pit_model.specs.Pit.{Pit, IsSound}
-use Rattle.pit_plan.specs.Schedule.{Commit, held, last}
-use Rattle.pit_plan.specs.Standing.{Standing, Fits}
+use Rattle.pit_plan.specs.Schedule.{Commit}
 
--- what commits leave
-unfoldable pub standing_of : Pit → List Commit → Standing
-standing_of pit commits =
-    record {
-      pit = pit;
-      commits = length commits;
-      periods = map (held commits) (range_with_len 0 pit.blocks);
-      versions = map (last commits) (range_with_len 0 pit.blocks);
-    }
+-- each written block has the value of its write
+unfoldable pub placed : {X : Type 0} → (ℕ × Option ℕ → X) → List X → Commit → List X
+placed value xs writes = fold (λ ys w. slice_set ys w.0 (value w)) xs writes
 
-pub record AreKept (pit : Pit) (commits : List Commit) : Type 0 where
+-- a period or none and a version for each block, each period in range
+pub record AreKept (pit : Pit) (slots : List (Option ℕ)) (numbers : List ℕ) : Type 0 where
   pub sound : IsSound pit
-  pub few : length commits < 2 ^ 32
-  pub fit : All (Fits pit) commits
+  pub each_period : length slots ≡ pit.blocks
+  pub each_version : length numbers ≡ pit.blocks
+  pub in_range : All (λ period. IfSome period (λ t. t < pit.periods)) slots

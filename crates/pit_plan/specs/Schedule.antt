@@ -1,5 +1,5 @@
 -- Schedules: what a list of commits leaves, and what that loads and earns.
-use Rattle.std.specs.Prelude.{ℕ, ◌+◌, ℤ, pos, ◌*ℤ◌, Bool, true, false, nat_eq, nat_le, int_le, List, [], ◌∷◌, fold, Option, Some, None, unwrap_or, is_some, if◌then◌else◌, Contains}
+use Rattle.std.specs.Prelude.{ℕ, ◌+◌, ℤ, pos, ◌*ℤ◌, Bool, true, false, nat_eq, nat_le, int_le, List, [], ◌∷◌, fold, Option, Some, None, unwrap_or, is_some, slice_index_or, if◌then◌else◌, Contains}
 use Rattle.std.specs.Map.{lookup}
 use Rattle.pit_model.specs.Pit.{Pit, profit_of, factor_of, coefs_of, preds_of, upper_of}
 use Rattle.pit_plan.specs.Sums.{total}
@@ -24,6 +24,10 @@ last_after n found (commit ∷ commits) b = last_after (n + 1) (if is_some (said
 -- its number, counted from 1, and 0 if no commit names the block
 unfoldable pub last : List Commit → ℕ → ℕ
 last commits b = last_after 0 0 commits b
+
+-- the period of a block, by a list that has a period or none for each
+abbrev pub by_block : List (Option ℕ) → ℕ → Option ℕ
+by_block periods b = slice_index_or periods b None
 
 -- how much of a resource the mining of a block takes, in millionths; a pair that was not set counts as 0
 abbrev pub coef_in : List (ℕ × ℤ) → ℕ → ℤ

@@ -1,7 +1,7 @@
 -- What contracts see of a plan.
-use Rattle.std.specs.Prelude.{◌≡◌, ◌≢◌, ℕ, ◌<◌, List, [], ◌∷◌, ◌++◌, length, Option, None, slice_index_or, All, AllPairs, IfSome}
+use Rattle.std.specs.Prelude.{◌≡◌, ◌≢◌, ℕ, ◌<◌, List, [], ◌∷◌, ◌++◌, length, Option, slice_index_or, All, AllPairs, IfSome}
 use Rattle.pit_model.specs.Pit.{Pit}
-use Rattle.pit_plan.specs.Schedule.{Commit, held, last}
+use Rattle.pit_plan.specs.Schedule.{Commit, by_block, held, last}
 
 -- a plan: its pit, the number of commits, and for each block its period and the number of the last commit that named it
 pub record Standing : Type 0 where
@@ -11,7 +11,7 @@ pub record Standing : Type 0 where
   pub versions : List ℕ
 
 abbrev pub period_of : Standing → ℕ → Option ℕ
-period_of plan b = slice_index_or plan.periods b None
+period_of plan b = by_block plan.periods b
 
 abbrev pub version_of : Standing → ℕ → ℕ
 version_of plan b = slice_index_or plan.versions b 0

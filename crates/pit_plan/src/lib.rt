@@ -6,7 +6,6 @@
 #![tactic(auto)]
 
 mod breach;
-mod kept;
 mod laws;
 mod plan;
 mod schedule;

@@ -1,12 +1,12 @@
-ghost use Rattle.std.specs.Prelude.{◌≡◌, ◌<◌, ◌++◌, ◌∷◌, [], List, IfOk, IfErr, OnOk, OnErr, unwrap_or};
-ghost use Rattle.pit_plan.specs.Schedule.{Commit, said, held, load_of, value_of};
+ghost use Rattle.std.specs.Prelude.{◌≡◌, ◌<◌, ◌++◌, ◌∷◌, [], List, IfOk, IfErr, OnOk, OnErr, IsOk, length, replicate, All};
+ghost use Rattle.pit_plan.specs.Schedule.{Commit, held, load_of, value_of};
 ghost use Rattle.pit_plan.specs.Standing.{StandsFor, period_of, version_of, Fits, Adds};
+ghost use Rattle.pit_plan.specs.InsidePlan.{placed};
 ghost use Rattle.pit_plan.specs.Breaches.{IsBreachOf, IsGoodNow};
 ghost use Rattle.pit_plan.specs.Shortfalls.{shortfalls_of};
 
 use crate::breach::Breach;
-use crate::kept::{Kept, held_in, last_in, said_in};
-use crate::schedule::{self, Schedule};
+use crate::schedule;
 use crate::short::Short;
 use pit_model::Instance;
 use pit_num::NoMemory;
@@ -16,22 +16,24 @@ use std::marker::Model;
 /// Which block of a pit is mined in which period, as a list of commits leaves it.
 ///
 /// Writes are blocks, each with its new period or none. They fit where blocks and periods are in range and no block stands twice.
-/// The body keeps the commits, and finds each answer in them.
+/// The body keeps each block's period and version, and sums over all blocks.
 #[derive(Drop)]
 pub struct Plan<A: Allocator + Drop> {
     pit: Instance<A>,
-    kept: Vec<Kept<A>, A>,
+    commits: u32,
+    periods: Vec<Option<u32>, A>,
+    versions: Vec<u32, A>,
 }
 
 impl<A: Allocator + Drop> Model for Plan<A> {
     ghost use Rattle.pit_plan.specs.Standing.{Standing};
-    ghost use Rattle.pit_plan.specs.InsidePlan.{standing_of, AreKept};
+    ghost use Rattle.pit_plan.specs.InsidePlan.{AreKept};
 
     ghost Value = { Standing };
 
-    ghost view = { λ plan. standing_of plan.pit plan.kept.items };
+    ghost view = { λ plan. record { pit = plan.pit; commits = plan.commits; periods = plan.periods.items; versions = plan.versions.items } };
 
-    ghost invariant = { λ plan. AreKept plan.pit plan.kept.items };
+    ghost invariant = { λ plan. AreKept plan.pit plan.periods.items plan.versions.items };
 }
 
 impl<A: Allocator + Copy + Drop> Plan<A> {
@@ -40,9 +42,15 @@ impl<A: Allocator + Copy + Drop> Plan<A> {
         ensures ok { IfOk result (λ plan. (plan.pit ≡ pit) × StandsFor plan []) }
         ensures err { IfErr result (λ refused. refused.0 ≡ pit) }
     {
-        let _blocks = pit.blocks();
-        let kept = Vec::new(alloc);
-        Ok(Plan { pit, kept })
+        match no_slots(alloc, pit.blocks()) {
+            Err(no_memory) => Err((pit, no_memory)),
+            Ok((periods, versions)) => Ok(Plan {
+                pit,
+                commits: 0,
+                periods,
+                versions,
+            }),
+        }
     }
 
     /// The pit.
@@ -64,7 +72,7 @@ impl<A: Allocator + Copy + Drop> Plan<A> {
     pub fn commits(&self) -> u32
         ensures { result ≡ self.now.commits }
     {
-        self.kept.len() as u32
+        self.commits
     }
 
     /// The period of a block, or none.
@@ -72,7 +80,7 @@ impl<A: Allocator + Copy + Drop> Plan<A> {
         requires { b < self.now.pit.blocks }
         ensures { result ≡ period_of self.now b }
     {
-        held_in(&self.kept, b)
+        self.periods[b as usize]
     }
 
     /// The number of the last commit that named a block, or 0.
@@ -80,7 +88,7 @@ impl<A: Allocator + Copy + Drop> Plan<A> {
         requires { b < self.now.pit.blocks }
         ensures { result ≡ version_of self.now b }
     {
-        last_in(&self.kept, b)
+        self.versions[b as usize]
     }
 
     /// The load of a resource in a period, in millionths.
@@ -90,7 +98,7 @@ impl<A: Allocator + Copy + Drop> Plan<A> {
         ensures { (commits : List Commit) → StandsFor self.now commits
             → result ≡ load_of self.now.pit (held commits) r t }
     {
-        schedule::load(&self.pit, self, r, t)
+        schedule::load(&self.pit, &self.periods, r, t)
     }
 
     /// The discounted profit, in units of 10^-18, which is exact.
@@ -98,7 +106,7 @@ impl<A: Allocator + Copy + Drop> Plan<A> {
         ensures { (commits : List Commit) → StandsFor self.now commits
             → result ≡ value_of self.now.pit (held commits) }
     {
-        schedule::value(&self.pit, self)
+        schedule::value(&self.pit, &self.periods)
     }
 
     /// The first breach of the plan: the least pair of a block and its predecessor that is out of order; else the load of the
@@ -107,30 +115,32 @@ impl<A: Allocator + Copy + Drop> Plan<A> {
         ensures { (commits : List Commit) → StandsFor self.now commits
             → IsBreachOf self.now.pit commits result }
     {
-        schedule::first_breach(&self.pit, self)
+        schedule::first_breach(&self.pit, &self.periods)
     }
 
-    /// The first breach that the plan would have after the writes.
+    /// The first breach that the plan would have after the writes. Takes the memory of a period for each block.
     pub fn judge(&self, writes: &[(u32, Option<u32>)]) -> Result<Option<Breach>, NoMemory>
         requires fits { Fits self.now.pit writes.now }
         requires good { IsGoodNow self.now }
         ensures { IfOk result (λ breach. (commits : List Commit) → StandsFor self.now commits
             → IsBreachOf self.now.pit (commits ++ writes.now ∷ []) breach) }
     {
-        let over = Overlay { plan: self, writes };
-        Ok(schedule::first_breach(&self.pit, &over))
+        let mut periods = Vec::from_slice(*self.periods.allocator(), &self.periods)?;
+        write_periods(&mut periods, writes);
+        Ok(schedule::first_breach(&self.pit, &periods))
     }
 
-    /// Adds the writes as one more commit, which takes the memory of the writes. A refusal leaves the plan as it was.
+    /// Adds the writes as one more commit. Takes no memory, and is never refused.
     pub fn apply(&mut self, writes: &[(u32, Option<u32>)]) -> Result<(), NoMemory>
         requires fits { Fits self.old.pit writes.now }
         requires room { self.old.commits < 4294967295 }
         ensures ok { OnOk result (Adds self.old writes.now self.new) }
         ensures err { OnErr result (self.new ≡ self.old) }
+        ensures done { IsOk result }
     {
-        let alloc = *self.kept.allocator();
-        let pairs = Vec::from_slice(alloc, writes)?;
-        self.kept.push(Kept { pairs })?;
+        self.commits += 1;
+        write_periods(&mut self.periods, writes);
+        write_versions(&mut self.versions, writes, self.commits);
         Ok(())
     }
 
@@ -139,36 +149,46 @@ impl<A: Allocator + Copy + Drop> Plan<A> {
         ensures { IfOk result (λ shorts. (commits : List Commit) → StandsFor self.now commits
             → shorts.items ≡ shortfalls_of self.now.pit (held commits)) }
     {
-        schedule::shortfalls(*self.kept.allocator(), &self.pit, self)
+        schedule::shortfalls(*self.periods.allocator(), &self.pit, &self.periods)
     }
 }
 
-impl<A: Allocator + Copy + Drop> Schedule for Plan<A> {
-    ghost period_at = { period_of };
+/// No period and the version 0 for each block.
+fn no_slots<A: Allocator + Copy + Drop>(
+    alloc: A,
+    blocks: u32,
+) -> Result<(Vec<Option<u32>, A>, Vec<u32, A>), NoMemory>
+    ensures periods { IfOk result (λ slots. slots.0.items ≡ replicate blocks None) }
+    ensures versions { IfOk result (λ slots. slots.1.items ≡ replicate blocks 0) }
+{
+    let periods = vec![in alloc; None; blocks as usize]?;
+    let versions = vec![in alloc; 0; blocks as usize]?;
+    Ok((periods, versions))
+}
 
-    ghost count = { λ plan. plan.pit.blocks };
-
-    fn period(&self, b: u32) -> Option<u32> {
-        self.period(b)
+/// Gives each written block its period.
+fn write_periods<A: Allocator + Drop>(
+    periods: &mut Vec<Option<u32>, A>,
+    writes: &[(u32, Option<u32>)],
+)
+    requires { All (λ w. w.0 < length periods.old.items) writes.now }
+    ensures { periods.new.items ≡ placed (λ w. w.1) periods.old.items writes.now }
+{
+    for (block, period) in writes {
+        periods[*block as usize] = *period;
     }
 }
 
-/// A plan with writes laid over it.
-#[derive(Drop)]
-struct Overlay<'a, A: Allocator + Drop> {
-    plan: &'a Plan<A>,
-    writes: &'a [(u32, Option<u32>)],
-}
-
-impl<'a, A: Allocator + Copy + Drop> Schedule for Overlay<'a, A> {
-    ghost period_at = { λ over b. unwrap_or (said over.writes.now b) (period_of over.plan.now b) };
-
-    ghost count = { λ over. over.plan.now.pit.blocks };
-
-    fn period(&self, b: u32) -> Option<u32> {
-        match said_in(self.writes, b) {
-            Some(period) => period,
-            None => self.plan.period(b),
-        }
+/// Gives each written block the number of the commit.
+fn write_versions<A: Allocator + Drop>(
+    versions: &mut Vec<u32, A>,
+    writes: &[(u32, Option<u32>)],
+    number: u32,
+)
+    requires { All (λ w. w.0 < length versions.old.items) writes.now }
+    ensures { versions.new.items ≡ placed (λ w. number) versions.old.items writes.now }
+{
+    for (block, _) in writes {
+        versions[*block as usize] = number;
     }
 }

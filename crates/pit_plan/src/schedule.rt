@@ -1,9 +1,9 @@
-//! What a schedule loads, earns and breaks.
-ghost use Rattle.std.specs.Prelude.{◌≡◌, ℕ, ◌<◌, ◌^◌, ◌++◌, true, Option, IfNone, IfSome, IfOk, OnOk, All};
+//! What a schedule, which is a period or none for each block, loads, earns and breaks.
+ghost use Rattle.std.specs.Prelude.{◌≡◌, ℕ, ◌<◌, ◌^◌, ◌++◌, true, length, IfNone, IfSome, IfOk, OnOk, All};
 ghost use Rattle.std.specs.List.Sorted.{IsStrictlyIncreasing};
 ghost use Rattle.pit_num.specs.Within.{IsWithin};
 ghost use Rattle.pit_model.specs.Pit.{upper_of, lower_of};
-ghost use Rattle.pit_plan.specs.Schedule.{coef_in as coefficient, share as share_of, load_of, value_of, earned_in, in_order};
+ghost use Rattle.pit_plan.specs.Schedule.{by_block, coef_in as coefficient, share as share_of, load_of, value_of, earned_in, in_order};
 ghost use Rattle.pit_plan.specs.Breaches.{IsFirstBreach, IsFirstOutOfOrder, IsOrdered};
 ghost use Rattle.pit_plan.specs.Shortfalls.{shortfalls_of, shorts_in, short_at};
 ghost use Rattle.pit_plan.specs.InsideSchedule.{IsFirstLate, IsUnderIn, IsOverIn};
@@ -14,50 +14,38 @@ use pit_model::Instance;
 use pit_num::NoMemory;
 use std::alloc::Allocator;
 
-/// The periods of so many blocks.
-pub(crate) trait Schedule {
-    /// The period of each block.
-    ghost period_at: { Self → ℕ → Option ℕ };
-
-    /// How many blocks there are.
-    ghost count: { Self → ℕ };
-
-    fn period(&self, b: u32) -> Option<u32>
-        requires { b < count self.now }
-        ensures { result ≡ period_at self.now b };
-}
-
 /// The load of a resource in a period.
-pub(crate) fn load<S: Schedule, A: Allocator + Copy + Drop>(
+pub(crate) fn load<A: Allocator + Copy + Drop>(
     pit: &Instance<A>,
-    schedule: &S,
+    periods: &[Option<u32>],
     r: u32,
     t: u32,
 ) -> i128
-    requires { S.count schedule.now ≡ pit.now.blocks }
-    ensures { result ≡ load_of pit.now (S.period_at schedule.now) r t }
+    requires { length periods.now ≡ pit.now.blocks }
+    ensures { result ≡ load_of pit.now (by_block periods.now) r t }
 {
     let mut sum: i128 = 0;
     for b in 0..pit.blocks() {
-        sum += i128::from(share(pit, schedule, r, t, b));
+        sum += i128::from(share(pit, periods, r, t, b));
     }
     sum
 }
 
 /// What a block adds to the load.
-fn share<S: Schedule, A: Allocator + Copy + Drop>(
+fn share<A: Allocator + Copy + Drop>(
     pit: &Instance<A>,
-    schedule: &S,
+    periods: &[Option<u32>],
     r: u32,
     t: u32,
     b: u32,
 ) -> i64
-    requires same { S.count schedule.now ≡ pit.now.blocks }
+    requires same { length periods.now ≡ pit.now.blocks }
     requires known { b < pit.now.blocks }
-    ensures value { result ≡ share_of pit.now (S.period_at schedule.now) r t b }
+    ensures value { result ≡ share_of pit.now (by_block periods.now) r t b }
     ensures small { IsWithin (10 ^ 18) result }
 {
-    match schedule.period(b) {
+    let period = periods[b as usize];
+    match period {
         Some(s) if s == t => coef_in(pit.coefs(b), r),
         _ => 0,
     }
@@ -78,17 +66,14 @@ fn coef_in(pairs: &[(u32, i64)], r: u32) -> i64
 }
 
 /// The discounted profits of a schedule.
-pub(crate) fn value<S: Schedule, A: Allocator + Copy + Drop>(
-    pit: &Instance<A>,
-    schedule: &S,
-) -> i128
-    requires blocks { S.count schedule.now ≡ pit.now.blocks }
-    requires periods { (b : ℕ) → b < pit.now.blocks → IfSome (S.period_at schedule.now b) (λ t. t < pit.now.periods) }
-    ensures { result ≡ value_of pit.now (S.period_at schedule.now) }
+pub(crate) fn value<A: Allocator + Copy + Drop>(pit: &Instance<A>, periods: &[Option<u32>]) -> i128
+    requires blocks { length periods.now ≡ pit.now.blocks }
+    requires periods { (b : ℕ) → b < pit.now.blocks → IfSome (by_block periods.now b) (λ t. t < pit.now.periods) }
+    ensures { result ≡ value_of pit.now (by_block periods.now) }
 {
     let mut sum: i128 = 0;
     for b in 0..pit.blocks() {
-        sum += earned(pit, b, schedule.period(b));
+        sum += earned(pit, b, periods[b as usize]);
     }
     sum
 }
@@ -107,14 +92,14 @@ fn earned<A: Allocator + Copy + Drop>(pit: &Instance<A>, b: u32, period: Option<
 }
 
 /// The first of the blocks that is later than a period.
-fn first_late<S: Schedule>(preds: &[u32], schedule: &S, later: Option<u32>) -> Option<u32>
-    requires known { All (λ a. a < S.count schedule.now) preds.now }
+fn first_late(preds: &[u32], periods: &[Option<u32>], later: Option<u32>) -> Option<u32>
+    requires known { All (λ a. a < length periods.now) preds.now }
     requires rising { IsStrictlyIncreasing preds.now }
-    ensures none { IfNone result (All (λ a. in_order later (S.period_at schedule.now a) ≡ true) preds.now) }
-    ensures some { IfSome result (IsFirstLate (S.period_at schedule.now) later preds.now) }
+    ensures none { IfNone result (All (λ a. in_order later (by_block periods.now a) ≡ true) preds.now) }
+    ensures some { IfSome result (IsFirstLate (by_block periods.now) later preds.now) }
 {
     for a in preds {
-        if !keeps_order(later, schedule.period(*a)) {
+        if !keeps_order(later, periods[*a as usize]) {
             return Some(*a);
         }
     }
@@ -133,16 +118,16 @@ fn keeps_order(later: Option<u32>, before: Option<u32>) -> bool
 }
 
 /// The least pair of a block and its predecessor that is out of order.
-fn first_out_of_order<S: Schedule, A: Allocator + Copy + Drop>(
+fn first_out_of_order<A: Allocator + Copy + Drop>(
     pit: &Instance<A>,
-    schedule: &S,
+    periods: &[Option<u32>],
 ) -> Option<(u32, u32)>
-    requires { S.count schedule.now ≡ pit.now.blocks }
-    ensures none { IfNone result (IsOrdered pit.now (S.period_at schedule.now)) }
-    ensures some { IfSome result (λ p. IsFirstOutOfOrder pit.now (S.period_at schedule.now) p.0 p.1) }
+    requires { length periods.now ≡ pit.now.blocks }
+    ensures none { IfNone result (IsOrdered pit.now (by_block periods.now)) }
+    ensures some { IfSome result (λ p. IsFirstOutOfOrder pit.now (by_block periods.now) p.0 p.1) }
 {
     for b in 0..pit.blocks() {
-        if let Some(a) = first_late(pit.preds(b), schedule, schedule.period(b)) {
+        if let Some(a) = first_late(pit.preds(b), periods, periods[b as usize]) {
             return Some((b, a));
         }
     }
@@ -150,19 +135,19 @@ fn first_out_of_order<S: Schedule, A: Allocator + Copy + Drop>(
 }
 
 /// The least resource that is over its limit in the period.
-fn first_over_in<S: Schedule, A: Allocator + Copy + Drop>(
+fn first_over_in<A: Allocator + Copy + Drop>(
     pit: &Instance<A>,
-    schedule: &S,
+    periods: &[Option<u32>],
     t: u32,
 ) -> Option<Breach>
-    requires blocks { S.count schedule.now ≡ pit.now.blocks }
+    requires blocks { length periods.now ≡ pit.now.blocks }
     requires period { t < pit.now.periods }
-    ensures none { IfNone result (IsUnderIn pit.now (S.period_at schedule.now) (upper_of pit.now) t pit.now.resources) }
-    ensures some { IfSome result (IsOverIn pit.now (S.period_at schedule.now) (upper_of pit.now) t) }
+    ensures none { IfNone result (IsUnderIn pit.now (by_block periods.now) (upper_of pit.now) t pit.now.resources) }
+    ensures some { IfSome result (IsOverIn pit.now (by_block periods.now) (upper_of pit.now) t) }
 {
     for r in 0..pit.resources() {
         if let Some(limit) = pit.upper(r, t) {
-            let load = load(pit, schedule, r, t);
+            let load = load(pit, periods, r, t);
             if load > i128::from(limit) {
                 return Some(Breach::Over {
                     resource: r,
@@ -177,16 +162,16 @@ fn first_over_in<S: Schedule, A: Allocator + Copy + Drop>(
 }
 
 /// The least period and resource that is over its limit.
-fn first_over<S: Schedule, A: Allocator + Copy + Drop>(
+fn first_over<A: Allocator + Copy + Drop>(
     pit: &Instance<A>,
-    schedule: &S,
+    periods: &[Option<u32>],
 ) -> Option<Breach>
-    requires blocks { S.count schedule.now ≡ pit.now.blocks }
-    requires ordered { IsOrdered pit.now (S.period_at schedule.now) }
-    ensures { IsFirstBreach pit.now (S.period_at schedule.now) (upper_of pit.now) result }
+    requires blocks { length periods.now ≡ pit.now.blocks }
+    requires ordered { IsOrdered pit.now (by_block periods.now) }
+    ensures { IsFirstBreach pit.now (by_block periods.now) (upper_of pit.now) result }
 {
     for t in 0..pit.periods() {
-        if let Some(over) = first_over_in(pit, schedule, t) {
+        if let Some(over) = first_over_in(pit, periods, t) {
             return Some(over);
         }
     }
@@ -194,69 +179,69 @@ fn first_over<S: Schedule, A: Allocator + Copy + Drop>(
 }
 
 /// The first breach of the schedule.
-pub(crate) fn first_breach<S: Schedule, A: Allocator + Copy + Drop>(
+pub(crate) fn first_breach<A: Allocator + Copy + Drop>(
     pit: &Instance<A>,
-    schedule: &S,
+    periods: &[Option<u32>],
 ) -> Option<Breach>
-    requires { S.count schedule.now ≡ pit.now.blocks }
-    ensures { IsFirstBreach pit.now (S.period_at schedule.now) (upper_of pit.now) result }
+    requires { length periods.now ≡ pit.now.blocks }
+    ensures { IsFirstBreach pit.now (by_block periods.now) (upper_of pit.now) result }
 {
-    if let Some((block, before)) = first_out_of_order(pit, schedule) {
+    if let Some((block, before)) = first_out_of_order(pit, periods) {
         return Some(Breach::Precedence { block, before });
     }
-    first_over(pit, schedule)
+    first_over(pit, periods)
 }
 
 /// Each load that is below its lower limit, by rising period, and in it by rising resource.
-pub(crate) fn shortfalls<S: Schedule, A: Allocator + Copy + Drop>(
+pub(crate) fn shortfalls<A: Allocator + Copy + Drop>(
     alloc: A,
     pit: &Instance<A>,
-    schedule: &S,
+    periods: &[Option<u32>],
 ) -> Result<Vec<Short, A>, NoMemory>
-    requires { S.count schedule.now ≡ pit.now.blocks }
-    ensures { IfOk result (λ shorts. shorts.items ≡ shortfalls_of pit.now (S.period_at schedule.now)) }
+    requires { length periods.now ≡ pit.now.blocks }
+    ensures { IfOk result (λ shorts. shorts.items ≡ shortfalls_of pit.now (by_block periods.now)) }
 {
     let mut shorts = Vec::new(alloc);
     for t in 0..pit.periods() {
-        push_shorts(&mut shorts, pit, schedule, t)?;
+        push_shorts(&mut shorts, pit, periods, t)?;
     }
     Ok(shorts)
 }
 
 /// Appends the shortfalls of a period.
-fn push_shorts<S: Schedule, A: Allocator + Copy + Drop>(
+fn push_shorts<A: Allocator + Copy + Drop>(
     shorts: &mut Vec<Short, A>,
     pit: &Instance<A>,
-    schedule: &S,
+    periods: &[Option<u32>],
     t: u32,
 ) -> Result<(), NoMemory>
-    requires blocks { S.count schedule.now ≡ pit.now.blocks }
+    requires blocks { length periods.now ≡ pit.now.blocks }
     requires period { t < pit.now.periods }
-    ensures { OnOk result (shorts.new.items ≡ shorts.old.items ++ shorts_in pit.now (S.period_at schedule.now) t) }
+    ensures { OnOk result (shorts.new.items ≡ shorts.old.items ++ shorts_in pit.now (by_block periods.now) t) }
 {
     for r in 0..pit.resources() {
-        push_short(shorts, pit, schedule, r, t)?;
+        push_short(shorts, pit, periods, r, t)?;
     }
     Ok(())
 }
 
 /// Appends the load where it is below its lower limit.
-fn push_short<S: Schedule, A: Allocator + Copy + Drop>(
+fn push_short<A: Allocator + Copy + Drop>(
     shorts: &mut Vec<Short, A>,
     pit: &Instance<A>,
-    schedule: &S,
+    periods: &[Option<u32>],
     r: u32,
     t: u32,
 ) -> Result<(), NoMemory>
-    requires blocks { S.count schedule.now ≡ pit.now.blocks }
+    requires blocks { length periods.now ≡ pit.now.blocks }
     requires resource { r < pit.now.resources }
     requires period { t < pit.now.periods }
-    ensures { OnOk result (shorts.new.items ≡ shorts.old.items ++ short_at r t (load_of pit.now (S.period_at schedule.now) r t) (lower_of pit.now r t)) }
+    ensures { OnOk result (shorts.new.items ≡ shorts.old.items ++ short_at r t (load_of pit.now (by_block periods.now) r t) (lower_of pit.now r t)) }
 {
     let Some(limit) = pit.lower(r, t) else {
         return Ok(());
     };
-    let load = load(pit, schedule, r, t);
+    let load = load(pit, periods, r, t);
     if load < i128::from(limit) {
         shorts.push(Short {
             resource: r,

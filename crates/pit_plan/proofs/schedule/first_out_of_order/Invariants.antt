@@ -1,7 +1,7 @@
 use Rattle.std.proofs.Common.{◌≡◌, ℕ, ◌<◌, true}
-use Rattle.pit_plan.specs.Schedule.{in_order, IsPred}
+use Rattle.pit_plan.specs.Schedule.{by_block, in_order, IsPred}
 use Rattle.pit_plan.proofs.schedule.first_out_of_order.Given as goal
 
 abbrev pub invariant-loop-b : goal.invariant-loop-b
 invariant-loop-b g l =
-    (x a : ℕ) → x < l.b → IsPred l.pit x a → in_order (g.S.Schedule.period_at l.schedule x) (g.S.Schedule.period_at l.schedule a) ≡ true
+    (x a : ℕ) → x < l.b → IsPred l.pit x a → in_order (by_block l.periods x) (by_block l.periods a) ≡ true

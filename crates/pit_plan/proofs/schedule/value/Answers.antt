@@ -17,7 +17,7 @@ pub loop-b-preserved : goal.loop-b-preserved
 loop-b-preserved g c =
     let sum = c.loop-b.invariant.1 in
     let one = c.earned-sum.ensures.small in (
-      total-kept _ c.loop-b.b _ _ _ c.loop-b.invariant.0 (rw c.period.ensures at c.earned-sum.ensures.value)
+      total-kept _ c.loop-b.b _ _ _ c.loop-b.invariant.0 c.earned-sum.ensures.value
           (omega (arith, ints, sum.low, sum.high, one.low, one.high, c.blocks-b-end.ensures.sound.few_blocks)),
       record { low = omega (arith, ints, sum.low, one.low); high = omega (arith, ints, sum.high, one.high) },
     )

@@ -1,5 +1,0 @@
-use Rattle.pit_plan.proofs.Same.{pit-kept}
-use Rattle.pit_plan.proofs.plan.Plan.instance.Goals as goal
-
-pub returns : goal.returns
-returns g c = pit-kept _ _ _ c.self.view_is
