@@ -6,7 +6,7 @@ use Rattle.std.proofs.lemmas.List.Kept.{AllPairs-cons}
 use Rattle.pit_model.specs.Pit.{Pit}
 use Rattle.pit_text.specs.Solution.{RisesFrom}
 use Rattle.pit_plan.specs.Standing.{Fits}
-use Rattle.pit_cli.specs.Checked.{commit_of}
+use Rattle.pit_cli.specs.Outcome.{commit_of}
 
 blocks_in_range : (least blocks periods : ℕ) (schedule : List (ℕ × ℕ)) → RisesFrom least blocks periods schedule → AllByRecursion (λ w. w.0 < blocks) (commit_of schedule)
 blocks_in_range least blocks periods [] rises = tt

@@ -1,5 +1,5 @@
 -- What `check` answers to what its devices gave.
-use Rattle.std.specs.Prelude.{◌≡◌, ℕ, true, false, List, [], ◌∷◌, map, Option, Some, ◌⊎◌}
+use Rattle.std.specs.Prelude.{◌≡◌, ℕ, true, false, List, [], ◌∷◌, Option, ◌⊎◌}
 use Rattle.std.specs.Io.KnownBytes.{Appends, Keeps}
 use Rattle.pit_num.specs.Printed.{AppendsFront}
 use Rattle.pit_model.specs.Pit.{Pit}
@@ -8,7 +8,7 @@ use Rattle.pit_plan.specs.Breaches.{IsBreachOf}
 use Rattle.pit_plan.specs.Shortfalls.{shortfalls_of}
 use Rattle.pit_plan.specs.declared.breach.Breach.{Breach}
 use Rattle.pit_cli.specs.CheckText.{check_text, check_status}
-use Rattle.pit_cli.specs.Outcome.{Reading, Writing, IsWhole, IsInputFault, ReadsPit, IsPitFault, IsOrder, IsOrderFault, ReadsSchedule, IsScheduleFault}
+use Rattle.pit_cli.specs.Outcome.{Reading, Writing, IsWhole, IsInputFault, ReadsPit, IsPitFault, IsOrder, IsOrderFault, ReadsSchedule, IsScheduleFault, commit_of}
 use Rattle.pit_cli.specs.declared.input.Input.TheVariants.{Precedence}
 use Rattle.pit_cli.specs.declared.status.Status.{Status}
 use Rattle.pit_cli.specs.declared.fault.CliFault.{CliFault}
@@ -22,10 +22,6 @@ pub record ReadsOrder (precedence : Reading) (given pit : Pit) : Type 0 where
 
 abbrev pub IsOrderingFault : Reading → Pit → CliFault → Type 0
 IsOrderingFault precedence given fault = IsInputFault precedence Precedence fault ⊎ ((bytes : List ℕ) × IsWhole precedence bytes × IsOrderFault given bytes fault)
-
--- a schedule as one commit
-abbrev pub commit_of : List (ℕ × ℕ) → Commit
-commit_of schedule = map (λ pair. (pair.0, Some pair.1)) schedule
 
 -- the text and the status say what the commits are worth, break and fall short of
 pub record Checks (pit : Pit) (commits : List Commit) (text : List ℕ) (status : Status) : Type 0 where

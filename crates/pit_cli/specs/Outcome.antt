@@ -1,5 +1,5 @@
 -- What an engine answers to what its devices gave.
-use Rattle.std.specs.Prelude.{◌≡◌, ℕ, ℤ, ◌^◌, ◌<◌, ◌≤◌, Bool, true, false, List, length, Option, ◌⊎◌}
+use Rattle.std.specs.Prelude.{◌≡◌, ℕ, ℤ, ◌^◌, ◌<◌, ◌≤◌, Bool, true, false, List, [], ◌∷◌, length, map, Option, Some, ◌⊎◌}
 use Rattle.std.specs.Io.KnownBytes.{Appends, Consumes, IsAtEnd, Keeps}
 use Rattle.pit_num.specs.Printed.{AppendsFront}
 use Rattle.pit_text.specs.declared.error.TextError.{TextError}
@@ -9,7 +9,7 @@ use Rattle.pit_text.specs.Model.{Fact, model_line, model_end, pit_of}
 use Rattle.pit_model.specs.Pit.{Pit}
 use Rattle.pit_text.specs.Precedence.{precedence_line, pit_with_preds}
 use Rattle.pit_text.specs.Solution.{solution_line, period_in, scheduled}
-use Rattle.pit_cli.specs.Sum.{value_of}
+use Rattle.pit_plan.specs.Schedule.{Commit, held, value_of}
 use Rattle.pit_cli.specs.declared.input.Input.{Input}
 use Rattle.pit_cli.specs.declared.input.Input.TheVariants.{Model, Precedence, Solution}
 use Rattle.pit_cli.specs.CheckText.{value_text}
@@ -127,18 +127,22 @@ IsScheduleFault solution pit fault = IsInputFault solution Solution fault ⊎ ((
 
 -- ---- the value of a solution
 
+-- a schedule as one commit
+abbrev pub commit_of : List (ℕ × ℕ) → Commit
+commit_of schedule = map (λ pair. (pair.0, Some pair.1)) schedule
+
 -- the solution was read, and stands for a schedule of the pit that has this value
-pub record ReadsSum (solution : Reading) (pit : Pit) (value : ℤ) : Type 0 where
+pub record ReadsValue (solution : Reading) (pit : Pit) (value : ℤ) : Type 0 where
   pub schedule : List (ℕ × ℕ)
   pub read : ReadsSchedule solution pit schedule
-  pub sum : value ≡ value_of pit schedule
+  pub worth : value ≡ value_of pit (held (commit_of schedule ∷ []))
 
 -- both were read and are right, and the value was written
 pub record WritesValue (model solution : Reading) (out : Writing) : Type 0 where
   pub pit : Pit
   pub value : ℤ
   pub model_read : ReadsPit model pit
-  pub solution_read : ReadsSum solution pit value
+  pub solution_read : ReadsValue solution pit value
   pub written : Appends out.before out.after (value_text value)
   pub sound : out.failed ≡ false
 
@@ -147,7 +151,7 @@ pub record FailsToWrite (model solution : Reading) (out : Writing) : Type 0 wher
   pub pit : Pit
   pub value : ℤ
   pub model_read : ReadsPit model pit
-  pub solution_read : ReadsSum solution pit value
+  pub solution_read : ReadsValue solution pit value
   pub written : AppendsFront out.before out.after (value_text value)
   pub failed : out.failed ≡ true
 

@@ -10,9 +10,9 @@ mod engine;
 mod fault;
 mod input;
 mod parsed;
+mod planned;
 mod read;
 mod status;
-mod sum;
 #[cfg(test)]
 mod tests;
 
@@ -22,4 +22,3 @@ pub use fault::CliFault;
 pub use input::Input;
 pub use read::{MAX_BYTES, ReadError, read_all};
 pub use status::Status;
-pub use sum::value_of;

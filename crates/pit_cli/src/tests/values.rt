@@ -1,12 +1,6 @@
 //! What a solution is worth.
 use super::{SOLUTION, TINY, VALUE, assert_value};
-use crate::value_of;
-use pit_model::Instance;
 use pit_num::In;
-use pit_text::read_model;
-use std::alloc::Global;
-use std::process::Abort;
-use std::test::Fail;
 
 /// The small pit with its sections in another order, and without some lines that say nothing of profits.
 const TURNED: &[u8] = b"TYPE: CPIT
@@ -28,11 +22,13 @@ OBJECTIVE_FUNCTION:
 
 #[test]
 fn of_the_small_pit(rt: HostRuntime) {
-    let rows: [(&[u8], &[u8], &[u8]); 6] = [
+    let rows: [(&[u8], &[u8], &[u8]); 7] = [
         (TINY, SOLUTION, VALUE),
         (TINY, b"2 1\n\n% in any order\n1 0\r\n0 0\nEOF\n3", VALUE),
         (TURNED, SOLUTION, VALUE),
         (TINY, b"", b"0.000000000000000000\n"),
+        // -10 + 20.5
+        (TINY, b"0 0\n1 0\n", b"10.500000000000000000\n"),
         // -10 * 0.909090909091
         (TINY, b"0 1\n", b"-9.090909090910000000\n"),
         // 5 * 0.909090909091
@@ -42,32 +38,4 @@ fn of_the_small_pit(rt: HostRuntime) {
         let (mut model, mut solution) = (In::new(model), In::new(solution));
         assert_value(&rt, rt.alloc(), &mut model, &mut solution, wanted);
     }
-}
-
-// In units of 10^-18: millionths times factors in units of 10^-12.
-fn assert_values(rt: &impl Abort, tiny: &Instance<Global>) {
-    assert_eq!(rt; tiny.blocks(), 4);
-    assert_eq!(rt; tiny.periods(), 2);
-    assert_eq!(rt; value_of(tiny, &[]), 0);
-    // (-10_000_000 + 20_500_000) * 10^12
-    assert_eq!(rt;
-        value_of(tiny, &[(0, 0), (1, 0)]),
-        10_500_000_000_000_000_000
-    );
-    // -10_000_000 * 909_090_909_091
-    assert_eq!(rt; value_of(tiny, &[(0, 1)]), -9_090_909_090_910_000_000);
-    // 10_500_000 * 10^12 + 30_000_000 * 909_090_909_091
-    assert_eq!(rt;
-        value_of(tiny, &[(0, 0), (1, 0), (2, 1)]),
-        37_772_727_272_730_000_000
-    );
-}
-
-#[test]
-fn of_pairs(rt: HostRuntime) -> Result<(), Fail> {
-    let Ok(tiny) = read_model(rt.alloc(), TINY)?.build() else {
-        return Err(Fail::from("no memory"));
-    };
-    assert_values(&rt, &tiny);
-    Ok(())
 }

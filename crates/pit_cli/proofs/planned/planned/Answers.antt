@@ -2,9 +2,9 @@ use Rattle.std.proofs.Common.{◌≡◌, ◌∷◌, [], sym, subst, ◌∙◌}
 use Rattle.pit_model.specs.Pit.{Pit}
 use Rattle.pit_plan.specs.Schedule.{Commit}
 use Rattle.pit_plan.specs.Standing.{Fits, StandsFor}
-use Rattle.pit_cli.specs.Checked.{commit_of}
+use Rattle.pit_cli.specs.Outcome.{commit_of}
 use Rattle.pit_cli.proofs.Schedules.{rising_fits}
-use Rattle.pit_cli.proofs.checking.planned.Goals as goal
+use Rattle.pit_cli.proofs.planned.planned.Goals as goal
 
 pub apply-requires-clause-fits : goal.apply-requires-clause-fits
 apply-requires-clause-fits g c =
