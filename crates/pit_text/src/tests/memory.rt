@@ -7,7 +7,7 @@ use crate::{Cause, TextError, read_blocks, read_model, read_precedence, read_sol
 use pit_model::Builder;
 use pit_num::NoMemory;
 use pit_refuse::Refusing;
-use std::alloc::Allocator;
+use std::alloc::{Allocator, Global};
 use std::process::Abort;
 use std::test::Fail;
 
@@ -23,18 +23,32 @@ fn assert_kept<A: Allocator + Copy + Drop>(
     assert_facts(rt, builder, wanted, &[])
 }
 
+/// The answer where a request was refused.
+fn assert_refused(rt: &impl Abort, answer: Option<TextError>, number: u64) {
+    let cause = answer.map(|error| error.cause);
+    assert_eq!(rt; cause, Some(Cause::NoMemory), "at {number}");
+}
+
+/// Whether the model is read before a request of this number. Else that is refused, and so is the model for want of memory.
+fn is_model_read(rt: &impl Abort, alloc: Global, text: &[u8], number: u64) -> Result<bool, Fail> {
+    let heap = Refusing::new(alloc, number);
+    let answer = read_model(&heap, text);
+    if heap.count().has_refused() {
+        assert_refused(rt, answer.err(), number);
+        return Ok(false);
+    }
+    assert_kept(rt, answer?, TINY_FACTS)?;
+    Ok(true)
+}
+
 #[test]
 fn of_read_model(rt: HostRuntime) -> Result<(), Fail> {
     let parts = [TINY_HEADER, TINY_OBJECTIVE, TINY_COEFFICIENTS, TINY_LIMITS];
     let text = joined(rt.alloc(), &parts)?;
     for number in 1..100 {
-        let heap = Refusing::new(rt.alloc(), number);
-        let answer = read_model(&heap, &text);
-        if !heap.count().has_refused() {
-            return assert_kept(&rt, answer?, TINY_FACTS);
+        if is_model_read(&rt, rt.alloc(), &text, number)? {
+            return Ok(());
         }
-        let cause = answer.err().map(|error| error.cause);
-        assert_eq!(rt; cause, Some(Cause::NoMemory), "at {number}");
     }
     Err(Fail::from("never whole"))
 }
