@@ -3,6 +3,8 @@ pub mod Bounds
 pub mod Preds
 pub mod Commits
 pub mod Slots
+pub mod Cells
+pub mod Moved
 pub mod Shorts
 pub mod Same
 pub mod OneBreach

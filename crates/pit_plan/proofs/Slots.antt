@@ -1,5 +1,5 @@
 -- What writes leave of a list that has an item for each block.
-use Rattle.std.proofs.Common.{◌≡◌, ◌≢◌, ℕ, suc, ◌+◌, ◌<◌, cond, List, [], ◌∷◌, ◌++◌, length, length-append, length-set, take, get_or, Option, Some, None, refl, sym, ap, subst, ◌∙◌, arith, inl, inr}
+use Rattle.std.proofs.Common.{◌≡◌, ◌≢◌, ℕ, zero, suc, ◌+◌, ◌<◌, cond, List, [], ◌∷◌, ◌++◌, length, length-append, length-set, take, get_or, Option, Some, None, refl, sym, ap, subst, ◌∙◌, arith, inl, inr}
 use Rattle.std.specs.Prelude.{unwrap_or, is_some, slice_set, replicate, All, AllPairs}
 use Rattle.std.specs.List.{AllByRecursion}
 use Rattle.std.proofs.lemmas.List.{take_more, get_or-set_same, get_or-set_other, get_or-replicate}
@@ -122,3 +122,9 @@ placed-period xs ws b once below = by (said ws b) refl
     by : (x : Option (Option ℕ)) → said ws b ≡ x → get_or (placed (λ w. w.1) xs ws) b None ≡ unwrap_or (said ws b) (get_or xs b None)
     by None is = placed-other (λ w. w.1) xs ws b None is ∙ sym (ap (λ y. unwrap_or y (get_or xs b None)) is)
     by (Some p) is = placed-named (λ w. w.1) xs ws b None p (once-from_pairs ws once) below is ∙ sym (ap (λ y. unwrap_or y (get_or xs b None)) is)
+
+-- of two writes at one place the second stands
+pub set-twice : {X : Type 0} (xs : List X) (i : ℕ) (a b : X) → slice_set (slice_set xs i a) i b ≡ slice_set xs i b
+set-twice [] i a b = refl
+set-twice (x ∷ xs) zero a b = refl
+set-twice (x ∷ xs) (suc i) a b = ap (λ ys. x ∷ ys) (set-twice xs i a b)

@@ -3,5 +3,6 @@ pub mod Schedule
 pub mod Standing
 pub mod Breaches
 pub mod Shortfalls
+pub mod Totals
 pub mod InsidePlan
 pub mod InsideSchedule

@@ -10,6 +10,7 @@ mod laws;
 mod plan;
 mod schedule;
 mod short;
+mod tally;
 #[cfg(test)]
 mod tests;
 

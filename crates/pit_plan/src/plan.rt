@@ -2,12 +2,14 @@ ghost use Rattle.std.specs.Prelude.{◌≡◌, ◌<◌, ◌++◌, ◌∷◌, [],
 ghost use Rattle.pit_plan.specs.Schedule.{Commit, held, load_of, value_of};
 ghost use Rattle.pit_plan.specs.Standing.{StandsFor, period_of, version_of, Fits, Adds};
 ghost use Rattle.pit_plan.specs.InsidePlan.{placed};
+ghost use Rattle.pit_plan.specs.Totals.{IsTally};
 ghost use Rattle.pit_plan.specs.Breaches.{IsBreachOf, IsGoodNow};
 ghost use Rattle.pit_plan.specs.Shortfalls.{shortfalls_of};
 
 use crate::breach::Breach;
 use crate::schedule;
 use crate::short::Short;
+use crate::tally::Tally;
 use pit_model::Instance;
 use pit_num::NoMemory;
 use std::alloc::Allocator;
@@ -16,12 +18,12 @@ use std::marker::Model;
 /// Which block of a pit is mined in which period, as a list of commits leaves it.
 ///
 /// Writes are blocks, each with its new period or none. They fit where blocks and periods are in range and no block stands twice.
-/// The body keeps each block's period and version, and sums over all blocks.
+/// The body keeps each block's period and version, each load, and the value.
 #[derive(Drop)]
 pub struct Plan<A: Allocator + Drop> {
     pit: Instance<A>,
     commits: u32,
-    periods: Vec<Option<u32>, A>,
+    tally: Tally<A>,
     versions: Vec<u32, A>,
 }
 
@@ -31,9 +33,9 @@ impl<A: Allocator + Drop> Model for Plan<A> {
 
     ghost Value = { Standing };
 
-    ghost view = { λ plan. record { pit = plan.pit; commits = plan.commits; periods = plan.periods.items; versions = plan.versions.items } };
+    ghost view = { λ plan. record { pit = plan.pit; commits = plan.commits; periods = plan.tally.periods; versions = plan.versions.items } };
 
-    ghost invariant = { λ plan. AreKept plan.pit plan.periods.items plan.versions.items };
+    ghost invariant = { λ plan. AreKept plan.pit plan.tally plan.versions.items };
 }
 
 impl<A: Allocator + Copy + Drop> Plan<A> {
@@ -42,12 +44,12 @@ impl<A: Allocator + Copy + Drop> Plan<A> {
         ensures ok { IfOk result (λ plan. (plan.pit ≡ pit) × StandsFor plan []) }
         ensures err { IfErr result (λ refused. refused.0 ≡ pit) }
     {
-        match no_slots(alloc, pit.blocks()) {
+        match nothing(alloc, &pit) {
             Err(no_memory) => Err((pit, no_memory)),
-            Ok((periods, versions)) => Ok(Plan {
+            Ok((tally, versions)) => Ok(Plan {
                 pit,
                 commits: 0,
-                periods,
+                tally,
                 versions,
             }),
         }
@@ -80,7 +82,7 @@ impl<A: Allocator + Copy + Drop> Plan<A> {
         requires { b < self.now.pit.blocks }
         ensures { result ≡ period_of self.now b }
     {
-        self.periods[b as usize]
+        self.tally.periods[b as usize]
     }
 
     /// The number of the last commit that named a block, or 0.
@@ -98,7 +100,7 @@ impl<A: Allocator + Copy + Drop> Plan<A> {
         ensures { (commits : List Commit) → StandsFor self.now commits
             → result ≡ load_of self.now.pit (held commits) r t }
     {
-        schedule::load(&self.pit, &self.periods, r, t)
+        schedule::load(&self.pit, &self.tally, r, t)
     }
 
     /// The discounted profit, in units of 10^-18, which is exact.
@@ -106,7 +108,7 @@ impl<A: Allocator + Copy + Drop> Plan<A> {
         ensures { (commits : List Commit) → StandsFor self.now commits
             → result ≡ value_of self.now.pit (held commits) }
     {
-        schedule::value(&self.pit, &self.periods)
+        self.tally.worth
     }
 
     /// The first breach of the plan: the least pair of a block and its predecessor that is out of order; else the load of the
@@ -115,19 +117,19 @@ impl<A: Allocator + Copy + Drop> Plan<A> {
         ensures { (commits : List Commit) → StandsFor self.now commits
             → IsBreachOf self.now.pit commits result }
     {
-        schedule::first_breach(&self.pit, &self.periods)
+        schedule::first_breach(&self.pit, &self.tally)
     }
 
-    /// The first breach that the plan would have after the writes. Takes the memory of a period for each block.
+    /// The first breach that the plan would have after the writes. Takes the memory of a period for each block and of the loads.
     pub fn judge(&self, writes: &[(u32, Option<u32>)]) -> Result<Option<Breach>, NoMemory>
         requires fits { Fits self.now.pit writes.now }
         requires good { IsGoodNow self.now }
         ensures { IfOk result (λ breach. (commits : List Commit) → StandsFor self.now commits
             → IsBreachOf self.now.pit (commits ++ writes.now ∷ []) breach) }
     {
-        let mut periods = Vec::from_slice(*self.periods.allocator(), &self.periods)?;
-        write_periods(&mut periods, writes);
-        Ok(schedule::first_breach(&self.pit, &periods))
+        let mut tally = self.tally.copy(*self.versions.allocator())?;
+        tally.write(&self.pit, writes);
+        Ok(schedule::first_breach(&self.pit, &tally))
     }
 
     /// Adds the writes as one more commit. Takes no memory, and is never refused.
@@ -139,7 +141,7 @@ impl<A: Allocator + Copy + Drop> Plan<A> {
         ensures done { IsOk result }
     {
         self.commits += 1;
-        write_periods(&mut self.periods, writes);
+        self.tally.write(&self.pit, writes);
         write_versions(&mut self.versions, writes, self.commits);
         Ok(())
     }
@@ -149,34 +151,22 @@ impl<A: Allocator + Copy + Drop> Plan<A> {
         ensures { IfOk result (λ shorts. (commits : List Commit) → StandsFor self.now commits
             → shorts.items ≡ shortfalls_of self.now.pit (held commits)) }
     {
-        schedule::shortfalls(*self.periods.allocator(), &self.pit, &self.periods)
+        schedule::shortfalls(*self.versions.allocator(), &self.pit, &self.tally)
     }
 }
 
 /// No period and the version 0 for each block.
-fn no_slots<A: Allocator + Copy + Drop>(
+fn nothing<A: Allocator + Copy + Drop>(
     alloc: A,
-    blocks: u32,
-) -> Result<(Vec<Option<u32>, A>, Vec<u32, A>), NoMemory>
-    ensures periods { IfOk result (λ slots. slots.0.items ≡ replicate blocks None) }
-    ensures versions { IfOk result (λ slots. slots.1.items ≡ replicate blocks 0) }
+    pit: &Instance<A>,
+) -> Result<(Tally<A>, Vec<u32, A>), NoMemory>
+    ensures tally { IfOk result (λ parts. IsTally pit.now parts.0) }
+    ensures periods { IfOk result (λ parts. parts.0.periods ≡ replicate pit.now.blocks None) }
+    ensures versions { IfOk result (λ parts. parts.1.items ≡ replicate pit.now.blocks 0) }
 {
-    let periods = vec![in alloc; None; blocks as usize]?;
-    let versions = vec![in alloc; 0; blocks as usize]?;
-    Ok((periods, versions))
-}
-
-/// Gives each written block its period.
-fn write_periods<A: Allocator + Drop>(
-    periods: &mut Vec<Option<u32>, A>,
-    writes: &[(u32, Option<u32>)],
-)
-    requires { All (λ w. w.0 < length periods.old.items) writes.now }
-    ensures { periods.new.items ≡ placed (λ w. w.1) periods.old.items writes.now }
-{
-    for (block, period) in writes {
-        periods[*block as usize] = *period;
-    }
+    let tally = Tally::none(alloc, pit)?;
+    let versions = vec![in alloc; 0; pit.blocks() as usize]?;
+    Ok((tally, versions))
 }
 
 /// Gives each written block the number of the commit.

@@ -4,12 +4,14 @@ ghost use Rattle.std.specs.List.Sorted.{IsStrictlyIncreasing};
 ghost use Rattle.pit_num.specs.Within.{IsWithin};
 ghost use Rattle.pit_model.specs.Pit.{upper_of, lower_of};
 ghost use Rattle.pit_plan.specs.Schedule.{by_block, coef_in as coefficient, share as share_of, load_of, value_of, earned_in, in_order};
+ghost use Rattle.pit_plan.specs.Totals.{IsTally};
 ghost use Rattle.pit_plan.specs.Breaches.{IsFirstBreach, IsFirstOutOfOrder, IsOrdered};
 ghost use Rattle.pit_plan.specs.Shortfalls.{shortfalls_of, shorts_in, short_at};
 ghost use Rattle.pit_plan.specs.InsideSchedule.{IsFirstLate, IsUnderIn, IsOverIn};
 
 use crate::breach::Breach;
 use crate::short::Short;
+use crate::tally::Tally;
 use pit_model::Instance;
 use pit_num::NoMemory;
 use std::alloc::Allocator;
@@ -17,42 +19,20 @@ use std::alloc::Allocator;
 /// The load of a resource in a period.
 pub(crate) fn load<A: Allocator + Copy + Drop>(
     pit: &Instance<A>,
-    periods: &[Option<u32>],
+    tally: &Tally<A>,
     r: u32,
     t: u32,
 ) -> i128
-    requires { length periods.now ≡ pit.now.blocks }
-    ensures { result ≡ load_of pit.now (by_block periods.now) r t }
+    requires tally { IsTally pit.now tally.now }
+    requires resource { r < pit.now.resources }
+    requires period { t < pit.now.periods }
+    ensures { result ≡ load_of pit.now (by_block tally.now.periods) r t }
 {
-    let mut sum: i128 = 0;
-    for b in 0..pit.blocks() {
-        sum += i128::from(share(pit, periods, r, t, b));
-    }
-    sum
-}
-
-/// What a block adds to the load.
-fn share<A: Allocator + Copy + Drop>(
-    pit: &Instance<A>,
-    periods: &[Option<u32>],
-    r: u32,
-    t: u32,
-    b: u32,
-) -> i64
-    requires same { length periods.now ≡ pit.now.blocks }
-    requires known { b < pit.now.blocks }
-    ensures value { result ≡ share_of pit.now (by_block periods.now) r t b }
-    ensures small { IsWithin (10 ^ 18) result }
-{
-    let period = periods[b as usize];
-    match period {
-        Some(s) if s == t => coef_in(pit.coefs(b), r),
-        _ => 0,
-    }
+    tally.loads[t as usize * pit.resources() as usize + r as usize]
 }
 
 /// The coefficient of a resource, or 0.
-fn coef_in(pairs: &[(u32, i64)], r: u32) -> i64
+pub(crate) fn coef_in(pairs: &[(u32, i64)], r: u32) -> i64
     requires { All (λ pair. IsWithin (10 ^ 18) pair.1) pairs.now }
     ensures value { result ≡ coefficient pairs.now r }
     ensures small { IsWithin (10 ^ 18) result }
@@ -65,21 +45,12 @@ fn coef_in(pairs: &[(u32, i64)], r: u32) -> i64
     0
 }
 
-/// The discounted profits of a schedule.
-pub(crate) fn value<A: Allocator + Copy + Drop>(pit: &Instance<A>, periods: &[Option<u32>]) -> i128
-    requires blocks { length periods.now ≡ pit.now.blocks }
-    requires periods { (b : ℕ) → b < pit.now.blocks → IfSome (by_block periods.now b) (λ t. t < pit.now.periods) }
-    ensures { result ≡ value_of pit.now (by_block periods.now) }
-{
-    let mut sum: i128 = 0;
-    for b in 0..pit.blocks() {
-        sum += earned(pit, b, periods[b as usize]);
-    }
-    sum
-}
-
 /// What a block earns in a period.
-fn earned<A: Allocator + Copy + Drop>(pit: &Instance<A>, b: u32, period: Option<u32>) -> i128
+pub(crate) fn earned<A: Allocator + Copy + Drop>(
+    pit: &Instance<A>,
+    b: u32,
+    period: Option<u32>,
+) -> i128
     requires known { b < pit.now.blocks }
     requires period { IfSome period (λ t. t < pit.now.periods) }
     ensures value { result ≡ earned_in pit.now b period }
@@ -118,7 +89,7 @@ fn keeps_order(later: Option<u32>, before: Option<u32>) -> bool
 }
 
 /// The least pair of a block and its predecessor that is out of order.
-fn first_out_of_order<A: Allocator + Copy + Drop>(
+pub(crate) fn first_out_of_order<A: Allocator + Copy + Drop>(
     pit: &Instance<A>,
     periods: &[Option<u32>],
 ) -> Option<(u32, u32)>
@@ -137,17 +108,17 @@ fn first_out_of_order<A: Allocator + Copy + Drop>(
 /// The least resource that is over its limit in the period.
 fn first_over_in<A: Allocator + Copy + Drop>(
     pit: &Instance<A>,
-    periods: &[Option<u32>],
+    tally: &Tally<A>,
     t: u32,
 ) -> Option<Breach>
-    requires blocks { length periods.now ≡ pit.now.blocks }
+    requires tally { IsTally pit.now tally.now }
     requires period { t < pit.now.periods }
-    ensures none { IfNone result (IsUnderIn pit.now (by_block periods.now) (upper_of pit.now) t pit.now.resources) }
-    ensures some { IfSome result (IsOverIn pit.now (by_block periods.now) (upper_of pit.now) t) }
+    ensures none { IfNone result (IsUnderIn pit.now (by_block tally.now.periods) (upper_of pit.now) t pit.now.resources) }
+    ensures some { IfSome result (IsOverIn pit.now (by_block tally.now.periods) (upper_of pit.now) t) }
 {
     for r in 0..pit.resources() {
         if let Some(limit) = pit.upper(r, t) {
-            let load = load(pit, periods, r, t);
+            let load = load(pit, tally, r, t);
             if load > i128::from(limit) {
                 return Some(Breach::Over {
                     resource: r,
@@ -162,16 +133,13 @@ fn first_over_in<A: Allocator + Copy + Drop>(
 }
 
 /// The least period and resource that is over its limit.
-fn first_over<A: Allocator + Copy + Drop>(
-    pit: &Instance<A>,
-    periods: &[Option<u32>],
-) -> Option<Breach>
-    requires blocks { length periods.now ≡ pit.now.blocks }
-    requires ordered { IsOrdered pit.now (by_block periods.now) }
-    ensures { IsFirstBreach pit.now (by_block periods.now) (upper_of pit.now) result }
+fn first_over<A: Allocator + Copy + Drop>(pit: &Instance<A>, tally: &Tally<A>) -> Option<Breach>
+    requires tally { IsTally pit.now tally.now }
+    requires ordered { IsOrdered pit.now (by_block tally.now.periods) }
+    ensures { IsFirstBreach pit.now (by_block tally.now.periods) (upper_of pit.now) result }
 {
     for t in 0..pit.periods() {
-        if let Some(over) = first_over_in(pit, periods, t) {
+        if let Some(over) = first_over_in(pit, tally, t) {
             return Some(over);
         }
     }
@@ -181,29 +149,29 @@ fn first_over<A: Allocator + Copy + Drop>(
 /// The first breach of the schedule.
 pub(crate) fn first_breach<A: Allocator + Copy + Drop>(
     pit: &Instance<A>,
-    periods: &[Option<u32>],
+    tally: &Tally<A>,
 ) -> Option<Breach>
-    requires { length periods.now ≡ pit.now.blocks }
-    ensures { IsFirstBreach pit.now (by_block periods.now) (upper_of pit.now) result }
+    requires { IsTally pit.now tally.now }
+    ensures { IsFirstBreach pit.now (by_block tally.now.periods) (upper_of pit.now) result }
 {
-    if let Some((block, before)) = first_out_of_order(pit, periods) {
+    if let Some((block, before)) = first_out_of_order(pit, &tally.periods) {
         return Some(Breach::Precedence { block, before });
     }
-    first_over(pit, periods)
+    first_over(pit, tally)
 }
 
 /// Each load that is below its lower limit, by rising period, and in it by rising resource.
 pub(crate) fn shortfalls<A: Allocator + Copy + Drop>(
     alloc: A,
     pit: &Instance<A>,
-    periods: &[Option<u32>],
+    tally: &Tally<A>,
 ) -> Result<Vec<Short, A>, NoMemory>
-    requires { length periods.now ≡ pit.now.blocks }
-    ensures { IfOk result (λ shorts. shorts.items ≡ shortfalls_of pit.now (by_block periods.now)) }
+    requires { IsTally pit.now tally.now }
+    ensures { IfOk result (λ shorts. shorts.items ≡ shortfalls_of pit.now (by_block tally.now.periods)) }
 {
     let mut shorts = Vec::new(alloc);
     for t in 0..pit.periods() {
-        push_shorts(&mut shorts, pit, periods, t)?;
+        push_shorts(&mut shorts, pit, tally, t)?;
     }
     Ok(shorts)
 }
@@ -212,15 +180,15 @@ pub(crate) fn shortfalls<A: Allocator + Copy + Drop>(
 fn push_shorts<A: Allocator + Copy + Drop>(
     shorts: &mut Vec<Short, A>,
     pit: &Instance<A>,
-    periods: &[Option<u32>],
+    tally: &Tally<A>,
     t: u32,
 ) -> Result<(), NoMemory>
-    requires blocks { length periods.now ≡ pit.now.blocks }
+    requires tally { IsTally pit.now tally.now }
     requires period { t < pit.now.periods }
-    ensures { OnOk result (shorts.new.items ≡ shorts.old.items ++ shorts_in pit.now (by_block periods.now) t) }
+    ensures { OnOk result (shorts.new.items ≡ shorts.old.items ++ shorts_in pit.now (by_block tally.now.periods) t) }
 {
     for r in 0..pit.resources() {
-        push_short(shorts, pit, periods, r, t)?;
+        push_short(shorts, pit, tally, r, t)?;
     }
     Ok(())
 }
@@ -229,19 +197,19 @@ fn push_shorts<A: Allocator + Copy + Drop>(
 fn push_short<A: Allocator + Copy + Drop>(
     shorts: &mut Vec<Short, A>,
     pit: &Instance<A>,
-    periods: &[Option<u32>],
+    tally: &Tally<A>,
     r: u32,
     t: u32,
 ) -> Result<(), NoMemory>
-    requires blocks { length periods.now ≡ pit.now.blocks }
+    requires tally { IsTally pit.now tally.now }
     requires resource { r < pit.now.resources }
     requires period { t < pit.now.periods }
-    ensures { OnOk result (shorts.new.items ≡ shorts.old.items ++ short_at r t (load_of pit.now (by_block periods.now) r t) (lower_of pit.now r t)) }
+    ensures { OnOk result (shorts.new.items ≡ shorts.old.items ++ short_at r t (load_of pit.now (by_block tally.now.periods) r t) (lower_of pit.now r t)) }
 {
     let Some(limit) = pit.lower(r, t) else {
         return Ok(());
     };
-    let load = load(pit, periods, r, t);
+    let load = load(pit, tally, r, t);
     if load < i128::from(limit) {
         shorts.push(Short {
             resource: r,

@@ -3,10 +3,10 @@ ghost use Rattle.std.specs.Prelude.{◌≡◌, ◌<◌, true, All, IfSome};
 
 use super::kept::{Kept, held_in, last_in, said_in};
 use super::{
-    Coef, Fact, Limit, Preds, Profit, TINY, apply, assert_shortfalls, empty, finished, judge,
+    Coef, Fact, Limit, Preds, Profit, TINY, apply, assert_shortfalls, empty, finished, judge, sums,
     tell_all,
 };
-use crate::{Breach, Plan, schedule};
+use crate::{Breach, Plan};
 use pit_model::{BuildError, Builder, Instance};
 use pit_num::NoMemory;
 use std::alloc::Allocator;
@@ -239,7 +239,7 @@ fn assert_loads_in<A: Allocator + Copy + Drop>(
     assert!(rt; periods.len() == pit.blocks() as usize);
     assert!(rt; t < pit.periods());
     for r in 0..pit.resources() {
-        assert_eq!(rt; plan.load(r, t), schedule::load(pit, periods, r, t));
+        assert_eq!(rt; plan.load(r, t), sums::load(pit, periods, r, t));
     }
 }
 
@@ -262,8 +262,8 @@ fn assert_value<A: Allocator + Copy + Drop>(
     let pit = plan.instance();
     assert!(rt; periods.len() == pit.blocks() as usize);
     assert!(rt; are_below(pit.periods(), periods));
-    assert_eq!(rt; plan.value(), schedule::value(pit, periods));
-    assert_eq!(rt; plan.check(), schedule::first_breach(pit, periods));
+    assert_eq!(rt; plan.value(), sums::value(pit, periods));
+    assert_eq!(rt; plan.check(), sums::first_breach(pit, periods));
 }
 
 fn assert_short<A: Allocator + Copy + Drop>(
@@ -273,7 +273,7 @@ fn assert_short<A: Allocator + Copy + Drop>(
     periods: &[Option<u32>],
 ) -> Result<(), Fail> {
     assert!(rt; periods.len() == plan.instance().blocks() as usize);
-    let wanted = schedule::shortfalls(alloc, plan.instance(), periods)?;
+    let wanted = sums::shortfalls(alloc, plan.instance(), periods)?;
     assert_shortfalls(rt, plan, &wanted)
 }
 
@@ -301,7 +301,7 @@ fn assert_judged<A: Allocator + Copy + Drop>(
 ) -> Result<(), NoMemory> {
     let periods = periods_in(alloc, kept, pit.blocks())?;
     assert!(rt; periods.len() == pit.blocks() as usize);
-    assert_eq!(rt; breach, schedule::first_breach(pit, &periods));
+    assert_eq!(rt; breach, sums::first_breach(pit, &periods));
     Ok(())
 }
 

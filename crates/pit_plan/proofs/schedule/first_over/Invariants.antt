@@ -5,4 +5,4 @@ use Rattle.pit_plan.specs.Schedule.{by_block}
 use Rattle.pit_plan.proofs.schedule.first_over.Given as goal
 
 abbrev pub invariant-loop-t : goal.invariant-loop-t
-invariant-loop-t g l = (t : ℕ) → t < l.t → IsUnderIn l.pit (by_block l.periods) (upper_of l.pit) t l.pit.resources
+invariant-loop-t g l = (t : ℕ) → t < l.t → IsUnderIn l.pit (by_block l.tally.periods) (upper_of l.pit) t l.pit.resources

@@ -4,4 +4,4 @@ use Rattle.pit_plan.specs.Schedule.{by_block}
 use Rattle.pit_plan.proofs.schedule.first_over_in.Given as goal
 
 abbrev pub invariant-loop-r : goal.invariant-loop-r
-invariant-loop-r g l = IsUnderIn l.pit (by_block l.periods) (upper_of l.pit) l.t l.r
+invariant-loop-r g l = IsUnderIn l.pit (by_block l.tally.periods) (upper_of l.pit) l.t l.r

@@ -8,9 +8,9 @@ use Rattle.pit_plan.proofs.schedule.shortfalls.Goals as goal
 
 pub loop-t-preserved : goal.loop-t-preserved
 loop-t-preserved g c =
-    flat_map-pushed (shorts_in c.args.pit.now (by_block c.args.periods.now)) [] c.loop-t.shorts.items _ c.loop-t.t c.loop-t.invariant c.in_ok-push_shorts.ensures
+    flat_map-pushed (shorts_in c.args.pit.now (by_block c.args.tally.now.periods)) [] c.loop-t.shorts.items _ c.loop-t.t c.loop-t.invariant c.in_ok-push_shorts.ensures
 
 pub returns : goal.returns
 unfolding shortfalls_of
 returns g c =
-    c.loop-t.invariant ∙ ap (λ (n : ℕ). flat_map (shorts_in c.args.pit.now (by_block c.args.periods.now)) (range_with_len 0 n)) (omega arith)
+    c.loop-t.invariant ∙ ap (λ (n : ℕ). flat_map (shorts_in c.args.pit.now (by_block c.args.tally.now.periods)) (range_with_len 0 n)) (omega arith)

@@ -6,4 +6,4 @@ use Rattle.pit_plan.specs.Schedule.{by_block}
 use Rattle.pit_plan.proofs.schedule.shortfalls.Given as goal
 
 abbrev pub invariant-loop-t : goal.invariant-loop-t
-invariant-loop-t g l = l.shorts.items ≡ flat_map (shorts_in l.pit (by_block l.periods)) (range_with_len 0 l.t)
+invariant-loop-t g l = l.shorts.items ≡ flat_map (shorts_in l.pit (by_block l.tally.periods)) (range_with_len 0 l.t)

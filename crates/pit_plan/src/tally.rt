@@ -1,0 +1,163 @@
+//! A schedule with its loads and its value, which are moved by differences.
+ghost use Rattle.std.specs.Prelude.{◌≡◌, ℕ, ◌+◌, ◌*◌, ◌<◌, ◌^◌, ◌+ℤ◌, ◌-ℤ◌, None, length, replicate, slice_index_or, slice_set, pos, FitsSigned, IfOk, IfSome};
+ghost use Rattle.std.specs.Int.{w128};
+ghost use Rattle.pit_num.specs.Within.{IsWithin};
+ghost use Rattle.pit_plan.specs.Schedule.{by_block, coef_of};
+ghost use Rattle.pit_plan.specs.Standing.{Fits};
+ghost use Rattle.pit_plan.specs.InsidePlan.{placed};
+ghost use Rattle.pit_plan.specs.Totals.{load_at, Moves, moved_by, IsTally};
+
+use crate::schedule::{coef_in, earned};
+use pit_model::Instance;
+use pit_num::NoMemory;
+use std::alloc::Allocator;
+use std::marker::Model;
+
+/// A period or none for each block, the load of each resource in each period, and the value.
+#[derive(Drop)]
+pub(crate) struct Tally<A: Allocator + Drop> {
+    pub(crate) periods: Vec<Option<u32>, A>,
+    pub(crate) loads: Vec<i128, A>,
+    pub(crate) worth: i128,
+}
+
+impl<A: Allocator + Drop> Model for Tally<A> {
+    ghost use Rattle.pit_plan.specs.Totals.{Tallied};
+
+    ghost Value = { Tallied };
+
+    ghost view = { λ t. record { periods = t.periods.items; loads = t.loads.items; worth = t.worth } };
+}
+
+impl<A: Allocator + Copy + Drop> Tally<A> {
+    /// No block has a period.
+    pub(crate) fn none(alloc: A, pit: &Instance<A>) -> Result<Tally<A>, NoMemory>
+        ensures tally { IfOk result (IsTally pit.now) }
+        ensures periods { IfOk result (λ tally. tally.periods ≡ replicate pit.now.blocks None) }
+    {
+        let periods = vec![in alloc; None; pit.blocks() as usize]?;
+        let loads = vec![in alloc; 0; (pit.periods() * pit.resources()) as usize]?;
+        Ok(Tally {
+            periods,
+            loads,
+            worth: 0,
+        })
+    }
+
+    pub(crate) fn copy(&self, alloc: A) -> Result<Tally<A>, NoMemory>
+        ensures { IfOk result (λ tally. tally ≡ self.now) }
+    {
+        let periods = Vec::from_slice(alloc, &self.periods)?;
+        let loads = Vec::from_slice(alloc, &self.loads)?;
+        Ok(Tally {
+            periods,
+            loads,
+            worth: self.worth,
+        })
+    }
+
+    /// Gives each written block its period.
+    pub(crate) fn write(&mut self, pit: &Instance<A>, writes: &[(u32, Option<u32>)])
+        requires tally { IsTally pit.now self.old }
+        requires fits { Fits pit.now writes.now }
+        ensures periods { self.new.periods ≡ placed (λ w. w.1) self.old.periods writes.now }
+        ensures tally { IsTally pit.now self.new }
+    {
+        for (block, period) in writes {
+            self.take_out(pit, *block);
+            self.put_in(pit, *block, *period);
+        }
+    }
+
+    /// Takes a block out of its period.
+    fn take_out(&mut self, pit: &Instance<A>, b: u32)
+        requires tally { IsTally pit.now self.old }
+        requires known { b < pit.now.blocks }
+        ensures periods { self.new.periods ≡ slice_set self.old.periods b None }
+        ensures tally { IsTally pit.now self.new }
+    {
+        let _blocks = pit.blocks();
+        let old = self.periods[b as usize];
+        self.periods[b as usize] = None;
+        let Some(t) = old else {
+            return;
+        };
+        shift(pit, &mut self.loads, b, t, false);
+        self.worth = minus(self.worth, earned(pit, b, old));
+    }
+
+    /// Puts a block that has no period into one, or into none.
+    fn put_in(&mut self, pit: &Instance<A>, b: u32, period: Option<u32>)
+        requires tally { IsTally pit.now self.old }
+        requires known { b < pit.now.blocks }
+        requires none { by_block self.old.periods b ≡ None }
+        requires in_range { IfSome period (λ t. t < pit.now.periods) }
+        ensures periods { self.new.periods ≡ slice_set self.old.periods b period }
+        ensures tally { IsTally pit.now self.new }
+    {
+        let _blocks = pit.blocks();
+        self.periods[b as usize] = period;
+        let Some(t) = period else {
+            return;
+        };
+        shift(pit, &mut self.loads, b, t, true);
+        self.worth = plus(self.worth, earned(pit, b, period));
+    }
+}
+
+/// Adds a block's coefficients to the loads of a period, or takes them from these.
+fn shift<A: Allocator + Copy + Drop>(
+    pit: &Instance<A>,
+    loads: &mut Vec<i128, A>,
+    b: u32,
+    t: u32,
+    up: bool,
+)
+    requires known { b < pit.now.blocks }
+    requires period { t < pit.now.periods }
+    requires len { length loads.old.items ≡ pit.now.periods * pit.now.resources }
+    requires room { (r : ℕ) → r < pit.now.resources → FitsSigned w128 (load_at pit.now loads.old.items r t +ℤ moved_by up (coef_of pit.now b r)) }
+    ensures { Moves pit.now loads.old.items t (λ r. moved_by up (coef_of pit.now b r)) loads.new.items }
+{
+    for r in 0..pit.resources() {
+        let coef = coef_in(pit.coefs(b), r);
+        add_at(
+            loads,
+            t as usize * pit.resources() as usize + r as usize,
+            moved(up, coef),
+        );
+    }
+}
+
+/// A sum that stays in range.
+fn plus(sum: i128, term: i128) -> i128
+    requires { FitsSigned w128 (sum +ℤ term) }
+    ensures { result ≡ sum +ℤ term }
+{
+    sum + term
+}
+
+/// A difference that stays in range.
+fn minus(sum: i128, term: i128) -> i128
+    requires { FitsSigned w128 (sum -ℤ term) }
+    ensures { result ≡ sum -ℤ term }
+{
+    sum - term
+}
+
+/// A coefficient, or its opposite.
+fn moved(up: bool, coef: i64) -> i64
+    requires { IsWithin (10 ^ 18) coef }
+    ensures { result ≡ moved_by up coef }
+{
+    if up { coef } else { -coef }
+}
+
+/// Adds to a cell.
+fn add_at<A: Allocator + Drop>(loads: &mut Vec<i128, A>, at: usize, coef: i64)
+    requires within { at < length loads.old.items }
+    requires room { FitsSigned w128 (slice_index_or loads.old.items at (pos 0) +ℤ coef) }
+    ensures { loads.new.items ≡ slice_set loads.old.items at (slice_index_or loads.old.items at (pos 0) +ℤ coef) }
+{
+    loads[at] += i128::from(coef);
+}
