@@ -194,19 +194,6 @@ sum-in pit s b t sum sound below is kept =
     let small = value-within pit (with_block s b (Some t)) sound in
     omega (arith, ints, changed, kept, small.low, small.high, sound.few_blocks)
 
--- a block that has no period need not be taken out
-pub none-out : (pit : Pit) (s : ℕ → Option ℕ) (b : ℕ) (loads : List ℤ) (sum : ℤ) → s b ≡ None → AreTotals pit s loads sum → AreTotals pit (with_block s b None) loads sum
-none-out pit s b loads sum none are = record {
-  each = λ r t lr lt. are.each r t lr lt ∙ same-load pit s (with_block s b None) r t (λ x _. same x);
-  value = are.value ∙ same-value pit s (with_block s b None) (λ x _. same x);
-}
-  where
-    same : (x : ℕ) → s x ≡ with_block s b None x
-    same x = elim (eqb_tells x b) [
-      | inl h ↦ ap s h.1 ∙ (none ∙ sym (ap (λ y. cond y None (s x)) h.0))
-      | inr h ↦ sym (ap (λ y. cond y None (s x)) h.0)
-    ]
-
 -- ---- tallies
 
 in_range-at : (pit : Pit) (tally : Tallied) (b : ℕ) → IsTally pit tally → b < pit.blocks → IfSome (by_block tally.periods b) (λ t. t < pit.periods)

@@ -1,10 +1,10 @@
 -- What writes leave of a list that has an item for each block.
 use Rattle.std.proofs.Common.{◌≡◌, ◌≢◌, ℕ, zero, suc, ◌+◌, ◌<◌, cond, List, [], ◌∷◌, ◌++◌, length, length-append, length-set, take, get_or, Option, Some, None, refl, sym, ap, subst, ◌∙◌, arith, inl, inr}
-use Rattle.std.specs.Prelude.{unwrap_or, is_some, slice_set, replicate, All, AllPairs}
+use Rattle.std.specs.Prelude.{unwrap_or, is_some, slice_set, replicate, AllPairs}
 use Rattle.std.specs.List.{AllByRecursion}
 use Rattle.std.proofs.lemmas.List.{take_more, get_or-set_same, get_or-set_other, get_or-replicate}
 use Rattle.std.proofs.lemmas.List.Sums.{fold_push}
-use Rattle.std.proofs.lemmas.List.Elements.{recursion_from_All, All-set}
+use Rattle.std.proofs.lemmas.List.Elements.{recursion_from_All}
 use Rattle.std.proofs.lemmas.Bool.Decides.{eqb_tells}
 use Rattle.pit_model.specs.Pit.{Pit}
 use Rattle.pit_plan.specs.Schedule.{Commit, by_block, said, held, last}
@@ -70,12 +70,6 @@ placed-named value xs (w ∷ ws) b d p once below some =
       | inr there ↦
           placed-named value (slice_set xs w.0 (value w)) ws b d p once.1 (simp length-set below) (sym (ap (λ x. cond x (Some w.1) (said ws b)) there.0) ∙ some)
     ]
-
--- what is so of each item and of each value is so after the writes
-pub placed-all : {X : Type 0} (P : X → Type 0) (value : ℕ × Option ℕ → X) (xs : List X) (ws : Commit) → All P xs → AllByRecursion (λ w. P (value w)) ws → All P (placed value xs ws)
-unfolding placed
-placed-all P value xs [] each news = each
-placed-all P value xs (w ∷ ws) each news = placed-all P value (slice_set xs w.0 (value w)) ws (All-set P xs w.0 (value w) news.0 each) news.1
 
 -- the plan after the writes stands for what it stood for and then the writes
 pub placed-adds : (old : Standing) (writes : Commit) → length old.periods ≡ old.pit.blocks → length old.versions ≡ old.pit.blocks → Fits old.pit writes
