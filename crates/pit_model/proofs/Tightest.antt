@@ -1,11 +1,11 @@
 -- What is kept of several bounds is the tightest.
-use Rattle.std.proofs.Common.{◌≡◌, ◌≢◌, ℤ, ◌≤ℤ◌, ◌⊎◌, inl, inr, List, [], ◌∷◌, Option, Some, None, Bool, int_lt, true, false, cond, refl, sym, ◌∙◌, subst, arith}
+use Rattle.std.proofs.Common.{◌≡◌, ℤ, ◌≤ℤ◌, ◌⊎◌, inl, inr, List, [], ◌∷◌, Option, Some, None, Bool, int_lt, true, false, cond, refl, sym, ◌∙◌, subst, arith}
 use Rattle.std.specs.Int.{int_min, int_max}
 use Rattle.std.specs.List.{fold}
 use Rattle.std.proofs.lemmas.Int.{ints, clamps}
 use Rattle.std.proofs.Math.Logic.{⊎_elim}
 use Rattle.pit_model.specs.Pit.{tighter}
-use Rattle.pit_model.specs.Tightest.{IsGiven, IsTightest}
+use Rattle.pit_model.specs.Tightest.{IsTightest}
 
 -- how one of two bounds is picked
 pub record IsPick (IsInside : ℤ → ℤ → Type 0) (pick : ℤ → ℤ → ℤ) : Type 0 where
