@@ -16,7 +16,7 @@ use Rattle.pit_plan.proofs.Bounds.{zero-within, product-within}
 use Rattle.pit_plan.specs.Sums.{total}
 use Rattle.pit_plan.specs.Schedule.{by_block, coef_in, coef_of, share, load_of, earned_in, value_of, is_in}
 use Rattle.pit_plan.specs.Totals.{load_at, AreTotals, Tallied, IsTally, Moves, moved_by, with_block}
-use Rattle.pit_plan.proofs.Sums.{total-same, total-more}
+use Rattle.pit_plan.proofs.Sums.{total-same, total-more, total-nothing}
 use Rattle.pit_plan.proofs.Same.{same-load, same-value}
 
 -- ---- one block's period replaced
@@ -213,11 +213,6 @@ tally-set pit old b p loads worth is below in_range len totals = record {
   each_load = len ∙ is.each_load;
   totals = totals-set pit old.periods b p loads worth (omega (arith, below, is.each_period)) totals;
 }
-
-total-nothing : (n : ℕ) → total (λ b. pos 0) n ≡ pos 0
-unfolding total
-total-nothing zero = refl
-total-nothing (suc n) = cc (total-nothing n)
 
 -- no block has a period
 pub tally-none : (pit : Pit) → IsTally pit (record { periods = replicate pit.blocks None; loads = replicate (pit.periods * pit.resources) (pos 0); worth = pos 0 })

@@ -15,6 +15,12 @@ total-more f n = rw (add-one) refl
 pub total-kept : (f : ℕ → ℤ) (n : ℕ) (sum term more : ℤ) → sum ≡ total f n → term ≡ f n → more ≡ sum +ℤ term → more ≡ total f (n + 1)
 total-kept f n sum term more is one e = e ∙ (ap (λ z. z +ℤ term) is ∙ (ap (λ z. total f n +ℤ z) one ∙ sym (total-more f n)))
 
+-- a sum of nothing
+pub total-nothing : (n : ℕ) → total (λ b. pos 0) n ≡ pos 0
+unfolding total
+total-nothing zero = refl
+total-nothing (suc n) = cc (total-nothing n)
+
 -- sums of equal terms are equal
 pub total-same : (f g : ℕ → ℤ) (n : ℕ) → ((b : ℕ) → b < n → f b ≡ g b) → total f n ≡ total g n
 unfolding total

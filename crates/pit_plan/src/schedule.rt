@@ -1,9 +1,9 @@
 //! What a schedule, which is a period or none for each block, loads, earns and breaks.
-ghost use Rattle.std.specs.Prelude.{◌≡◌, ℕ, ◌<◌, ◌^◌, ◌++◌, true, length, IfNone, IfSome, IfOk, OnOk, All};
+ghost use Rattle.std.specs.Prelude.{◌≡◌, ◌<◌, ◌^◌, ◌++◌, true, length, IfNone, IfSome, IfOk, OnOk, All};
 ghost use Rattle.std.specs.List.Sorted.{IsStrictlyIncreasing};
 ghost use Rattle.pit_num.specs.Within.{IsWithin};
 ghost use Rattle.pit_model.specs.Pit.{upper_of, lower_of};
-ghost use Rattle.pit_plan.specs.Schedule.{by_block, coef_in as coefficient, share as share_of, load_of, value_of, earned_in, in_order};
+ghost use Rattle.pit_plan.specs.Schedule.{by_block, coef_in as coefficient, load_of, earned_in, in_order};
 ghost use Rattle.pit_plan.specs.Totals.{IsTally};
 ghost use Rattle.pit_plan.specs.Breaches.{IsFirstBreach, IsFirstOutOfOrder, IsOrdered};
 ghost use Rattle.pit_plan.specs.Shortfalls.{shortfalls_of, shorts_in, short_at};
@@ -89,7 +89,7 @@ fn keeps_order(later: Option<u32>, before: Option<u32>) -> bool
 }
 
 /// The least pair of a block and its predecessor that is out of order.
-pub(crate) fn first_out_of_order<A: Allocator + Copy + Drop>(
+fn first_out_of_order<A: Allocator + Copy + Drop>(
     pit: &Instance<A>,
     periods: &[Option<u32>],
 ) -> Option<(u32, u32)>

@@ -44,6 +44,7 @@ impl<A: Allocator + Copy + Drop> Tally<A> {
         })
     }
 
+    /// The same again, which takes the memory of both lists.
     pub(crate) fn copy(&self, alloc: A) -> Result<Tally<A>, NoMemory>
         ensures { IfOk result (λ tally. tally ≡ self.now) }
     {

@@ -3,7 +3,7 @@ ghost use Rattle.std.specs.Prelude.{◌≡◌, ℕ, ◌<◌, ◌^◌, length, If
 ghost use Rattle.pit_num.specs.Within.{IsWithin};
 ghost use Rattle.pit_plan.specs.Schedule.{by_block, share as share_of, load_of, value_of};
 
-use crate::schedule::{coef_in, earned, first_out_of_order};
+use crate::schedule::{coef_in, earned};
 use crate::{Breach, Short};
 use pit_model::Instance;
 use pit_num::NoMemory;
@@ -66,8 +66,10 @@ pub(crate) fn first_breach<A: Allocator + Copy + Drop>(
 ) -> Option<Breach>
     requires { length periods.now ≡ pit.now.blocks }
 {
-    if let Some((block, before)) = first_out_of_order(pit, periods) {
-        return Some(Breach::Precedence { block, before });
+    for b in 0..pit.blocks() {
+        if let Some(late) = first_late(pit, periods, b) {
+            return Some(late);
+        }
     }
     for t in 0..pit.periods() {
         if let Some(over) = first_over_in(pit, periods, t) {
@@ -75,6 +77,34 @@ pub(crate) fn first_breach<A: Allocator + Copy + Drop>(
         }
     }
     None
+}
+
+/// The least predecessor of the block that isn't mined, or is mined later.
+fn first_late<A: Allocator + Copy + Drop>(
+    pit: &Instance<A>,
+    periods: &[Option<u32>],
+    b: u32,
+) -> Option<Breach>
+    requires blocks { length periods.now ≡ pit.now.blocks }
+    requires known { b < pit.now.blocks }
+{
+    for a in 0..pit.blocks() {
+        if pit.preds(b).contains(&a) && is_late(periods[b as usize], periods[a as usize]) {
+            return Some(Breach::Precedence {
+                block: b,
+                before: a,
+            });
+        }
+    }
+    None
+}
+
+/// Whether a block is mined, and its predecessor is not, or later.
+fn is_late(block: Option<u32>, before: Option<u32>) -> bool {
+    let Some(t) = block else {
+        return false;
+    };
+    before.is_none_or(|s| t < s)
 }
 
 /// The least resource that is over its limit in the period.
