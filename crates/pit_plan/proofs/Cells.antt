@@ -1,14 +1,19 @@
 -- Cells of the loads.
-use Rattle.std.proofs.Common.{◌≡◌, ◌≢◌, ℕ, suc, ◌+◌, ◌*◌, ◌<◌, ℤ, pos, ◌+ℤ◌, List, length, get_or, length-set, sym, ap, subst, ◌∙◌, arith, inl, inr}
-use Rattle.std.specs.Prelude.{slice_set}
+use Rattle.std.proofs.Common.{◌≡◌, ◌≢◌, ℕ, suc, ◌+◌, ◌*◌, ◌<◌, Bool, true, false, ℤ, pos, ◌+ℤ◌, FitsSigned, List, length, take, get_or, Option, sym, ap, subst, ◌∙◌, arith, inl, inr}
+use Rattle.std.specs.Prelude.{nat_eq, slice_set, unwrap_or}
+use Rattle.std.specs.Int.{w128}
 use Rattle.std.proofs.Math.Nat.{mul-le-mul_right}
+use Rattle.std.proofs.lemmas.Int.{ints}
 use Rattle.std.proofs.lemmas.List.{get_or-set_same, get_or-set_other}
+use Rattle.std.proofs.lemmas.Bool.{cond-true, cond-false}
 use Rattle.std.proofs.lemmas.Bool.Decides.{leb_tells, eqb_tells}
-use Rattle.pit_model.specs.Pit.{Pit}
-use Rattle.pit_plan.specs.Totals.{load_at, MovesBelow}
+use Rattle.pit_model.specs.Pit.{Pit, coefs_of}
+use Rattle.pit_plan.specs.Schedule.{coef_in, coef_of}
+use Rattle.pit_plan.specs.Totals.{load_at, moved_by, Moves, MovesOne}
+use Rattle.pit_plan.proofs.Named.{Once, absent-before, lookup-at, over-more}
 
 -- another period or resource stands in another cell
-cells_apart : (n r q t u : ℕ) → r < n → q < n → t * n + r ≡ u * n + q → t ≡ u
+pub cells_apart : (n r q t u : ℕ) → r < n → q < n → t * n + r ≡ u * n + q → t ≡ u
 cells_apart n r q t u lr lq e =
     elim (leb_tells (suc t) u) [
       | inl below ↦ absurd (omega (arith, mul-le-mul_right n below.1, e))
@@ -19,6 +24,9 @@ cells_apart n r q t u lr lq e =
           ]
     ]
 
+pub same_resource : (n r q t u : ℕ) → t * n + r ≡ u * n + q → t ≡ u → q ≡ r
+same_resource n r q t u e same = omega (arith, subst (λ (k : ℕ). t * n + r ≡ k * n + q) (sym same) e)
+
 load_at-set_same : (pit : Pit) (loads : List ℤ) (r t : ℕ) (v : ℤ) → t * pit.resources + r < length loads → load_at pit (slice_set loads (t * pit.resources + r) v) r t ≡ v
 load_at-set_same pit loads r t v l = get_or-set_same loads (t * pit.resources + r) v (pos 0) l
 
@@ -26,21 +34,51 @@ load_at-set_other : (pit : Pit) (loads : List ℤ) (r t q u : ℕ) (v : ℤ) →
     → load_at pit (slice_set loads (t * pit.resources + r) v) q u ≡ load_at pit loads q u
 load_at-set_other pit loads r t q u v apart = get_or-set_other loads (t * pit.resources + r) (u * pit.resources + q) v (pos 0) (λ e. apart (sym e))
 
--- one more resource
-pub moves-more : (pit : Pit) (old : List ℤ) (t : ℕ) (by : ℕ → ℤ) (n : ℕ) (now new : List ℤ) → MovesBelow pit old t by n now → n < pit.resources → t * pit.resources + n < length now
-    → new ≡ slice_set now (t * pit.resources + n) (load_at pit now n t +ℤ by n) → MovesBelow pit old t by (n + 1) new
-moves-more pit old t by n now new inv l within is =
-    rw (is)
-    (record {
-      len = length-set now (t * pit.resources + n) (load_at pit now n t +ℤ by n) ∙ inv.len;
-      done = λ r below. elim (eqb_tells n r) [
-        | inl here ↦ subst (λ q. load_at pit (slice_set now (t * pit.resources + n) (load_at pit now n t +ℤ by n)) q t ≡ load_at pit old q t +ℤ by q) here.1
-            (load_at-set_same pit now n t (load_at pit now n t +ℤ by n) within ∙ ap (λ x. x +ℤ by n) (inv.rest n (omega arith) l))
-        | inr there ↦ load_at-set_other pit now n t r t (load_at pit now n t +ℤ by n) (λ e. there.1 (omega (arith, e))) ∙ inv.done r (omega (arith, there.1, below))
+-- one cell is set
+pub one-set : (pit : Pit) (loads : List ℤ) (r t : ℕ) (by : ℤ) → r < pit.resources → t * pit.resources + r < length loads
+    → MovesOne pit.resources (load_at pit loads) r t by (load_at pit (slice_set loads (t * pit.resources + r) (load_at pit loads r t +ℤ by)))
+one-set pit loads r t by lr within = record {
+  moved = load_at-set_same pit loads r t (load_at pit loads r t +ℤ by) within;
+  others = λ q u lq apart. load_at-set_other pit loads r t q u (load_at pit loads r t +ℤ by)
+      (λ e. let same = cells_apart pit.resources r q t u lr lq e in apart (same_resource pit.resources r q t u e same, sym same));
+}
+-- the first pairs of a row say nothing of the next one's resource
+pub none-before : (row : List (ℕ × ℤ)) (k : ℕ) (d : ℕ × ℤ) → Once row → k < length row → coef_in (take k row) (get_or row k d).0 ≡ pos 0
+none-before row k d once within = ap (λ (x : Option ℤ). unwrap_or x (pos 0)) (absent-before row k d once within)
+
+nothing : (up : Bool) (x : ℤ) → x +ℤ moved_by up (pos 0) ≡ x
+nothing up x = elim up as (λ (b : Bool). x +ℤ moved_by b (pos 0) ≡ x) [ true ↦ omega (arith, ints) | false ↦ omega (arith, ints) ]
+
+-- one more pair of the row
+pub moves-more : (pit : Pit) (old : ℕ → ℕ → ℤ) (t : ℕ) (up : Bool) (row : List (ℕ × ℤ)) (k : ℕ) (d : ℕ × ℤ) (now new : ℕ → ℕ → ℤ) → Once row → k < length row → (get_or row k d).0 < pit.resources
+    → Moves pit old t (λ r. moved_by up (coef_in (take k row) r)) now → MovesOne pit.resources now (get_or row k d).0 t (moved_by up (get_or row k d).1) new
+    → Moves pit old t (λ r. moved_by up (coef_in (take (k + 1) row) r)) new
+moves-more pit old t up row k d now new once within lr moves one = record {
+  moved = λ r lq.
+      let more = over-more (λ _. pos 0) row k r d once within in
+      elim (eqb_tells r (get_or row k d).0) [
+        | inl here ↦
+            let before = none-before row k d once within in
+            let coef = more ∙ cond-true (nat_eq r (get_or row k d).0) (get_or row k d).1 (coef_in (take k row) r) here.0 in
+            let now_is = moves.moved (get_or row k d).0 lr in
+            rw (coef, here.1) (one.moved ∙ ap (λ (x : ℤ). x +ℤ moved_by up (get_or row k d).1) (now_is ∙ (ap (λ (x : ℤ). old (get_or row k d).0 t +ℤ moved_by up x) before ∙ nothing up (old (get_or row k d).0 t))))
+        | inr there ↦
+            let coef = more ∙ cond-false (nat_eq r (get_or row k d).0) (get_or row k d).1 (coef_in (take k row) r) there.0 in
+            rw (coef) (one.others r t lq (λ e. there.1 e.0) ∙ moves.moved r lq)
       ];
-      rest = λ r above lr. load_at-set_other pit now n t r t (load_at pit now n t +ℤ by n) (λ e. omega (arith, e, above)) ∙ inv.rest r (omega (arith, above)) lr;
-      others = λ r u lr n_t. load_at-set_other pit now n t r u (load_at pit now n t +ℤ by n) (λ e. n_t (sym (cells_apart pit.resources n r t u l lr e))) ∙ inv.others r u lr n_t;
-    })
+  others = λ r u lq apart. one.others r u lq (λ e. apart e.1) ∙ moves.others r u lq apart;
+}
+
+-- so there is room for it where there is room for the whole row
+pub room-more : (pit : Pit) (old now : ℕ → ℕ → ℤ) (b t : ℕ) (up : Bool) (k : ℕ) (d : ℕ × ℤ) → Once (coefs_of pit b) → k < length (coefs_of pit b) → (get_or (coefs_of pit b) k d).0 < pit.resources
+    → ((r : ℕ) → r < pit.resources → FitsSigned w128 (old r t +ℤ moved_by up (coef_of pit b r))) → Moves pit old t (λ r. moved_by up (coef_in (take k (coefs_of pit b)) r)) now
+    → FitsSigned w128 (now (get_or (coefs_of pit b) k d).0 t +ℤ moved_by up (get_or (coefs_of pit b) k d).1)
+room-more pit old now b t up k d once within lr room moves =
+    let row = coefs_of pit b in
+    let r = (get_or (coefs_of pit b) k d).0 in
+    let whole : coef_of pit b r ≡ (get_or row k d).1 = ap (λ (x : Option ℤ). unwrap_or x (pos 0)) (lookup-at row k d once within) in
+    let now_is : now r t ≡ old r t = moves.moved r lr ∙ (ap (λ (x : ℤ). old r t +ℤ moved_by up x) (none-before row k d once within) ∙ nothing up (old r t)) in
+    subst (λ (x : ℤ). FitsSigned w128 (x +ℤ moved_by up (get_or row k d).1)) (sym now_is) (subst (λ (x : ℤ). FitsSigned w128 (old r t +ℤ moved_by up x)) whole (room r lr))
 
 pub cell-is : (now new : List ℤ) (at place : ℕ) (coef by : ℤ) → at ≡ place → coef ≡ by → new ≡ slice_set now at (get_or now at (pos 0) +ℤ coef) → new ≡ slice_set now place (get_or now place (pos 0) +ℤ by)
 cell-is now new at place coef by same is set =

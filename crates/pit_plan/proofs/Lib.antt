@@ -1,11 +1,15 @@
 pub mod Sums
 pub mod Bounds
 pub mod Preds
+pub mod Succs
 pub mod Commits
 pub mod Slots
+pub mod Named
 pub mod Cells
 pub mod Moved
 pub mod Shorts
 pub mod Same
 pub mod OneBreach
+pub mod Least
+pub mod Touched
 pub mod SomeBreach

@@ -1,5 +1,5 @@
 -- Totals after a block moves.
-use Rattle.std.proofs.Common.{◌≡◌, ◌≢◌, ℕ, zero, suc, ◌+◌, ◌*◌, ◌^◌, ◌<◌, ℤ, pos, neg_ℤ, ◌+ℤ◌, ◌-ℤ◌, FitsSigned, true, false, cond, List, [], ◌∷◌, length, length-set, Option, Some, None, refl, sym, ap, subst, ◌∙◌, arith, inl, inr}
+use Rattle.std.proofs.Common.{◌≡◌, ◌≢◌, ℕ, zero, suc, ◌+◌, ◌*◌, ◌^◌, ◌<◌, ℤ, pos, neg_ℤ, ◌+ℤ◌, ◌-ℤ◌, FitsSigned, Bool, true, false, cond, List, [], ◌∷◌, length, length-set, Option, Some, None, refl, sym, ap, subst, ◌∙◌, arith, inl, inr}
 use Rattle.std.specs.Prelude.{nat_eq, slice_set, unwrap_or, replicate, IfSome}
 use Rattle.std.specs.Map.{lookup}
 use Rattle.std.specs.List.{AllByRecursion}
@@ -15,19 +15,14 @@ use Rattle.pit_num.proofs.Factors.{factor_le}
 use Rattle.pit_plan.proofs.Bounds.{zero-within, product-within}
 use Rattle.pit_plan.specs.Sums.{total}
 use Rattle.pit_plan.specs.Schedule.{by_block, coef_in, coef_of, share, load_of, earned_in, value_of, is_in}
-use Rattle.pit_plan.specs.Totals.{load_at, AreTotals, Tallied, IsTally, Moves, moved_by, with_block}
+use Rattle.pit_plan.specs.Totals.{load_at, AreLoads, AreTotals, Tallied, IsTally, Moves, MovesIn, moved_by, with_block}
+use Rattle.pit_plan.proofs.Named.{same-eq, other-eq}
 use Rattle.pit_plan.proofs.Sums.{total-same, total-more, total-nothing}
 use Rattle.pit_plan.proofs.Same.{same-load, same-value}
 
 -- ---- one block's period replaced
 
-same-eq : (x b : ℕ) → x ≡ b → nat_eq x b ≡ true
-same-eq x b e = elim (eqb_tells x b) [ inl h ↦ h.0 | inr h ↦ absurd (h.1 e) ]
-
-other-eq : (x b : ℕ) → x ≢ b → nat_eq x b ≡ false
-other-eq x b n = elim (eqb_tells x b) [ inl h ↦ absurd (n h.1) | inr h ↦ h.0 ]
-
-with_block-here : (s : ℕ → Option ℕ) (b : ℕ) (p : Option ℕ) → with_block s b p b ≡ p
+pub with_block-here : (s : ℕ → Option ℕ) (b : ℕ) (p : Option ℕ) → with_block s b p b ≡ p
 with_block-here s b p = ap (λ x. cond x p (s b)) (same-eq b b refl)
 
 with_block-other : (s : ℕ → Option ℕ) (b : ℕ) (p : Option ℕ) (x : ℕ) → x ≢ b → with_block s b p x ≡ s x
@@ -128,32 +123,52 @@ value-with pit s b p q below is =
 is_in-same : (t : ℕ) → is_in (Some t) t ≡ true
 is_in-same t = same-eq t t refl
 
--- out of its period
-pub taken : (pit : Pit) (s : ℕ → Option ℕ) (b t : ℕ) (old new : List ℤ) (sum less : ℤ) → b < pit.blocks → s b ≡ Some t → AreTotals pit s old sum
-    → Moves pit old t (λ r. moved_by false (coef_of pit b r)) new → less ≡ sum -ℤ earned_in pit b (Some t) → AreTotals pit (with_block s b None) new less
-taken pit s b t old new sum less below is are moves after = record {
-  each = λ r u lr lu.
-      let changed = load-with pit s b None (Some t) r u below is in
-      let kept = are.each r u lr lu in
-      elim (eqb_tells t u) [
-        | inl here ↦
-            let share = ap (λ x. cond x (coef_of pit b r) (pos 0)) here.0 in
-            let moved = subst (λ v. load_at pit new r v ≡ load_at pit old r v +ℤ neg_ℤ (coef_of pit b r)) here.1 (moves.moved r lr) in
-            omega (arith, ints, changed, share, kept, moved)
-        | inr there ↦
-            let share = ap (λ x. cond x (coef_of pit b r) (pos 0)) there.0 in
-            let moved = moves.others r u lr (λ e. there.1 (sym e)) in
-            omega (arith, ints, changed, share, kept, moved)
-      ];
-  value = let changed = value-with pit s b None (Some t) below is in omega (arith, ints, changed, are.value, after);
-}
+moved-in : (pit : Pit) (old new : ℕ → ℕ → ℤ) (p : Option ℕ) (by : ℕ → ℤ) (r t : ℕ) → r < pit.resources → MovesIn pit old p by new → new r t ≡ old r t +ℤ cond (is_in p t) (by r) (pos 0)
+moved-in pit old new None by r t lr moves = omega (arith, ints, moves r t lr)
+moved-in pit old new (Some u) by r t lr moves =
+    elim (eqb_tells u t) [
+      | inl here ↦
+          let moved = subst (λ (v : ℕ). new r v ≡ old r v +ℤ by r) here.1 (moves.moved r lr) in
+          let one = ap (λ x. cond x (by r) (pos 0)) here.0 in
+          omega (arith, ints, moved, one)
+      | inr there ↦
+          let kept = moves.others r t lr (λ e. there.1 (sym e)) in
+          let none = ap (λ x. cond x (by r) (pos 0)) there.0 in
+          omega (arith, ints, kept, none)
+    ]
 
-pub room-out : (pit : Pit) (s : ℕ → Option ℕ) (b t r : ℕ) (load : ℤ) → IsSound pit → b < pit.blocks → s b ≡ Some t → load ≡ load_of pit s r t → FitsSigned w128 (load +ℤ moved_by false (coef_of pit b r))
-room-out pit s b t r load sound below is kept =
+-- into a period, or out of it
+pub shifted : (pit : Pit) (s : ℕ → Option ℕ) (b : ℕ) (p : Option ℕ) (up : Bool) (old new : ℕ → ℕ → ℤ) → b < pit.blocks → s b ≡ cond up None p → AreLoads pit s old
+    → MovesIn pit old p (λ r. moved_by up (coef_of pit b r)) new → AreLoads pit (with_block s b (cond up p None)) new
+shifted pit s b p true old new below is are moves = λ r t lr lt.
+    let changed = load-with pit s b p None r t below is in
+    let moved = moved-in pit old new p (λ q. coef_of pit b q) r t lr moves in
+    omega (arith, ints, changed, are r t lr lt, moved)
+shifted pit s b p false old new below is are moves = λ r t lr lt.
+    let changed = load-with pit s b None p r t below is in
+    let moved = moved-in pit old new p (λ q. neg_ℤ (coef_of pit b q)) r t lr moves in
+    let opposite = elim (is_in p t) as (λ x. cond x (neg_ℤ (coef_of pit b r)) (pos 0) +ℤ cond x (coef_of pit b r) (pos 0) ≡ pos 0) [ true ↦ omega (arith, ints) | false ↦ omega (arith, ints) ] in
+    omega (arith, ints, changed, are r t lr lt, moved, opposite)
+
+pub room : (pit : Pit) (s : ℕ → Option ℕ) (b t r : ℕ) (up : Bool) (load : ℤ) → IsSound pit → b < pit.blocks → s b ≡ cond up None (Some t) → load ≡ load_of pit s r t
+    → FitsSigned w128 (load +ℤ moved_by up (coef_of pit b r))
+room pit s b t r true load sound below is kept =
+    let changed = load-with pit s b (Some t) None r t below is in
+    let share = ap (λ x. cond x (coef_of pit b r) (pos 0)) (is_in-same t) in
+    let small = load-within pit (with_block s b (Some t)) r t sound in
+    omega (arith, ints, changed, share, kept, small.low, small.high, sound.few_blocks)
+room pit s b t r false load sound below is kept =
     let changed = load-with pit s b None (Some t) r t below is in
     let share = ap (λ x. cond x (coef_of pit b r) (pos 0)) (is_in-same t) in
     let small = load-within pit (with_block s b None) r t sound in
     omega (arith, ints, changed, share, kept, small.low, small.high, sound.few_blocks)
+
+pub taken : (pit : Pit) (s : ℕ → Option ℕ) (b t : ℕ) (old new : List ℤ) (sum less : ℤ) → b < pit.blocks → s b ≡ Some t → AreTotals pit s old sum
+    → Moves pit (load_at pit old) t (λ r. moved_by false (coef_of pit b r)) (load_at pit new) → less ≡ sum -ℤ earned_in pit b (Some t) → AreTotals pit (with_block s b None) new less
+taken pit s b t old new sum less below is are moves after = record {
+  each = shifted pit s b (Some t) false (load_at pit old) (load_at pit new) below is are.each moves;
+  value = let changed = value-with pit s b None (Some t) below is in omega (arith, ints, changed, are.value, after);
+}
 
 pub sum-out : (pit : Pit) (s : ℕ → Option ℕ) (b t : ℕ) (sum : ℤ) → IsSound pit → b < pit.blocks → s b ≡ Some t → sum ≡ value_of pit s → FitsSigned w128 (sum -ℤ earned_in pit b (Some t))
 sum-out pit s b t sum sound below is kept =
@@ -161,32 +176,12 @@ sum-out pit s b t sum sound below is kept =
     let small = value-within pit (with_block s b None) sound in
     omega (arith, ints, changed, kept, small.low, small.high, sound.few_blocks)
 
--- into a period
 pub put : (pit : Pit) (s : ℕ → Option ℕ) (b t : ℕ) (old new : List ℤ) (sum more : ℤ) → b < pit.blocks → s b ≡ None → AreTotals pit s old sum
-    → Moves pit old t (λ r. moved_by true (coef_of pit b r)) new → more ≡ sum +ℤ earned_in pit b (Some t) → AreTotals pit (with_block s b (Some t)) new more
+    → Moves pit (load_at pit old) t (λ r. moved_by true (coef_of pit b r)) (load_at pit new) → more ≡ sum +ℤ earned_in pit b (Some t) → AreTotals pit (with_block s b (Some t)) new more
 put pit s b t old new sum more below is are moves after = record {
-  each = λ r u lr lu.
-      let changed = load-with pit s b (Some t) None r u below is in
-      let kept = are.each r u lr lu in
-      elim (eqb_tells t u) [
-        | inl here ↦
-            let share = ap (λ x. cond x (coef_of pit b r) (pos 0)) here.0 in
-            let moved = subst (λ v. load_at pit new r v ≡ load_at pit old r v +ℤ coef_of pit b r) here.1 (moves.moved r lr) in
-            omega (arith, ints, changed, share, kept, moved)
-        | inr there ↦
-            let share = ap (λ x. cond x (coef_of pit b r) (pos 0)) there.0 in
-            let moved = moves.others r u lr (λ e. there.1 (sym e)) in
-            omega (arith, ints, changed, share, kept, moved)
-      ];
+  each = shifted pit s b (Some t) true (load_at pit old) (load_at pit new) below is are.each moves;
   value = let changed = value-with pit s b (Some t) None below is in omega (arith, ints, changed, are.value, after);
 }
-
-pub room-in : (pit : Pit) (s : ℕ → Option ℕ) (b t r : ℕ) (load : ℤ) → IsSound pit → b < pit.blocks → s b ≡ None → load ≡ load_of pit s r t → FitsSigned w128 (load +ℤ moved_by true (coef_of pit b r))
-room-in pit s b t r load sound below is kept =
-    let changed = load-with pit s b (Some t) None r t below is in
-    let share = ap (λ x. cond x (coef_of pit b r) (pos 0)) (is_in-same t) in
-    let small = load-within pit (with_block s b (Some t)) r t sound in
-    omega (arith, ints, changed, share, kept, small.low, small.high, sound.few_blocks)
 
 pub sum-in : (pit : Pit) (s : ℕ → Option ℕ) (b t : ℕ) (sum : ℤ) → IsSound pit → b < pit.blocks → s b ≡ None → sum ≡ value_of pit s → FitsSigned w128 (sum +ℤ earned_in pit b (Some t))
 sum-in pit s b t sum sound below is kept =

@@ -1,16 +1,28 @@
 -- Predecessors, which are rising lists.
-use Rattle.std.proofs.Common.{◌≡◌, ℕ, ◌<◌, ◌≤◌, true, false, List, [], length, get_or, Option, None, sym, ap, subst, ◌∙◌, arith, inl, inr, All}
+use Rattle.std.proofs.Common.{◌≡◌, ℕ, ◌<◌, ◌≤◌, Bool, true, false, List, [], length, get_or, Option, None, sym, ap, subst, ◌∙◌, arith, inl, inr, All}
 use Rattle.std.specs.List.Sorted.{IsStrictlyIncreasing}
 use Rattle.std.proofs.lemmas.Grind.{get_or_default_zero}
 use Rattle.std.proofs.lemmas.Bool.{cases_order}
 use Rattle.std.proofs.lemmas.List.Kept.{AllPairs-from_increasing}
 use Rattle.std.proofs.lemmas.Bool.Decides.{leb_tells}
-use Rattle.std.specs.Prelude.{unwrap_or}
+use Rattle.std.specs.Prelude.{unwrap_or, Contains}
 use Rattle.std.proofs.lemmas.List.{get_or_past}
 use Rattle.std.proofs.lemmas.List.Elements.{Contains-get_or, All-from_get_or, All-contains}
 use Rattle.pit_model.specs.Pit.{Pit, IsSound, preds_of}
 use Rattle.pit_plan.specs.Schedule.{in_order, IsPred}
 use Rattle.pit_plan.specs.InsideSchedule.{IsFirstLate}
+
+-- in a rising list what holds at each place before one holds of each lesser number
+pub before-place : (test : ℕ → Bool) (xs : List ℕ) (j x : ℕ) → IsStrictlyIncreasing xs → j < length xs → ((k : ℕ) → k < j → test (get_or xs k 0) ≡ true)
+    → Contains xs x → x < get_or xs j 0 → test x ≡ true
+before-place test xs j x up within before has less =
+    let at : get_or xs has.0 0 ≡ x = sym (get_or_default_zero xs has.0 x has.1) ∙ has.2 in
+    let below : has.0 < j =
+    elim (cases_order has.0 j) [
+      | inl here ↦ absurd (omega (arith, at, less, ap (λ k. get_or xs k 0) here))
+      | inr apart ↦ elim apart [ inl under ↦ under | inr above ↦ absurd (omega (arith, at, less, AllPairs-from_increasing xs up j has.0 0 above has.1)) ]
+    ] in
+    subst (λ y. test y ≡ true) at (before has.0 below)
 
 -- the first that fails, in a rising list, is the least that fails
 pub first_is_least : (schedule : ℕ → Option ℕ) (later : Option ℕ) (xs : List ℕ) (j : ℕ) → IsStrictlyIncreasing xs → j < length xs
@@ -21,14 +33,7 @@ first_is_least schedule later xs j up within before fails =
     record {
       pred = Contains-get_or xs j 0 within;
       fails = fails;
-      first = λ x has less.
-          let at : get_or xs has.0 0 ≡ x = sym (get_or_default_zero xs has.0 x has.1) ∙ has.2 in
-          let below : has.0 < j =
-          elim (cases_order has.0 j) [
-            | inl here ↦ absurd (omega (arith, at, ap (λ k. get_or xs k 0) here))
-            | inr apart ↦ elim apart [ inl under ↦ under | inr above ↦ absurd (omega (arith, at, AllPairs-from_increasing xs up j has.0 0 above has.1)) ]
-          ] in
-          subst (λ y. in_order later (schedule y) ≡ true) at (before has.0 below);
+      first = λ x has less. before-place (λ y. in_order later (schedule y)) xs j x up within before has less;
     }
 
 -- what holds below the place where the list ends holds of each

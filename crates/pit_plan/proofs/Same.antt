@@ -1,12 +1,12 @@
 -- Schedules that agree on all blocks are alike.
-use Rattle.std.proofs.Common.{◌≡◌, ℕ, ◌<◌, cond, ℤ, pos, List, [], ◌∷◌, ◌++◌, Option, Some, None, sym, ap, subst, ◌∙◌, arith, length}
+use Rattle.std.proofs.Common.{◌≡◌, ℕ, ◌<◌, cond, ℤ, pos, List, [], ◌∷◌, ◌++◌, Option, Some, None, sym, ap, subst, ◌∙◌}
 use Rattle.std.specs.Prelude.{unwrap_or}
 use Rattle.pit_model.specs.Pit.{Pit, IsSound, upper_of, lower_of}
 use Rattle.pit_plan.proofs.Sums.{total-same}
 use Rattle.pit_plan.specs.Schedule.{Commit, IsPred, by_block, coef_of, said, held, is_in, share, load_of, value_of, earned_in, in_order, is_within}
-use Rattle.pit_plan.specs.Standing.{Standing, StandsFor, Fits}
-use Rattle.pit_plan.specs.InsidePlan.{placed}
-use Rattle.pit_plan.specs.Breaches.{IsFirstBreach, IsOrdered, IsBreachOf}
+use Rattle.pit_plan.specs.Standing.{Standing, StandsFor}
+use Rattle.pit_plan.specs.Breaches.{IsFirstBreach, IsOrdered, IsBreachOf, IsGood, IsGoodNow}
+use Rattle.pit_plan.specs.Touched.{over}
 use Rattle.pit_plan.specs.Shortfalls.{short_at, shorts_in, shortfalls_of}
 use Rattle.std.specs.List.{range_with_len}
 use Rattle.pit_plan.specs.declared.short.Short.{Short}
@@ -15,7 +15,6 @@ use Rattle.pit_plan.specs.declared.breach.Breach.TheVariants.{Precedence, Over}
 use Rattle.pit_plan.proofs.Preds.{pred-known}
 use Rattle.pit_plan.proofs.Shorts.{flat_map-same}
 use Rattle.pit_plan.proofs.Commits.{held-push}
-use Rattle.pit_plan.proofs.Slots.{placed-period}
 
 abbrev pub Agree : Pit → (ℕ → Option ℕ) → (ℕ → Option ℕ) → Type 0
 Agree pit s u = (b : ℕ) → b < pit.blocks → s b ≡ u b
@@ -78,14 +77,15 @@ breach-of inside plan periods x is same sound first commits =
     subst (λ (p : Standing). StandsFor p commits → IsBreachOf p.pit commits x) is
     (λ st. same-breach inside.pit (by_block inside.periods) (held commits) (upper_of inside.pit) x sound st.period (subst (λ (ps : List (Option ℕ)). IsFirstBreach inside.pit (by_block ps) (upper_of inside.pit) x) same first))
 
-pub breach-after : (inside plan : Standing) (periods : List (Option ℕ)) (w : Commit) (x : Option Breach) → inside ≡ plan → periods ≡ placed (λ v. v.1) inside.periods w
-    → IsSound inside.pit → length inside.periods ≡ inside.pit.blocks → Fits plan.pit w
-    → IsFirstBreach inside.pit (by_block periods) (upper_of inside.pit) x → (commits : List Commit) → StandsFor plan commits → IsBreachOf plan.pit (commits ++ w ∷ []) x
-breach-after inside plan periods w x is same sound each fits first commits =
-    subst (λ (p : Standing). StandsFor p commits → IsBreachOf p.pit (commits ++ w ∷ []) x) is
-    (λ st. same-breach inside.pit (by_block (placed (λ v. v.1) inside.periods w)) (held (commits ++ w ∷ [])) (upper_of inside.pit) x sound
-    (λ b below. placed-period inside.periods w b fits.once (omega (arith, below, each)) ∙ (ap (unwrap_or (said w b)) (st.period b below) ∙ sym (held-push commits w b)))
-    (subst (λ (ps : List (Option ℕ)). IsFirstBreach inside.pit (by_block ps) (upper_of inside.pit) x) same first))
+-- and what is found of these with writes laid over them, where they are good, is found of what its commits and the writes leave
+pub breach-after : (inside plan : Standing) (w : Commit) (x : Option Breach) → inside ≡ plan → IsSound inside.pit
+    → (IsGood inside.pit (by_block inside.periods) (upper_of inside.pit) → IsFirstBreach inside.pit (over (by_block inside.periods) w) (upper_of inside.pit) x)
+    → IsGoodNow plan → (commits : List Commit) → StandsFor plan commits → IsBreachOf plan.pit (commits ++ w ∷ []) x
+breach-after inside plan w x is sound first good commits =
+    subst (λ (p : Standing). IsGoodNow p → StandsFor p commits → IsBreachOf p.pit (commits ++ w ∷ []) x) is
+    (λ now st. same-breach inside.pit (over (by_block inside.periods) w) (held (commits ++ w ∷ [])) (upper_of inside.pit) x sound
+    (λ b below. ap (unwrap_or (said w b)) (st.period b below) ∙ sym (held-push commits w b))
+    (first (same-breach inside.pit (held commits) (by_block inside.periods) (upper_of inside.pit) None sound (λ b below. sym (st.period b below)) (now commits st)))) good
 
 pub load-of : (inside plan : Standing) (periods : List (Option ℕ)) (r t : ℕ) (load : ℤ) → inside ≡ plan → periods ≡ inside.periods → load ≡ load_of inside.pit (by_block periods) r t
     → (commits : List Commit) → StandsFor plan commits → load ≡ load_of plan.pit (held commits) r t

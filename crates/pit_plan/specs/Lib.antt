@@ -4,5 +4,6 @@ pub mod Standing
 pub mod Breaches
 pub mod Shortfalls
 pub mod Totals
+pub mod Touched
 pub mod InsidePlan
 pub mod InsideSchedule

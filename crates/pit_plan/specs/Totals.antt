@@ -1,5 +1,5 @@
 -- The loads and the value that a plan keeps.
-use Rattle.std.specs.Prelude.{◌≡◌, ◌≢◌, ℕ, ◌+◌, ◌*◌, ◌<◌, ◌≤◌, ℤ, pos, neg_ℤ, ◌+ℤ◌, Bool, nat_eq, List, length, Option, slice_index_or, if◌then◌else◌, All, IfSome}
+use Rattle.std.specs.Prelude.{◌≡◌, ◌≢◌, ℕ, ◌+◌, ◌*◌, ◌<◌, ℤ, pos, neg_ℤ, ◌+ℤ◌, Bool, nat_eq, List, length, Option, Some, None, slice_index_or, if◌then◌else◌, All, IfSome}
 use Rattle.pit_model.specs.Pit.{Pit}
 use Rattle.pit_plan.specs.Schedule.{by_block, load_of, value_of}
 
@@ -7,9 +7,13 @@ use Rattle.pit_plan.specs.Schedule.{by_block, load_of, value_of}
 abbrev pub load_at : Pit → List ℤ → ℕ → ℕ → ℤ
 load_at pit loads r t = slice_index_or loads (t * pit.resources + r) (pos 0)
 
+-- the loads, by resource and period, are those of the schedule
+abbrev pub AreLoads : Pit → (ℕ → Option ℕ) → (ℕ → ℕ → ℤ) → Type 0
+AreLoads pit schedule loads = (r t : ℕ) → r < pit.resources → t < pit.periods → loads r t ≡ load_of pit schedule r t
+
 -- what is kept is that of the schedule
 pub record AreTotals (pit : Pit) (schedule : ℕ → Option ℕ) (loads : List ℤ) (sum : ℤ) : Type 0 where
-  pub each : (r t : ℕ) → r < pit.resources → t < pit.periods → load_at pit loads r t ≡ load_of pit schedule r t
+  pub each : AreLoads pit schedule (load_at pit loads)
   pub value : sum ≡ value_of pit schedule
 
 -- a schedule with its loads and its value
@@ -29,18 +33,20 @@ pub record IsTally (pit : Pit) (tally : Tallied) : Type 0 where
 abbrev pub moved_by : Bool → ℤ → ℤ
 moved_by up coef = if up then coef else neg_ℤ coef
 
--- the loads of one period are moved by what `by` says of each resource, and nothing else is
-pub record Moves (pit : Pit) (old : List ℤ) (t : ℕ) (by : ℕ → ℤ) (new : List ℤ) : Type 0 where
-  pub len : length new ≡ length old
-  pub moved : (r : ℕ) → r < pit.resources → load_at pit new r t ≡ load_at pit old r t +ℤ by r
-  pub others : (r u : ℕ) → r < pit.resources → u ≢ t → load_at pit new r u ≡ load_at pit old r u
+-- the loads of one period are moved by what `by` says of each resource, and no other is
+pub record Moves (pit : Pit) (old : ℕ → ℕ → ℤ) (t : ℕ) (by : ℕ → ℤ) (new : ℕ → ℕ → ℤ) : Type 0 where
+  pub moved : (r : ℕ) → r < pit.resources → new r t ≡ old r t +ℤ by r
+  pub others : (r u : ℕ) → r < pit.resources → u ≢ t → new r u ≡ old r u
 
--- the loads of the first n resources were moved so far
-pub record MovesBelow (pit : Pit) (old : List ℤ) (t : ℕ) (by : ℕ → ℤ) (n : ℕ) (new : List ℤ) : Type 0 where
-  pub len : length new ≡ length old
-  pub done : (r : ℕ) → r < n → load_at pit new r t ≡ load_at pit old r t +ℤ by r
-  pub rest : (r : ℕ) → n ≤ r → r < pit.resources → load_at pit new r t ≡ load_at pit old r t
-  pub others : (r u : ℕ) → r < pit.resources → u ≢ t → load_at pit new r u ≡ load_at pit old r u
+-- the same where there is a period, and else none is moved
+abbrev pub MovesIn : Pit → (ℕ → ℕ → ℤ) → Option ℕ → (ℕ → ℤ) → (ℕ → ℕ → ℤ) → Type 0
+MovesIn pit old None by new = (r t : ℕ) → r < pit.resources → new r t ≡ old r t
+MovesIn pit old (Some t) by new = Moves pit old t by new
+
+-- one load is moved, and no other is
+pub record MovesOne (resources : ℕ) (old : ℕ → ℕ → ℤ) (r t : ℕ) (by : ℤ) (new : ℕ → ℕ → ℤ) : Type 0 where
+  pub moved : new r t ≡ old r t +ℤ by
+  pub others : (q u : ℕ) → q < resources → ((q ≡ r) × (u ≡ t) → ⊥) → new q u ≡ old q u
 
 -- the schedule with one block's period replaced
 abbrev pub with_block : (ℕ → Option ℕ) → ℕ → Option ℕ → ℕ → Option ℕ

@@ -6,6 +6,7 @@
 #![tactic(auto)]
 
 mod breach;
+mod judging;
 mod laws;
 mod plan;
 mod schedule;

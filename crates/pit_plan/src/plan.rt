@@ -7,6 +7,7 @@ ghost use Rattle.pit_plan.specs.Breaches.{IsBreachOf, IsGoodNow};
 ghost use Rattle.pit_plan.specs.Shortfalls.{shortfalls_of};
 
 use crate::breach::Breach;
+use crate::judging::first_breach_after;
 use crate::schedule;
 use crate::short::Short;
 use crate::tally::Tally;
@@ -120,16 +121,15 @@ impl<A: Allocator + Copy + Drop> Plan<A> {
         schedule::first_breach(&self.pit, &self.tally)
     }
 
-    /// The first breach that the plan would have after the writes. Takes the memory of a period for each block and of the loads.
+    /// The first breach that the plan would have after the writes. Takes the memory of the writes and of the
+    /// loads that they move.
     pub fn judge(&self, writes: &[(u32, Option<u32>)]) -> Result<Option<Breach>, NoMemory>
         requires fits { Fits self.now.pit writes.now }
         requires good { IsGoodNow self.now }
         ensures { IfOk result (λ breach. (commits : List Commit) → StandsFor self.now commits
             → IsBreachOf self.now.pit (commits ++ writes.now ∷ []) breach) }
     {
-        let mut tally = self.tally.copy(*self.versions.allocator())?;
-        tally.write(&self.pit, writes);
-        Ok(schedule::first_breach(&self.pit, &tally))
+        first_breach_after(*self.versions.allocator(), &self.pit, &self.tally, writes)
     }
 
     /// Adds the writes as one more commit. Takes no memory, and is never refused.

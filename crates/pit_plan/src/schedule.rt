@@ -1,9 +1,9 @@
 //! What a schedule, which is a period or none for each block, loads, earns and breaks.
-ghost use Rattle.std.specs.Prelude.{◌≡◌, ◌<◌, ◌^◌, ◌++◌, true, length, IfNone, IfSome, IfOk, OnOk, All};
+ghost use Rattle.std.specs.Prelude.{◌≡◌, ℕ, ◌<◌, ◌^◌, ◌++◌, true, length, Option, IfNone, IfSome, IfOk, OnOk, All};
 ghost use Rattle.std.specs.List.Sorted.{IsStrictlyIncreasing};
 ghost use Rattle.pit_num.specs.Within.{IsWithin};
 ghost use Rattle.pit_model.specs.Pit.{upper_of, lower_of};
-ghost use Rattle.pit_plan.specs.Schedule.{by_block, coef_in as coefficient, load_of, earned_in, in_order};
+ghost use Rattle.pit_plan.specs.Schedule.{by_block, load_of, earned_in, in_order};
 ghost use Rattle.pit_plan.specs.Totals.{IsTally};
 ghost use Rattle.pit_plan.specs.Breaches.{IsFirstBreach, IsFirstOutOfOrder, IsOrdered};
 ghost use Rattle.pit_plan.specs.Shortfalls.{shortfalls_of, shorts_in, short_at};
@@ -15,6 +15,19 @@ use crate::tally::Tally;
 use pit_model::Instance;
 use pit_num::NoMemory;
 use std::alloc::Allocator;
+
+/// The periods of so many blocks.
+pub(crate) trait Schedule {
+    /// The period of each block.
+    ghost period_at: { Self → ℕ → Option ℕ };
+
+    /// How many blocks there are.
+    ghost count: { Self → ℕ };
+
+    fn period(&self, b: u32) -> Option<u32>
+        requires { b < count self.now }
+        ensures { result ≡ period_at self.now b };
+}
 
 /// The load of a resource in a period.
 pub(crate) fn load<A: Allocator + Copy + Drop>(
@@ -29,20 +42,6 @@ pub(crate) fn load<A: Allocator + Copy + Drop>(
     ensures { result ≡ load_of pit.now (by_block tally.now.periods) r t }
 {
     tally.loads[t as usize * pit.resources() as usize + r as usize]
-}
-
-/// The coefficient of a resource, or 0.
-pub(crate) fn coef_in(pairs: &[(u32, i64)], r: u32) -> i64
-    requires { All (λ pair. IsWithin (10 ^ 18) pair.1) pairs.now }
-    ensures value { result ≡ coefficient pairs.now r }
-    ensures small { IsWithin (10 ^ 18) result }
-{
-    for (resource, coef) in pairs {
-        if *resource == r {
-            return *coef;
-        }
-    }
-    0
 }
 
 /// What a block earns in a period.
@@ -63,14 +62,18 @@ pub(crate) fn earned<A: Allocator + Copy + Drop>(
 }
 
 /// The first of the blocks that is later than a period.
-fn first_late(preds: &[u32], periods: &[Option<u32>], later: Option<u32>) -> Option<u32>
-    requires known { All (λ a. a < length periods.now) preds.now }
+pub(crate) fn first_late<S: Schedule>(
+    preds: &[u32],
+    schedule: &S,
+    later: Option<u32>,
+) -> Option<u32>
+    requires known { All (λ a. a < S.count schedule.now) preds.now }
     requires rising { IsStrictlyIncreasing preds.now }
-    ensures none { IfNone result (All (λ a. in_order later (by_block periods.now a) ≡ true) preds.now) }
-    ensures some { IfSome result (IsFirstLate (by_block periods.now) later preds.now) }
+    ensures none { IfNone result (All (λ a. in_order later (S.period_at schedule.now a) ≡ true) preds.now) }
+    ensures some { IfSome result (IsFirstLate (S.period_at schedule.now) later preds.now) }
 {
     for a in preds {
-        if !keeps_order(later, periods[*a as usize]) {
+        if !keeps_order(later, schedule.period(*a)) {
             return Some(*a);
         }
     }
@@ -78,7 +81,7 @@ fn first_late(preds: &[u32], periods: &[Option<u32>], later: Option<u32>) -> Opt
 }
 
 /// Whether a block of the one period may stand after a block of the other.
-fn keeps_order(later: Option<u32>, before: Option<u32>) -> bool
+pub(crate) fn keeps_order(later: Option<u32>, before: Option<u32>) -> bool
     ensures { result ≡ in_order later before }
 {
     match (later, before) {
@@ -91,14 +94,14 @@ fn keeps_order(later: Option<u32>, before: Option<u32>) -> bool
 /// The least pair of a block and its predecessor that is out of order.
 fn first_out_of_order<A: Allocator + Copy + Drop>(
     pit: &Instance<A>,
-    periods: &[Option<u32>],
+    tally: &Tally<A>,
 ) -> Option<(u32, u32)>
-    requires { length periods.now ≡ pit.now.blocks }
-    ensures none { IfNone result (IsOrdered pit.now (by_block periods.now)) }
-    ensures some { IfSome result (λ p. IsFirstOutOfOrder pit.now (by_block periods.now) p.0 p.1) }
+    requires { length tally.now.periods ≡ pit.now.blocks }
+    ensures none { IfNone result (IsOrdered pit.now (by_block tally.now.periods)) }
+    ensures some { IfSome result (λ p. IsFirstOutOfOrder pit.now (by_block tally.now.periods) p.0 p.1) }
 {
     for b in 0..pit.blocks() {
-        if let Some(a) = first_late(pit.preds(b), periods, periods[b as usize]) {
+        if let Some(a) = first_late(pit.preds(b), tally, tally.period(b)) {
             return Some((b, a));
         }
     }
@@ -154,7 +157,7 @@ pub(crate) fn first_breach<A: Allocator + Copy + Drop>(
     requires { IsTally pit.now tally.now }
     ensures { IsFirstBreach pit.now (by_block tally.now.periods) (upper_of pit.now) result }
 {
-    if let Some((block, before)) = first_out_of_order(pit, &tally.periods) {
+    if let Some((block, before)) = first_out_of_order(pit, tally) {
         return Some(Breach::Precedence { block, before });
     }
     first_over(pit, tally)

@@ -7,7 +7,7 @@ ghost use Rattle.pit_plan.specs.Standing.{Fits};
 ghost use Rattle.pit_plan.specs.InsidePlan.{placed};
 ghost use Rattle.pit_plan.specs.Totals.{load_at, Moves, moved_by, IsTally};
 
-use crate::schedule::{coef_in, earned};
+use crate::schedule::{Schedule, earned};
 use pit_model::Instance;
 use pit_num::NoMemory;
 use std::alloc::Allocator;
@@ -29,6 +29,16 @@ impl<A: Allocator + Drop> Model for Tally<A> {
     ghost view = { λ t. record { periods = t.periods.items; loads = t.loads.items; worth = t.worth } };
 }
 
+impl<A: Allocator + Drop> Schedule for Tally<A> {
+    ghost period_at = { λ tally. by_block tally.periods };
+
+    ghost count = { λ tally. length tally.periods };
+
+    fn period(&self, b: u32) -> Option<u32> {
+        self.periods[b as usize]
+    }
+}
+
 impl<A: Allocator + Copy + Drop> Tally<A> {
     /// No block has a period.
     pub(crate) fn none(alloc: A, pit: &Instance<A>) -> Result<Tally<A>, NoMemory>
@@ -41,19 +51,6 @@ impl<A: Allocator + Copy + Drop> Tally<A> {
             periods,
             loads,
             worth: 0,
-        })
-    }
-
-    /// The same again, which takes the memory of both lists.
-    pub(crate) fn copy(&self, alloc: A) -> Result<Tally<A>, NoMemory>
-        ensures { IfOk result (λ tally. tally ≡ self.now) }
-    {
-        let periods = Vec::from_slice(alloc, &self.periods)?;
-        let loads = Vec::from_slice(alloc, &self.loads)?;
-        Ok(Tally {
-            periods,
-            loads,
-            worth: self.worth,
         })
     }
 
@@ -118,20 +115,17 @@ fn shift<A: Allocator + Copy + Drop>(
     requires period { t < pit.now.periods }
     requires len { length loads.old.items ≡ pit.now.periods * pit.now.resources }
     requires room { (r : ℕ) → r < pit.now.resources → FitsSigned w128 (load_at pit.now loads.old.items r t +ℤ moved_by up (coef_of pit.now b r)) }
-    ensures { Moves pit.now loads.old.items t (λ r. moved_by up (coef_of pit.now b r)) loads.new.items }
+    ensures len { length loads.new.items ≡ length loads.old.items }
+    ensures moves { Moves pit.now (load_at pit.now loads.old.items) t (λ r. moved_by up (coef_of pit.now b r)) (load_at pit.now loads.new.items) }
 {
-    for r in 0..pit.resources() {
-        let coef = coef_in(pit.coefs(b), r);
-        add_at(
-            loads,
-            t as usize * pit.resources() as usize + r as usize,
-            moved(up, coef),
-        );
+    for (r, coef) in pit.coefs(b) {
+        let cell = t as usize * pit.resources() as usize + *r as usize;
+        add_at(loads, cell, moved(up, *coef));
     }
 }
 
 /// A sum that stays in range.
-fn plus(sum: i128, term: i128) -> i128
+pub(crate) fn plus(sum: i128, term: i128) -> i128
     requires { FitsSigned w128 (sum +ℤ term) }
     ensures { result ≡ sum +ℤ term }
 {
@@ -147,7 +141,7 @@ fn minus(sum: i128, term: i128) -> i128
 }
 
 /// A coefficient, or its opposite.
-fn moved(up: bool, coef: i64) -> i64
+pub(crate) fn moved(up: bool, coef: i64) -> i64
     requires { IsWithin (10 ^ 18) coef }
     ensures { result ≡ moved_by up coef }
 {

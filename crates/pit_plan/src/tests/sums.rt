@@ -1,9 +1,9 @@
 //! Loads, values, breaches and shortfalls of a schedule, summed over all blocks each time.
-ghost use Rattle.std.specs.Prelude.{◌≡◌, ℕ, ◌<◌, ◌^◌, length, IfSome};
+ghost use Rattle.std.specs.Prelude.{◌≡◌, ℕ, ◌<◌, ◌^◌, length, IfSome, All};
 ghost use Rattle.pit_num.specs.Within.{IsWithin};
-ghost use Rattle.pit_plan.specs.Schedule.{by_block, share as share_of, load_of, value_of};
+ghost use Rattle.pit_plan.specs.Schedule.{by_block, coef_in as coefficient, share as share_of, load_of, value_of};
 
-use crate::schedule::{coef_in, earned};
+use crate::schedule::earned;
 use crate::{Breach, Short};
 use pit_model::Instance;
 use pit_num::NoMemory;
@@ -44,6 +44,20 @@ fn share<A: Allocator + Copy + Drop>(
         Some(s) if s == t => coef_in(pit.coefs(b), r),
         _ => 0,
     }
+}
+
+/// The coefficient of a resource, or 0.
+fn coef_in(pairs: &[(u32, i64)], r: u32) -> i64
+    requires { All (λ pair. IsWithin (10 ^ 18) pair.1) pairs.now }
+    ensures value { result ≡ coefficient pairs.now r }
+    ensures small { IsWithin (10 ^ 18) result }
+{
+    for (resource, coef) in pairs {
+        if *resource == r {
+            return *coef;
+        }
+    }
+    0
 }
 
 /// The discounted profits of a schedule.

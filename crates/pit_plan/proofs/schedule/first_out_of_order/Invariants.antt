@@ -4,4 +4,4 @@ use Rattle.pit_plan.proofs.schedule.first_out_of_order.Given as goal
 
 abbrev pub invariant-loop-b : goal.invariant-loop-b
 invariant-loop-b g l =
-    (x a : ℕ) → x < l.b → IsPred l.pit x a → in_order (by_block l.periods x) (by_block l.periods a) ≡ true
+    (x a : ℕ) → x < l.b → IsPred l.pit x a → in_order (by_block l.tally.periods x) (by_block l.tally.periods a) ≡ true
