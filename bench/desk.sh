@@ -1,0 +1,108 @@
+#!/usr/bin/env bash
+# Times the commits of a desk over a pit: the best of three runs, in turn with a native program.
+# usage: bench/desk.sh [-n COMMITS] [-t TWIN] NAME..   reads NAME.cpit, NAME.prec and NAME.sol, whose lines have two fields
+# Makes a program of desk.txt over the crates first, in bench/data/desk. It opens a desk with no start, whose first commit is the solution,
+# and makes COMMITS commits of one write and then as many of eight, 100,000 where it isn't said. Each is a transaction that notes blocks
+# drawn over the whole pit and writes to each the period that it has, so that none is refused. No program treats such a write
+# apart: the blocks around it and its loads are looked at as for a move. Timed is all of a transaction, from its empty sets to the reply.
+# TWIN is run as `TWIN plan NAME.cpit NAME.prec --start NAME.sol --reads lock --jobs-only --time SCRIPT`, on a script of the same
+# transactions. Prints the microseconds of a transaction, how many were committed and refused, and the ratios to the twin and to the
+# first NAME. Wants the toolchain.
+set -eu
+
+usage() {
+    echo "usage: $0 [-n COMMITS] [-t TWIN] NAME.." >&2
+    exit 2
+}
+commits=100000
+twin=
+while getopts n:t: option; do
+    case $option in
+    n) commits=$OPTARG ;;
+    t) twin=$(realpath "$OPTARG") ;;
+    *) usage ;;
+    esac
+done
+shift $((OPTIND - 1))
+[ $# -ge 1 ] || usage
+case $commits in
+'' | 0* | *[!0-9]*) usage ;;
+esac
+names=()
+for name in "$@"; do
+    [ -s "$name.sol" ] || usage
+    name=$(realpath "$name.sol")
+    names+=("${name%.sol}")
+done
+here=$(dirname "$(realpath "$0")")
+build=$here/data/desk
+mkdir -p "$build/crates/desk/src"
+cp -r "$here/../crates/." "$build/crates"
+cp "$here/../HANDLES" "$build"
+(cat "$here/../crates.txt"; echo "desk: pit_book pit_cli pit_model pit_num pit_text pit_tx") >"$build/crates.txt"
+cp "$here/desk.txt" "$build/crates/desk/src/main.rt"
+[ -d "$build/.git" ] || git init -q "$build"
+desk=$build/crates/desk/out/desk
+rm -f "$desk"
+# With no words it answers 2; what counts is that it was made.
+(cd "$build/crates/desk" && rt run >../../log 2>&1) || true
+[ -x "$desk" ] || { tail "$build/log" >&2; exit 1; }
+
+# script NAME WRITES: the transactions of desk.txt, in the words of the twin.
+script() {
+    awk -v commits="$commits" -v writes="$2" '
+        FILENAME != ARGV[1] && $1 == "NBLOCKS:" { blocks = $2; exit }
+        FILENAME == ARGV[1] { period[$1] = $2 }
+        END {
+            for (x = 1; commits > 0; commits--) {
+                print "begin"
+                for (i = 0; i < writes; i++) {
+                    x = (x * 1664525 + 1013904223) % 4294967296
+                    b = int(x / 256) % blocks
+                    print "read", b
+                    if (b in period) print "put", b, period[b]; else print "clear", b
+                }
+                print "commit"
+            }
+        }' "$1.sol" "$1.cpit" >"$build/script"
+}
+
+# best OF NAME WRITES MICROSECONDS COMMITTED REFUSED: keeps the least time of the runs so far, and the last two numbers.
+best() {
+    local of="$1 $2 $3"
+    if awk "BEGIN { exit !($4 < ${micros[$of]:-999999999}) }"; then micros[$of]=$4; fi
+    replies[$of]="$5 committed, $6 refused"
+}
+
+# best_twin NAME WRITES: the twin's jobs are transactions.
+best_twin() {
+    local committed refused rate
+    script "$1" "$2"
+    "$twin" plan "$1.cpit" "$1.prec" --start "$1.sol" --reads lock --jobs-only --time "$build/script" 2>"$build/answer"
+    read -r committed refused rate < <(sed -n 's|^jobs .* committed \([0-9]*\) refused \([0-9]*\) .* jobs/s \([0-9]*\) .*|\1 \2 \3|p' "$build/answer")
+    best twin "$1" "$2" "$(awk "BEGIN { printf \"%.3f\", 1e6 / $rate }")" "$committed" "$refused"
+}
+
+ratio() {
+    awk "BEGIN { printf \"%.2f\", $1 / $2 }"
+}
+
+declare -A micros replies
+for name in "${names[@]}"; do
+    for _ in 1 2 3; do
+        "$desk" "$name.cpit" "$name.prec" "$name.sol" "$commits" >"$build/answer"
+        while read -r writes took committed refused; do
+            best desk "$name" "$writes" "$took" "$committed" "$refused"
+        done <"$build/answer"
+        for writes in 1 8; do
+            [ -z "$twin" ] || best_twin "$name" "$writes"
+        done
+    done
+    for writes in 1 8; do
+        for of in desk ${twin:+twin}; do
+            printf '%-12s %-5s writes %s %12s us   %s\n' "${name##*/}" "$of" "$writes" "${micros[$of $name $writes]}" "${replies[$of $name $writes]}"
+        done
+        [ -z "$twin" ] || echo "to the twin $(ratio "${micros[desk $name $writes]}" "${micros[twin $name $writes]}")"
+        [ "$name" = "${names[0]}" ] || echo "to ${names[0]##*/} $(ratio "${micros[desk $name $writes]}" "${micros[desk ${names[0]} $writes]}")"
+    done
+done
