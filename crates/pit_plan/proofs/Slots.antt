@@ -7,7 +7,7 @@ use Rattle.std.proofs.lemmas.List.Sums.{fold_push}
 use Rattle.std.proofs.lemmas.List.Elements.{recursion_from_All}
 use Rattle.std.proofs.lemmas.Bool.Decides.{eqb_tells}
 use Rattle.pit_model.specs.Pit.{Pit}
-use Rattle.pit_plan.specs.Schedule.{Commit, by_block, said, held, last}
+use Rattle.pit_plan.specs.Schedule.{Commit, said, held, last}
 use Rattle.pit_plan.specs.Standing.{Standing, StandsFor, Fits, Adds}
 use Rattle.pit_plan.specs.InsidePlan.{placed}
 use Rattle.pit_plan.proofs.Commits.{held-nil, held-push, last-nil, last-push}
@@ -107,15 +107,6 @@ nothing-stands pit = record {
   period = λ b below. get_or-replicate pit.blocks b None None below ∙ sym (held-nil b);
   version = λ b below. get_or-replicate pit.blocks b 0 0 below ∙ sym (last-nil b);
 }
-
--- what the plan has after the writes is what they leave of its periods
-pub placed-period : (xs : List (Option ℕ)) (ws : Commit) (b : ℕ) → AllPairs (λ v w. v.0 ≢ w.0) ws → b < length xs
-    → by_block (placed (λ w. w.1) xs ws) b ≡ unwrap_or (said ws b) (by_block xs b)
-placed-period xs ws b once below = by (said ws b) refl
-  where
-    by : (x : Option (Option ℕ)) → said ws b ≡ x → get_or (placed (λ w. w.1) xs ws) b None ≡ unwrap_or (said ws b) (get_or xs b None)
-    by None is = placed-other (λ w. w.1) xs ws b None is ∙ sym (ap (λ y. unwrap_or y (get_or xs b None)) is)
-    by (Some p) is = placed-named (λ w. w.1) xs ws b None p (once-from_pairs ws once) below is ∙ sym (ap (λ y. unwrap_or y (get_or xs b None)) is)
 
 -- of two writes at one place the second stands
 pub set-twice : {X : Type 0} (xs : List X) (i : ℕ) (a b : X) → slice_set (slice_set xs i a) i b ≡ slice_set xs i b

@@ -75,11 +75,6 @@ loads-next pit periods writes k loads once within are = λ r t lr lt. are r t lr
           | false ↦ refl
         ]
 
--- ---- pairs of which one is written
-
-out-grows : (pit : Pit) (s : ℕ → Option ℕ) (writes : Commit) (k b a : ℕ) → k < length writes → IsOutNear pit s (take k writes) b a → IsOutNear pit s (take (k + 1) writes) b a
-out-grows pit s writes k b a within is =
-    (is.0, elim is.1 [ inl h ↦ inl (named-keeps writes k b (0, None) within h) | inr h ↦ inr (named-keeps writes k a (0, None) within h) ])
 -- ---- pairs that are out of order
 
 -- one more written block brings the pairs that it is of
