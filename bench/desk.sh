@@ -1,9 +1,9 @@
 #!/usr/bin/env bash
 # Times the commits of a desk over a pit: the best of three runs, in turn with a native program.
-# usage: bench/desk.sh [-n COMMITS] [-t TWIN] NAME..   reads NAME.cpit, NAME.prec and NAME.sol, whose lines have two fields
+# usage: bench/desk.sh [-n COMMITS] [-b BLOCKS] [-t TWIN] NAME..   reads NAME.cpit, NAME.prec and NAME.sol, whose lines have two fields
 # Makes a program of desk.txt over the crates first, in bench/data/desk. It opens a desk with no start, whose first commit is the solution,
 # and makes COMMITS commits of one write and then as many of eight, 100,000 where it isn't said. Each is a transaction that notes blocks
-# drawn over the whole pit and writes to each the period that it has, so that none is refused. No program treats such a write
+# drawn over the whole pit, or the first BLOCKS of it, and writes to each the period that it has, so that none is refused. No program treats such a write
 # apart: the blocks around it and its loads are looked at as for a move. Timed is all of a transaction, from its empty sets to the reply.
 # TWIN is run as `TWIN plan NAME.cpit NAME.prec --start NAME.sol --reads lock --jobs-only --time SCRIPT`, on a script of the same
 # transactions. Prints the microseconds of a transaction, how many were committed and refused, and the ratios to the twin and to the
@@ -11,23 +11,27 @@
 set -eu
 
 usage() {
-    echo "usage: $0 [-n COMMITS] [-t TWIN] NAME.." >&2
+    echo "usage: $0 [-n COMMITS] [-b BLOCKS] [-t TWIN] NAME.." >&2
     exit 2
 }
 commits=100000
+among=4294967295
 twin=
-while getopts n:t: option; do
+while getopts n:b:t: option; do
     case $option in
     n) commits=$OPTARG ;;
+    b) among=$OPTARG ;;
     t) twin=$(realpath "$OPTARG") ;;
     *) usage ;;
     esac
 done
 shift $((OPTIND - 1))
 [ $# -ge 1 ] || usage
-case $commits in
-'' | 0* | *[!0-9]*) usage ;;
-esac
+for number in "$commits" "$among"; do
+    case $number in
+    '' | 0* | *[!0-9]*) usage ;;
+    esac
+done
 names=()
 for name in "$@"; do
     [ -s "$name.sol" ] || usage
@@ -50,10 +54,11 @@ rm -f "$desk"
 
 # script NAME WRITES: the transactions of desk.txt, in the words of the twin.
 script() {
-    awk -v commits="$commits" -v writes="$2" '
+    awk -v commits="$commits" -v among="$among" -v writes="$2" '
         FILENAME != ARGV[1] && $1 == "NBLOCKS:" { blocks = $2; exit }
         FILENAME == ARGV[1] { period[$1] = $2 }
         END {
+            if (among < blocks) blocks = among
             for (x = 1; commits > 0; commits--) {
                 print "begin"
                 for (i = 0; i < writes; i++) {
@@ -90,7 +95,7 @@ ratio() {
 declare -A micros replies
 for name in "${names[@]}"; do
     for _ in 1 2 3; do
-        "$desk" "$name.cpit" "$name.prec" "$name.sol" "$commits" >"$build/answer"
+        "$desk" "$name.cpit" "$name.prec" "$name.sol" "$commits" "$among" >"$build/answer"
         while read -r writes took committed refused; do
             best desk "$name" "$writes" "$took" "$committed" "$refused"
         done <"$build/answer"
