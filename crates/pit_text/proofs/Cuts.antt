@@ -6,7 +6,7 @@ use Rattle.std.proofs.lemmas.List.{take_all, drop_all, drop_more}
 use Rattle.std.proofs.lemmas.List.Sums.{passes_at_first}
 use Rattle.std.proofs.lemmas.List.Splits.{slice_split_first}
 use Rattle.std.proofs.lemmas.Bool.Decides.{nat_tests}
-use Rattle.pit_text.specs.Cutting.{lines_of, fields_of, is_gap, without_return, without_empty_last, FieldBegins}
+use Rattle.pit_text.specs.Cutting.{lines_of, fields_of, is_gap, without_return, without_empty_last, FieldBegins, begins_with_eof}
 
 -- what a first place says
 pub place_is : {X : Type 0} (p : X → Bool) (xs : List X) (at : ℕ) → Some at ≡ position p xs → (at ≡ position_or_len p xs) × (at < length xs)
@@ -139,6 +139,37 @@ field_alone text begins h =
     ap (λ (ps : List (List ℕ)). filter (λ f. nat_lt 0 (length f)) ps) (split_none is_gap text (no_place is_gap text h))
     ∙ kept text [] some
 
+-- a byte that isn't a gap is the first of the first field
+front_part : (b : ℕ) (parts : List (List ℕ)) → (part : List ℕ) × (more : List (List ℕ)) × (filter (λ f. nat_lt 0 (length f)) (onto_first b parts) ≡ (b ∷ part) ∷ more)
+front_part b [] = ([], [], kept (b ∷ []) [] (omega arith))
+front_part b (part ∷ parts) = (part, filter (λ f. nat_lt 0 (length f)) parts, kept (b ∷ part) parts (omega arith))
+
+front_of : (b : ℕ) (bs : List ℕ) → is_gap b ≡ false → (part : List ℕ) × (more : List (List ℕ)) × (fields_of (b ∷ bs) ≡ (b ∷ part) ∷ more)
+unfolding fields_of
+front_of b bs begins =
+    let front = front_part b (slice_split is_gap bs) in
+    let split : slice_split is_gap (b ∷ bs) ≡ onto_first b (slice_split is_gap bs) = simp begins in
+    (front.0, front.1, ap (λ (ps : List (List ℕ)). filter (λ f. nat_lt 0 (length f)) ps) split ∙ front.2)
+
+front_at : (line : List ℕ) (at : ℕ) → Some at ≡ position (λ b. not (is_gap b)) line → (part : List ℕ) × (more : List (List ℕ)) × (fields_of line ≡ (get_or line at 0 ∷ part) ∷ more)
+front_at line at h =
+    let within : at < length line = (place_is (λ b. not (is_gap b)) line at h).1 in
+    let rest : drop at line ≡ get_or line at 0 ∷ drop (at + 1) line = drop_more line at 0 within in
+    let front = front_of (get_or line at 0) (drop (at + 1) line) (subst (λ (l : List ℕ). FieldBegins l) rest (begins_at line at h)) in
+    (front.0, front.1, fields_skip line at h ∙ ap (λ (l : List ℕ). fields_of l) rest ∙ front.2)
+
+pub has_fields : (line : List ℕ) (at : ℕ) → Some at ≡ position (λ b. not (is_gap b)) line → nat_eq (length (fields_of line)) 0 ≡ false
+has_fields line at h =
+    let front = front_at line at h in
+    let some : nat_eq (length ((get_or line at 0 ∷ front.0) ∷ front.1)) 0 ≡ false = grind (arith, nat_tests) in
+    ap (λ (fs : List (List ℕ)). nat_eq (length fs) 0) front.2 ∙ some
+
+-- a first field that begins with another byte than `E` isn't `EOF`
+pub not_last : (line : List ℕ) (at : ℕ) → Some at ≡ position (λ b. not (is_gap b)) line → nat_eq (get_or line at 0) 69 ≡ false → begins_with_eof (fields_of line) ≡ false
+not_last line at h other =
+    let front = front_at line at h in
+    ap (λ (fs : List (List ℕ)). begins_with_eof fs) front.2 ∙ simp other
+
 pub lines_empty : (text : List ℕ) → length text ≡ 0 → lines_of text ≡ []
 lines_empty [] h = no_lines
 lines_empty (b ∷ bs) h = absurd (omega (arith, h))
@@ -146,4 +177,4 @@ lines_empty (b ∷ bs) h = absurd (omega (arith, h))
 pub field_shorter : (text : List ℕ) (at : ℕ) → FieldBegins text → Some at ≡ position is_gap text → (0 < at) × (at < length text)
 field_shorter text at begins h = (omega (arith, begins_later text begins, (place_is is_gap text at h).0), (place_is is_gap text at h).1)
 
-pub ruleset cuts = (line_then, line_alone, lines_empty, no_lines, fields_skip, fields_none, field_then, field_alone, begins_at, field_shorter, place_is, has_byte, no_fields, take_rest)
+pub ruleset cuts = (line_then, line_alone, lines_empty, no_lines, fields_skip, fields_none, field_then, field_alone, begins_at, has_fields, not_last, field_shorter, place_is, has_byte, no_fields, take_rest)

@@ -1,4 +1,5 @@
 pub mod Cuts
+pub mod Feeds
 pub mod FirstLine
 pub mod States
 pub mod OneResult

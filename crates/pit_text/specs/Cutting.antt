@@ -1,5 +1,5 @@
 -- How a text is cut into lines and fields.
-use Rattle.std.specs.Prelude.{ℕ, ◌+◌, ◌-◌, ◌==◌, ◌||◌, not, nat_lt, Bool, false, if◌then◌else◌, List, [], ◌∷◌, length, take, map, filter, slice_index, find, unwrap_or, codes, ◌≡◌}
+use Rattle.std.specs.Prelude.{ℕ, ◌+◌, ◌-◌, ◌==◌, ◌<◌, ◌||◌, not, nat_lt, Bool, false, if◌then◌else◌, List, [], ◌∷◌, length, take, map, filter, slice_index, find, unwrap_or, codes, ◌≡◌}
 use Rattle.std.specs.Str.{bytes_eq}
 use Rattle.std.specs.List.{slice_split, before_first, position_or_len, enumerate_from}
 
@@ -17,6 +17,10 @@ without_return line = if slice_index line (length line - 1) == 13 then take (len
 
 unfoldable pub lines_of : List ℕ → List (List ℕ)
 lines_of text = map without_return (without_empty_last (slice_split (λ b. b == 10) text))
+
+-- none of the first n bytes is a line feed
+abbrev pub HasNoFeedBefore : List ℕ → ℕ → Type 0
+HasNoFeedBefore text n = (k : ℕ) → k < n → slice_index text k == 10 ≡ false
 
 -- ---- fields
 

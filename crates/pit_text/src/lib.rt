@@ -10,6 +10,7 @@ mod cut;
 mod draft;
 mod entry;
 mod error;
+mod feed;
 mod fields;
 mod header;
 mod lines;
