@@ -4,6 +4,7 @@ pub mod FirstLine
 pub mod States
 pub mod OneResult
 pub mod Small
+pub mod Ascii
 pub mod Firsts
 pub mod Facts
 pub mod Drafts

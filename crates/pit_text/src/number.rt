@@ -1,36 +1,42 @@
-ghost use Rattle.std.specs.Prelude.{◌≡◌, ◌^◌, IfOk};
+ghost use Rattle.std.specs.Prelude.{◌≡◌, ◌^◌, if◌then◌else◌, IfOk};
+ghost use Rattle.pit_text.specs.declared.error.Cause.TheVariants.{BadNumber, NotAscii};
 ghost use Rattle.pit_num.specs.Within.{IsWithin};
 ghost use Rattle.pit_text.specs.Numbers.{is_ascii, whole_field, decimal_field};
 
 use super::error::Cause;
-use pit_num::{micro_from_bytes, whole_from_bytes};
+use pit_num::{NumError, micro_from_bytes, whole_from_bytes};
 
 /// The whole number in a field.
-#[tactic(auto, unfolding(crate::specs::Numbers::whole_field))]
+#[tactic(auto, unfolding(crate::specs::Numbers::whole_field), using(crate::proofs::Ascii::reads))]
 pub(crate) fn whole(field: &[u8]) -> Result<u32, Cause>
     ensures { result ≡ whole_field field.now }
 {
-    if !is_ascii(field) {
-        return Err(Cause::NotAscii);
-    }
     match whole_from_bytes(field) {
         Ok(n) => Ok(n),
-        Err(error) => Err(Cause::BadNumber(error)),
+        Err(error) => Err(refusal(field, error)),
     }
 }
 
 /// The decimal in a field, in millionths.
-#[tactic(auto, unfolding(crate::specs::Numbers::decimal_field))]
+#[tactic(auto, unfolding(crate::specs::Numbers::decimal_field), using(crate::proofs::Ascii::reads))]
 pub(crate) fn decimal(field: &[u8]) -> Result<i64, Cause>
     ensures value { result ≡ decimal_field field.now }
     ensures small { IfOk result (IsWithin (10 ^ 18)) }
 {
-    if !is_ascii(field) {
-        return Err(Cause::NotAscii);
-    }
     match micro_from_bytes(field) {
         Ok(n) => Ok(n),
-        Err(error) => Err(Cause::BadNumber(error)),
+        Err(error) => Err(refusal(field, error)),
+    }
+}
+
+/// Why a field that is no number is refused. A number has no byte above 127, so only other fields are looked at again.
+fn refusal(field: &[u8], error: NumError) -> Cause
+    ensures { result ≡ (if is_ascii field.now then BadNumber error else NotAscii) }
+{
+    if is_ascii(field) {
+        Cause::BadNumber(error)
+    } else {
+        Cause::NotAscii
     }
 }
 
