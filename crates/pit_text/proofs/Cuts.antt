@@ -1,9 +1,10 @@
 -- Lists cut at the elements that pass a test.
-use Rattle.std.proofs.Common.{◌≡◌, ℕ, suc, ◌+◌, ◌<◌, ◌≤◌, not, nat_lt, nat_eq, Bool, true, false, Some, None, List, [], ◌∷◌, length, take, drop, map, filter, get_or, ap, sym, ◌∙◌, refl, arith, add_comm, subst, length-take}
+use Rattle.std.proofs.Common.{◌≡◌, ℕ, suc, ◌+◌, ◌-◌, ◌<◌, ◌≤◌, not, nat_lt, nat_eq, Bool, true, false, Some, None, List, [], ◌∷◌, length, take, drop, map, filter, get_or, ap, sym, ◌∙◌, refl, arith, add_comm, subst, length-take}
 use Rattle.std.specs.List.{slice_split, onto_first, position, position_or_len}
 pub use Rattle.std.proofs.lemmas.List.{take_rest}
-use Rattle.std.proofs.lemmas.List.{take_all, drop_all, drop_more}
-use Rattle.std.proofs.lemmas.List.Sums.{passes_at_first}
+use Rattle.std.proofs.lemmas.List.{take_all, drop_all, drop_more, drop-take, take-take}
+use Rattle.std.proofs.lemmas.List.Sums.{passes_at_first, prefix_len-le-length}
+use Rattle.std.proofs.lemmas.Bool.{cond-true, cond-false}
 use Rattle.std.proofs.lemmas.List.Splits.{slice_split_first}
 use Rattle.std.proofs.lemmas.Bool.Decides.{nat_tests}
 use Rattle.pit_text.specs.Cutting.{lines_of, fields_of, is_gap, without_return, without_empty_last, FieldBegins, begins_with_eof}
@@ -170,6 +171,35 @@ not_last line at h other =
     let front = front_at line at h in
     ap (λ (fs : List (List ℕ)). begins_with_eof fs) front.2 ∙ simp other
 
+-- the first field, by its length
+field_by : (text : List ℕ) (b : Bool) → nat_lt (position_or_len is_gap text) (length text) ≡ b → FieldBegins text → fields_of text ≡ take (position_or_len is_gap text) text ∷ fields_of (drop (position_or_len is_gap text) text)
+field_by text true e begins = field_then text (position_or_len is_gap text) begins (sym (cond-true _ _ _ e))
+field_by text false e begins =
+    let long : length text ≤ position_or_len is_gap text = grind (arith, nat_tests) in
+    field_alone text begins (sym (cond-false _ _ _ e))
+    ∙ ap (λ (l : List ℕ). l ∷ []) (sym (take_all (position_or_len is_gap text) text long))
+    ∙ ap (λ (fs : List (List ℕ)). take (position_or_len is_gap text) text ∷ fs) (sym (ap (λ (l : List ℕ). fields_of l) (drop_all (position_or_len is_gap text) text long) ∙ no_fields))
+
+pub field_first : (text : List ℕ) → FieldBegins text → fields_of text ≡ take (position_or_len is_gap text) text ∷ fields_of (drop (position_or_len is_gap text) text)
+field_first text begins = field_by text (nat_lt (position_or_len is_gap text) (length text)) refl begins
+
+-- the first field of a line in front of a text, and the line's rest in front of what follows
+pub field_in_front : (text : List ℕ) (len start end : ℕ) → len ≤ length text → Some start ≡ position (λ b. not (is_gap b)) (take len text) → end ≡ position_or_len is_gap (take (len - start) (drop start text))
+    → fields_of (take len text) ≡ take end (drop start text) ∷ fields_of (take (len - start - end) (drop end (drop start text)))
+field_in_front text len start end within h ends =
+    let line = take len text in
+    let rest = take (len - start) (drop start text) in
+    let below : start < len = omega (arith, length-take len text, (place_is (λ b. not (is_gap b)) line start h).1) in
+    let cut : drop start line ≡ rest = ap (λ (n : ℕ). drop start (take n text)) (omega (arith, below)) ∙ drop-take start (len - start) text in
+    let begins : FieldBegins rest = subst (λ (l : List ℕ). FieldBegins l) cut (begins_at line start h) in
+    let most : end ≤ len - start = omega (arith, ends, prefix_len-le-length (λ b. not (is_gap b)) rest, length-take (len - start) (drop start text)) in
+    let more : end + (len - start - end) ≡ len - start = omega (arith, most) in
+    let field : take end rest ≡ take end (drop start text) = take-take end (len - start) (drop start text) most in
+    let behind : drop end rest ≡ take (len - start - end) (drop end (drop start text)) = ap (λ (n : ℕ). drop end (take n (drop start text))) (sym more) ∙ drop-take end (len - start - end) (drop start text) in
+    fields_skip line start h ∙ ap (λ (l : List ℕ). fields_of l) cut ∙ field_first rest begins
+    ∙ ap (λ (n : ℕ). take n rest ∷ fields_of (drop n rest)) (sym ends)
+    ∙ ap (λ (f : List ℕ). f ∷ fields_of (drop end rest)) field ∙ ap (λ (l : List ℕ). take end (drop start text) ∷ fields_of l) behind
+
 pub lines_empty : (text : List ℕ) → length text ≡ 0 → lines_of text ≡ []
 lines_empty [] h = no_lines
 lines_empty (b ∷ bs) h = absurd (omega (arith, h))
@@ -177,4 +207,8 @@ lines_empty (b ∷ bs) h = absurd (omega (arith, h))
 pub field_shorter : (text : List ℕ) (at : ℕ) → FieldBegins text → Some at ≡ position is_gap text → (0 < at) × (at < length text)
 field_shorter text at begins h = (omega (arith, begins_later text begins, (place_is is_gap text at h).0), (place_is is_gap text at h).1)
 
-pub ruleset cuts = (line_then, line_alone, lines_empty, no_lines, fields_skip, fields_none, field_then, field_alone, begins_at, has_fields, not_last, field_shorter, place_is, has_byte, no_fields, take_rest)
+pub ruleset cuts = (line_then, line_alone, lines_empty, no_lines, fields_skip, fields_none, field_then, field_alone, begins_at, place_is, no_fields, take_rest)
+
+pub ruleset counts = (has_fields, fields_none)
+
+pub ruleset fields = (fields_none, field_in_front, place_is, take_rest)

@@ -1,5 +1,6 @@
 pub mod Cuts
 pub mod Feeds
+pub mod GapMasks
 pub mod FirstLine
 pub mod States
 pub mod OneResult

@@ -1,5 +1,5 @@
 -- What an iterator has left.
-use Rattle.std.specs.Prelude.{◌≡◌, ℕ, ◌+◌, if◌then◌else◌, List, [], Option, IfNone}
+use Rattle.std.specs.Prelude.{◌≡◌, ℕ, ◌+◌, if◌then◌else◌, List, [], take, Option, IfNone}
 use Rattle.std.specs.List.{position_or_len}
 use Rattle.std.specs.Iterator.{YieldsFirstBy}
 use Rattle.pit_text.specs.Cutting.{lines_of, fields_of, Cut, cut_from, is_last}
@@ -8,11 +8,11 @@ use Rattle.pit_text.specs.declared.lines.Line.{Line}
 use Rattle.pit_text.specs.declared.lines.Lines.{Lines}
 
 abbrev pub fields_left : Fields → List (List ℕ)
-fields_left fields = fields_of fields.rest.now
+fields_left fields = fields_of (take fields.len fields.text.now)
 
 -- a line, by its number and its fields
 abbrev pub cut_seen : Line → Cut
-cut_seen line = record { number = line.number; fields = fields_of line.fields.rest.now }
+cut_seen line = record { number = line.number; fields = fields_left line.fields }
 
 abbrev pub lines_left : Lines → List Cut
 lines_left lines = if lines.has_ended then [] else cut_from lines.number (lines_of lines.rest.now)

@@ -12,6 +12,7 @@ mod entry;
 mod error;
 mod feed;
 mod fields;
+mod gaps;
 mod header;
 mod lines;
 mod model;
