@@ -204,9 +204,6 @@ pub lines_empty : (text : List ℕ) → length text ≡ 0 → lines_of text ≡ 
 lines_empty [] h = no_lines
 lines_empty (b ∷ bs) h = absurd (omega (arith, h))
 
-pub field_shorter : (text : List ℕ) (at : ℕ) → FieldBegins text → Some at ≡ position is_gap text → (0 < at) × (at < length text)
-field_shorter text at begins h = (omega (arith, begins_later text begins, (place_is is_gap text at h).0), (place_is is_gap text at h).1)
-
 pub ruleset cuts = (line_then, line_alone, lines_empty, no_lines, fields_skip, fields_none, field_then, field_alone, begins_at, place_is, no_fields, take_rest)
 
 pub ruleset counts = (has_fields, fields_none)
