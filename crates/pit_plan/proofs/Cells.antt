@@ -42,6 +42,7 @@ one-set pit loads r t by lr within = record {
   others = λ q u lq apart. load_at-set_other pit loads r t q u (load_at pit loads r t +ℤ by)
       (λ e. let same = cells_apart pit.resources r q t u lr lq e in apart (same_resource pit.resources r q t u e same, sym same));
 }
+
 -- the first pairs of a row say nothing of the next one's resource
 pub none-before : (row : List (ℕ × ℤ)) (k : ℕ) (d : ℕ × ℤ) → Once row → k < length row → coef_in (take k row) (get_or row k d).0 ≡ pos 0
 none-before row k d once within = ap (λ (x : Option ℤ). unwrap_or x (pos 0)) (absent-before row k d once within)

@@ -85,4 +85,4 @@ none-behind pit s b n whole each = λ x a is.
     let has = succ-from_pred pit x b (subst (IsPred pit x) is.0 is.1.0) in
     let late : in_order (s x) (s b) ≡ false = subst (λ (y : ℕ). in_order (s x) (s y) ≡ false) is.0 is.1.1 in
     true≢false (sym (All-contains (λ y. in_order (s y) (s b) ≡ true) (succs_of pit b) x
-        (All-from_get_or (λ y. in_order (s y) (s b) ≡ true) (succs_of pit b) 0 (λ k below. each k (omega (arith, below, whole)))) has) ∙ late)
+    (All-from_get_or (λ y. in_order (s y) (s b) ≡ true) (succs_of pit b) 0 (λ k below. each k (omega (arith, below, whole)))) has) ∙ late)

@@ -168,11 +168,12 @@ pub cell-over : (pit : Pit) (cells : List (ℕ × ℤ)) (cell m n : ℕ) (load l
     → upper_of pit (cell % n) (cell / m) ≡ Some limit → is_within load (Some limit) ≡ false
     → IsLeastPair (λ t r. IsOverAt pit cells t r × (t * pit.resources + r ≡ cell)) (Some (cell / m, cell % n))
 cell-over pit cells cell m n load limit m_is n_is within at upper fails =
-    rw (m_is, n_is)
-    (((period, mod-lt cell some, (load, ap (λ (k : ℕ). lookup (nat_eq k) cells) whole ∙ at, over)), whole),
-    λ x y is before.
-        let there = place pit cell x y within is.0.1 is.1 in
-        elim before [ inl less ↦ absurd (omega (arith, less, there.0)) | inr same ↦ absurd (omega (arith, same.1, there.1)) ])
+    rw (m_is, n_is) (
+      ((period, mod-lt cell some, (load, ap (λ (k : ℕ). lookup (nat_eq k) cells) whole ∙ at, over)), whole),
+      λ x y is before.
+          let there = place pit cell x y within is.0.1 is.1 in
+          elim before [ inl less ↦ absurd (omega (arith, less, there.0)) | inr same ↦ absurd (omega (arith, same.1, there.1)) ],
+    )
   where
     some : 0 < pit.resources
     some = some-resource pit.periods pit.resources cell within

@@ -13,8 +13,8 @@ returns-then-load-from g c =
     let key = get_or_from_slice_get c.args.cells.now.entries c.args.i (cell, c.in_ok-cell.load.now) (0, pos 0) (sym c.in_ok-cell.ensures.entry) in
     let fits : is_within c.in_ok-cell.load.now (Some c.in_ok-limit.limit) ≡ true = search rules in
     λ x y is. cell-within pit c.args.cells.now.entries cell c.resources.result c.resources-2.result c.in_ok-cell.load.now c.in_ok-limit.limit c.resources.ensures c.resources-2.ensures
-        (c.requires.cells cell (ap (λ (v : Option ℤ). is_some v) c.in_ok-cell.ensures.value)) c.in_ok-cell.ensures.value (sym c.upper.ensures ∙ c.in_ok-limit.was) fits x y is.0
-        (is.1 ∙ ap (λ (p : ℕ × ℤ). p.0) key)
+    (c.requires.cells cell (ap (λ (v : Option ℤ). is_some v) c.in_ok-cell.ensures.value)) c.in_ok-cell.ensures.value (sym c.upper.ensures ∙ c.in_ok-limit.was) fits x y is.0
+    (is.1 ∙ ap (λ (p : ℕ × ℤ). p.0) key)
 
 pub returns : goal.returns
 returns g c =

@@ -53,8 +53,8 @@ loop-r-preserved g c =
     subst (λ (n : ℕ). SetsCell c.loop-r.cells.entries n (load_over pit c.args.kept.now c.loop-r.cells.entries pair.0 t +ℤ moved_by c.args.up pair.1) c.insert.new.self.entries) cell
     (subst (λ (v : ℤ). SetsCell c.loop-r.cells.entries c.cell_of-cell.result v c.insert.new.self.entries) (to_z-of_z w128 c.plus-load.result (search rules) ∙ sum) (λ n. c.in_ok-insert.ensures.updates.0 n)) in (
       moves-more pit (load_over pit c.args.kept.now c.args.cells.now.entries) t c.args.up (coefs_of pit c.args.b) k (0, pos 0) (load_over pit c.args.kept.now c.loop-r.cells.entries)
-      (load_over pit c.args.kept.now c.insert.new.self.entries) (once-from_rising _ sound.rising) within lr c.loop-r.invariant.0
-      (one-moved pit c.args.kept.now c.loop-r.cells.entries c.insert.new.self.entries pair.0 t _ lr sets),
+          (load_over pit c.args.kept.now c.insert.new.self.entries) (once-from_rising _ sound.rising) within lr c.loop-r.invariant.0
+          (one-moved pit c.args.kept.now c.loop-r.cells.entries c.insert.new.self.entries pair.0 t _ lr sets),
       named-set c.loop-r.cells.entries c.insert.new.self.entries (t * pit.resources + pair.0) (pit.periods * pit.resources) _ sets
           (omega (arith, mul-add-lt t pit.resources pair.0 pit.periods lt lr)) c.loop-r.invariant.1,
     )

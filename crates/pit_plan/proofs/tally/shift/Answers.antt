@@ -42,9 +42,9 @@ loop-r-preserved g c =
     let bound = mul-add-lt c.args.t pit.resources r pit.periods c.requires.period lr in (
       ap length set ∙ (length-set _ _ _ ∙ c.loop-r.invariant.0),
       moves-more pit (load_at pit c.args.loads.now.items) c.args.t c.args.up (coefs_of pit c.args.b) k (0, pos 0) (load_at pit c.loop-r.loads.items) (load_at pit c.add_at.new.loads.items)
-      (once-from_rising _ sound.rising) within lr c.loop-r.invariant.1
-      (subst (λ (xs : List ℤ). MovesOne pit.resources (load_at pit c.loop-r.loads.items) r c.args.t (moved_by c.args.up (get_or (coefs_of pit c.args.b) k (0, pos 0)).1) (load_at pit xs)) (sym set)
-      (one-set pit c.loop-r.loads.items r c.args.t _ lr (omega (arith, bound, c.loop-r.invariant.0, c.requires.len)))),
+          (once-from_rising _ sound.rising) within lr c.loop-r.invariant.1
+          (subst (λ (xs : List ℤ). MovesOne pit.resources (load_at pit c.loop-r.loads.items) r c.args.t (moved_by c.args.up (get_or (coefs_of pit c.args.b) k (0, pos 0)).1) (load_at pit xs)) (sym set)
+          (one-set pit c.loop-r.loads.items r c.args.t _ lr (omega (arith, bound, c.loop-r.invariant.0, c.requires.len)))),
     )
 
 pub returns-clause-moves : goal.returns-clause-moves
