@@ -3,11 +3,11 @@
 # usage: bench/desk.sh [-n COMMITS] [-b BLOCKS] [-t TWIN] NAME..   reads NAME.cpit, NAME.prec and NAME.sol, whose lines have two fields
 # Makes a program of desk.txt over the crates first, in bench/data/desk. It opens a desk with no start, whose first commit is the solution,
 # and makes COMMITS commits of one write and then as many of eight, 100,000 where it isn't said. Each is a transaction that notes blocks
-# drawn over the whole pit, or the first BLOCKS of it, and writes to each the period that it has, so that none is refused. No program treats such a write
-# apart: the blocks around it and its loads are looked at as for a move. Timed is all of a transaction, from its empty sets to the reply.
-# TWIN is run as `TWIN plan NAME.cpit NAME.prec --start NAME.sol --reads lock --jobs-only --time SCRIPT`, on a script of the same
-# transactions. Prints the microseconds of a transaction, how many were committed and refused, and the ratios to the twin and to the
-# first NAME. Wants the toolchain.
+# drawn over the whole pit, or of BLOCKS that are spread evenly over it, and writes to each the period that it has, so that none is
+# refused. No program treats such a write apart: the blocks around it and its loads are looked at as for a move. Timed is all of a
+# transaction, from its empty sets to the reply. TWIN is run as `TWIN plan NAME.cpit NAME.prec --start NAME.sol --reads lock --jobs-only
+# --time SCRIPT`, on a script of the same transactions. Prints the microseconds of a transaction, how many were committed and refused, and
+# the ratios to the twin and to the first NAME. Wants the toolchain.
 set -eu
 
 usage() {
@@ -58,12 +58,13 @@ script() {
         FILENAME != ARGV[1] && $1 == "NBLOCKS:" { blocks = $2; exit }
         FILENAME == ARGV[1] { period[$1] = $2 }
         END {
-            if (among < blocks) blocks = among
+            if (among > blocks) among = blocks
+            step = int(blocks / among)
             for (x = 1; commits > 0; commits--) {
                 print "begin"
                 for (i = 0; i < writes; i++) {
                     x = (x * 1664525 + 1013904223) % 4294967296
-                    b = int(x / 256) % blocks
+                    b = int(x / 256) % among * step
                     print "read", b
                     if (b in period) print "put", b, period[b]; else print "clear", b
                 }
