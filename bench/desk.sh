@@ -38,19 +38,8 @@ for name in "$@"; do
     name=$(realpath "$name.sol")
     names+=("${name%.sol}")
 done
-here=$(dirname "$(realpath "$0")")
-build=$here/data/desk
-mkdir -p "$build/crates/desk/src"
-cp -r "$here/../crates/." "$build/crates"
-cp "$here/../HANDLES" "$build"
-(cat "$here/../crates.txt"; echo "desk: pit_book pit_cli pit_model pit_num pit_text pit_tx") >"$build/crates.txt"
-cp "$here/desk.txt" "$build/crates/desk/src/main.rt"
-[ -d "$build/.git" ] || git init -q "$build"
-desk=$build/crates/desk/out/desk
-rm -f "$desk"
-# With no words it answers 2; what counts is that it was made.
-(cd "$build/crates/desk" && rt run >../../log 2>&1) || true
-[ -x "$desk" ] || { tail "$build/log" >&2; exit 1; }
+. "$(dirname "$(realpath "$0")")/program.sh"
+made_of desk pit_book pit_cli pit_model pit_num pit_text pit_tx
 
 # script NAME WRITES: the transactions of desk.txt, in the words of the twin.
 script() {
@@ -96,7 +85,7 @@ ratio() {
 declare -A micros replies
 for name in "${names[@]}"; do
     for _ in 1 2 3; do
-        "$desk" "$name.cpit" "$name.prec" "$name.sol" "$commits" "$among" >"$build/answer"
+        "$program" "$name.cpit" "$name.prec" "$name.sol" "$commits" "$among" >"$build/answer"
         while read -r writes took committed refused; do
             best desk "$name" "$writes" "$took" "$committed" "$refused"
         done <"$build/answer"

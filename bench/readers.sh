@@ -12,19 +12,8 @@ fi
 name=$(realpath "$1.cpit")
 name=${name%.cpit}
 twin=${2:+$(realpath "$2")}
-here=$(dirname "$(realpath "$0")")
-build=$here/data/readers
-mkdir -p "$build/crates/readers/src"
-cp -r "$here/../crates/." "$build/crates"
-cp "$here/../HANDLES" "$build"
-(cat "$here/../crates.txt"; echo "readers: pit_cli pit_model pit_num pit_text") >"$build/crates.txt"
-cp "$here/readers.txt" "$build/crates/readers/src/main.rt"
-[ -d "$build/.git" ] || git init -q "$build"
-readers=$build/crates/readers/out/readers
-rm -f "$readers"
-# With no words it answers 2; what counts is that it was made.
-(cd "$build/crates/readers" && rt run >../../log 2>&1) || true
-[ -x "$readers" ] || { tail "$build/log" >&2; exit 1; }
+. "$(dirname "$(realpath "$0")")/program.sh"
+made_of readers pit_cli pit_model pit_num pit_text
 
 # best NAME WORD..: keeps the least seconds and the least peak memory, in KB, of the runs so far. A status above 1 ends the script: that of
 # a program that did not read its files. A twin's 1 says that its solution does not fit.
@@ -44,7 +33,7 @@ best() {
 
 declare -A seconds memory
 for run in 1 2 3 4 5; do
-    best readers "$readers" "$name.cpit" "$name.prec" "$name.blocks"
+    best readers "$program" "$name.cpit" "$name.prec" "$name.blocks"
     [ -z "$twin" ] || best twin "$twin" check "$name.cpit" "$name.prec" "$name.sol"
 done
 for of in readers ${twin:+twin}; do
