@@ -3,7 +3,7 @@ use Rattle.std.specs.Prelude.{◌≡◌, ℕ, true, false, List, [], ◌∷◌, 
 use Rattle.std.specs.Io.KnownBytes.{Appends, Keeps}
 use Rattle.pit_num.specs.Printed.{AppendsFront}
 use Rattle.pit_model.specs.Pit.{Pit}
-use Rattle.pit_plan.specs.Schedule.{Commit, held, value_of}
+use Rattle.pit_plan.specs.Schedule.{Commit, held_period, value_of}
 use Rattle.pit_plan.specs.Breaches.{IsBreachOf}
 use Rattle.pit_plan.specs.Shortfalls.{shortfalls_of}
 use Rattle.pit_plan.specs.declared.breach.Breach.{Breach}
@@ -27,8 +27,8 @@ IsOrderingFault precedence given fault = IsInputFault precedence Precedence faul
 pub record Checks (pit : Pit) (commits : List Commit) (text : List ℕ) (status : Status) : Type 0 where
   pub breach : Option Breach
   pub first : IsBreachOf pit commits breach
-  pub text_is : text ≡ check_text (value_of pit (held commits)) breach (shortfalls_of pit (held commits))
-  pub status_is : status ≡ check_status breach (shortfalls_of pit (held commits))
+  pub text_is : text ≡ check_text (value_of pit (held_period commits)) breach (shortfalls_of pit (held_period commits))
+  pub status_is : status ≡ check_status breach (shortfalls_of pit (held_period commits))
 
 -- the solution was read, and text and status say what it is worth, breaks and falls short of
 pub record ReadsCheck (solution : Reading) (pit : Pit) (text : List ℕ) (status : Status) : Type 0 where

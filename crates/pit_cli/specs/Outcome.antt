@@ -9,7 +9,7 @@ use Rattle.pit_text.specs.Model.{Fact, model_line, model_end, pit_of}
 use Rattle.pit_model.specs.Pit.{Pit}
 use Rattle.pit_text.specs.Precedence.{precedence_line, pit_with_preds}
 use Rattle.pit_text.specs.Solution.{solution_line, period_in, scheduled}
-use Rattle.pit_plan.specs.Schedule.{Commit, held, value_of}
+use Rattle.pit_plan.specs.Schedule.{Commit, held_period, value_of}
 use Rattle.pit_cli.specs.declared.input.Input.{Input}
 use Rattle.pit_cli.specs.declared.input.Input.TheVariants.{Model, Precedence, Solution}
 use Rattle.pit_cli.specs.CheckText.{value_text}
@@ -135,7 +135,7 @@ commit_of schedule = map (λ pair. (pair.0, Some pair.1)) schedule
 pub record ReadsValue (solution : Reading) (pit : Pit) (value : ℤ) : Type 0 where
   pub schedule : List (ℕ × ℕ)
   pub read : ReadsSchedule solution pit schedule
-  pub worth : value ≡ value_of pit (held (commit_of schedule ∷ []))
+  pub worth : value ≡ value_of pit (held_period (commit_of schedule ∷ []))
 
 -- both were read and are right, and the value was written
 pub record WritesValue (model solution : Reading) (out : Writing) : Type 0 where

@@ -3,3 +3,6 @@ pub mod Factor
 pub mod Rounding
 pub mod Printed
 pub mod Within
+pub mod Least
+pub mod Refused
+pub mod Fitting

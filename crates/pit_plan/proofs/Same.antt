@@ -3,7 +3,7 @@ use Rattle.std.proofs.Common.{◌≡◌, ℕ, ◌<◌, cond, ℤ, pos, List, [],
 use Rattle.std.specs.Prelude.{unwrap_or}
 use Rattle.pit_model.specs.Pit.{Pit, IsSound, upper_of, lower_of}
 use Rattle.pit_plan.proofs.Sums.{total-same}
-use Rattle.pit_plan.specs.Schedule.{Commit, IsPred, by_block, coef_of, said, held, is_in, share, load_of, value_of, earned_in, in_order, is_within}
+use Rattle.pit_plan.specs.Schedule.{Commit, IsPred, by_block, coef_of, write_of, held_period, is_in, share, load_of, value_of, earned_in, in_order, is_within}
 use Rattle.pit_plan.specs.Standing.{Standing, StandsFor}
 use Rattle.pit_plan.specs.Breaches.{IsFirstBreach, IsOrdered, IsBreachOf, IsGood, IsGoodNow}
 use Rattle.pit_plan.specs.Touched.{over}
@@ -14,7 +14,7 @@ use Rattle.pit_plan.specs.declared.breach.Breach.{Breach}
 use Rattle.pit_plan.specs.declared.breach.Breach.TheVariants.{Precedence, Over}
 use Rattle.pit_plan.proofs.Preds.{pred-known}
 use Rattle.pit_plan.proofs.Shorts.{flat_map-same}
-use Rattle.pit_plan.proofs.Commits.{held-push}
+use Rattle.pit_plan.proofs.Commits.{held_period-push}
 
 abbrev pub Agree : Pit → (ℕ → Option ℕ) → (ℕ → Option ℕ) → Type 0
 Agree pit s u = (b : ℕ) → b < pit.blocks → s b ≡ u b
@@ -75,7 +75,7 @@ pub breach-of : (inside plan : Standing) (periods : List (Option ℕ)) (x : Opti
     → IsFirstBreach inside.pit (by_block periods) (upper_of inside.pit) x → (commits : List Commit) → StandsFor plan commits → IsBreachOf plan.pit commits x
 breach-of inside plan periods x is same sound first commits =
     subst (λ (p : Standing). StandsFor p commits → IsBreachOf p.pit commits x) is
-    (λ st. same-breach inside.pit (by_block inside.periods) (held commits) (upper_of inside.pit) x sound st.period (subst (λ (ps : List (Option ℕ)). IsFirstBreach inside.pit (by_block ps) (upper_of inside.pit) x) same first))
+    (λ st. same-breach inside.pit (by_block inside.periods) (held_period commits) (upper_of inside.pit) x sound st.period (subst (λ (ps : List (Option ℕ)). IsFirstBreach inside.pit (by_block ps) (upper_of inside.pit) x) same first))
 
 -- and what is found of these with writes laid over them, where they are good, is found of what its commits and the writes leave
 pub breach-after : (inside plan : Standing) (w : Commit) (x : Option Breach) → inside ≡ plan → IsSound inside.pit
@@ -83,18 +83,18 @@ pub breach-after : (inside plan : Standing) (w : Commit) (x : Option Breach) →
     → IsGoodNow plan → (commits : List Commit) → StandsFor plan commits → IsBreachOf plan.pit (commits ++ w ∷ []) x
 breach-after inside plan w x is sound first good commits =
     subst (λ (p : Standing). IsGoodNow p → StandsFor p commits → IsBreachOf p.pit (commits ++ w ∷ []) x) is
-    (λ now st. same-breach inside.pit (over (by_block inside.periods) w) (held (commits ++ w ∷ [])) (upper_of inside.pit) x sound
-    (λ b below. ap (unwrap_or (said w b)) (st.period b below) ∙ sym (held-push commits w b))
-    (first (same-breach inside.pit (held commits) (by_block inside.periods) (upper_of inside.pit) None sound (λ b below. sym (st.period b below)) (now commits st)))) good
+    (λ now st. same-breach inside.pit (over (by_block inside.periods) w) (held_period (commits ++ w ∷ [])) (upper_of inside.pit) x sound
+    (λ b below. ap (unwrap_or (write_of w b)) (st.period b below) ∙ sym (held_period-push commits w b))
+    (first (same-breach inside.pit (held_period commits) (by_block inside.periods) (upper_of inside.pit) None sound (λ b below. sym (st.period b below)) (now commits st)))) good
 
 pub load-of : (inside plan : Standing) (periods : List (Option ℕ)) (r t : ℕ) (load : ℤ) → inside ≡ plan → periods ≡ inside.periods → load ≡ load_of inside.pit (by_block periods) r t
-    → (commits : List Commit) → StandsFor plan commits → load ≡ load_of plan.pit (held commits) r t
+    → (commits : List Commit) → StandsFor plan commits → load ≡ load_of plan.pit (held_period commits) r t
 load-of inside plan periods r t load is same found commits =
-    subst (λ (p : Standing). StandsFor p commits → load ≡ load_of p.pit (held commits) r t) is
-    (λ st. found ∙ (ap (λ (ps : List (Option ℕ)). load_of inside.pit (by_block ps) r t) same ∙ same-load inside.pit (by_block inside.periods) (held commits) r t st.period))
+    subst (λ (p : Standing). StandsFor p commits → load ≡ load_of p.pit (held_period commits) r t) is
+    (λ st. found ∙ (ap (λ (ps : List (Option ℕ)). load_of inside.pit (by_block ps) r t) same ∙ same-load inside.pit (by_block inside.periods) (held_period commits) r t st.period))
 
 pub shortfalls-of : (inside plan : Standing) (periods : List (Option ℕ)) (shorts : List Short) → inside ≡ plan → periods ≡ inside.periods → shorts ≡ shortfalls_of inside.pit (by_block periods)
-    → (commits : List Commit) → StandsFor plan commits → shorts ≡ shortfalls_of plan.pit (held commits)
+    → (commits : List Commit) → StandsFor plan commits → shorts ≡ shortfalls_of plan.pit (held_period commits)
 shortfalls-of inside plan periods shorts is same found commits =
-    subst (λ (p : Standing). StandsFor p commits → shorts ≡ shortfalls_of p.pit (held commits)) is
-    (λ st. found ∙ (ap (λ (ps : List (Option ℕ)). shortfalls_of inside.pit (by_block ps)) same ∙ same-shortfalls inside.pit (by_block inside.periods) (held commits) st.period))
+    subst (λ (p : Standing). StandsFor p commits → shorts ≡ shortfalls_of p.pit (held_period commits)) is
+    (λ st. found ∙ (ap (λ (ps : List (Option ℕ)). shortfalls_of inside.pit (by_block ps)) same ∙ same-shortfalls inside.pit (by_block inside.periods) (held_period commits) st.period))

@@ -7,10 +7,10 @@ use Rattle.std.proofs.lemmas.List.Sums.{fold_push}
 use Rattle.std.proofs.lemmas.List.Elements.{recursion_from_All}
 use Rattle.std.proofs.lemmas.Bool.Decides.{eqb_tells}
 use Rattle.pit_model.specs.Pit.{Pit}
-use Rattle.pit_plan.specs.Schedule.{Commit, said, held, last}
+use Rattle.pit_plan.specs.Schedule.{Commit, write_of, held_period, last_number}
 use Rattle.pit_plan.specs.Standing.{Standing, StandsFor, Fits, Adds}
 use Rattle.pit_plan.specs.InsidePlan.{placed}
-use Rattle.pit_plan.proofs.Commits.{held-nil, held-push, last-nil, last-push}
+use Rattle.pit_plan.proofs.Commits.{held_period-nil, held_period-push, last_number-nil, last_number-push}
 
 pub placed-none : {X : Type 0} (value : ℕ × Option ℕ → X) (xs : List X) → placed value xs [] ≡ xs
 unfolding placed
@@ -29,14 +29,14 @@ length-placed value xs [] = refl
 length-placed value xs (w ∷ ws) = length-placed value (slice_set xs w.0 (value w)) ws ∙ length-set xs w.0 (value w)
 
 -- a block that no write names keeps its item
-pub placed-other : {X : Type 0} (value : ℕ × Option ℕ → X) (xs : List X) (ws : Commit) (b : ℕ) (d : X) → said ws b ≡ None → get_or (placed value xs ws) b d ≡ get_or xs b d
+pub placed-other : {X : Type 0} (value : ℕ × Option ℕ → X) (xs : List X) (ws : Commit) (b : ℕ) (d : X) → write_of ws b ≡ None → get_or (placed value xs ws) b d ≡ get_or xs b d
 unfolding placed
 placed-other value xs [] b d none = refl
 placed-other value xs (w ∷ ws) b d none =
     elim (eqb_tells b w.0) [
-      | inl here ↦ absurd (cc (ap (λ x. cond x (Some w.1) (said ws b)) here.0, none))
+      | inl here ↦ absurd (cc (ap (λ x. cond x (Some w.1) (write_of ws b)) here.0, none))
       | inr there ↦
-          placed-other value (slice_set xs w.0 (value w)) ws b d (sym (ap (λ x. cond x (Some w.1) (said ws b)) there.0) ∙ none)
+          placed-other value (slice_set xs w.0 (value w)) ws b d (sym (ap (λ x. cond x (Some w.1) (write_of ws b)) there.0) ∙ none)
           ∙ get_or-set_other xs w.0 b (value w) d there.1
     ]
 
@@ -49,26 +49,26 @@ once-from_pairs [] h = tt
 once-from_pairs (w ∷ ws) h =
     (recursion_from_All (λ v. w.0 ≢ v.0) ws (λ k d l. h 0 (suc k) d (omega arith) (omega arith)), once-from_pairs ws (λ i j d lt l. h (suc i) (suc j) d (omega arith) (omega arith)))
 
-absent : (ws : Commit) (b : ℕ) → AllByRecursion (λ v. b ≢ v.0) ws → said ws b ≡ None
+absent : (ws : Commit) (b : ℕ) → AllByRecursion (λ v. b ≢ v.0) ws → write_of ws b ≡ None
 absent [] b h = refl
-absent (w ∷ ws) b h = elim (eqb_tells b w.0) [ inl here ↦ absurd (h.0 here.1) | inr there ↦ ap (λ x. cond x (Some w.1) (said ws b)) there.0 ∙ absent ws b h.1 ]
+absent (w ∷ ws) b h = elim (eqb_tells b w.0) [ inl here ↦ absurd (h.0 here.1) | inr there ↦ ap (λ x. cond x (Some w.1) (write_of ws b)) there.0 ∙ absent ws b h.1 ]
 
 -- a block that a write names has the value of that write
-placed-named : {X : Type 0} (value : ℕ × Option ℕ → X) (xs : List X) (ws : Commit) (b : ℕ) (d : X) (p : Option ℕ) → Once ws → b < length xs → said ws b ≡ Some p
+placed-named : {X : Type 0} (value : ℕ × Option ℕ → X) (xs : List X) (ws : Commit) (b : ℕ) (d : X) (p : Option ℕ) → Once ws → b < length xs → write_of ws b ≡ Some p
     → get_or (placed value xs ws) b d ≡ value (b, p)
 unfolding placed
 placed-named value xs [] b d p once below some = absurd (cc)
 placed-named value xs (w ∷ ws) b d p once below some =
     elim (eqb_tells b w.0) [
       | inl here ↦
-          let is : Some w.1 ≡ Some p = sym (ap (λ x. cond x (Some w.1) (said ws b)) here.0) ∙ some in
-          let none : said ws b ≡ None = absent ws b (subst (λ (x : ℕ). AllByRecursion (λ v. x ≢ v.0) ws) (sym here.1) once.0) in
+          let is : Some w.1 ≡ Some p = sym (ap (λ x. cond x (Some w.1) (write_of ws b)) here.0) ∙ some in
+          let none : write_of ws b ≡ None = absent ws b (subst (λ (x : ℕ). AllByRecursion (λ v. x ≢ v.0) ws) (sym here.1) once.0) in
           let what : w.1 ≡ p = cc in
           let same : w ≡ (b, p) = ap (λ (x : ℕ). (x, w.1)) (sym here.1) ∙ ap (λ (y : Option ℕ). (b, y)) what in
           placed-other value (slice_set xs w.0 (value w)) ws b d none
           ∙ (subst (λ (x : ℕ). get_or (slice_set xs x (value w)) b d ≡ value w) here.1 (get_or-set_same xs b (value w) d below) ∙ ap value same)
       | inr there ↦
-          placed-named value (slice_set xs w.0 (value w)) ws b d p once.1 (simp length-set below) (sym (ap (λ x. cond x (Some w.1) (said ws b)) there.0) ∙ some)
+          placed-named value (slice_set xs w.0 (value w)) ws b d p once.1 (simp length-set below) (sym (ap (λ x. cond x (Some w.1) (write_of ws b)) there.0) ∙ some)
     ]
 
 -- the plan after the writes stands for what it stood for and then the writes
@@ -78,34 +78,34 @@ placed-adds old writes periods versions fits = record {
   pit = refl;
   stands = λ commits st. record {
     count = simp length-append (omega (arith, st.count));
-    period = λ b below. by-period commits st b below (said writes b) refl;
-    version = λ b below. by-version commits st b below (said writes b) refl;
+    period = λ b below. by-period commits st b below (write_of writes b) refl;
+    version = λ b below. by-version commits st b below (write_of writes b) refl;
   };
 }
   where
-    by-period : (commits : List Commit) → StandsFor old commits → (b : ℕ) → b < old.pit.blocks → (x : Option (Option ℕ)) → said writes b ≡ x
-        → get_or (placed (λ w. w.1) old.periods writes) b None ≡ held (commits ++ writes ∷ []) b
+    by-period : (commits : List Commit) → StandsFor old commits → (b : ℕ) → b < old.pit.blocks → (x : Option (Option ℕ)) → write_of writes b ≡ x
+        → get_or (placed (λ w. w.1) old.periods writes) b None ≡ held_period (commits ++ writes ∷ []) b
     by-period commits st b below None is =
-        placed-other (λ w. w.1) old.periods writes b None is ∙ (st.period b below ∙ sym (held-push commits writes b ∙ ap (λ y. unwrap_or y (held commits b)) is))
+        placed-other (λ w. w.1) old.periods writes b None is ∙ (st.period b below ∙ sym (held_period-push commits writes b ∙ ap (λ y. unwrap_or y (held_period commits b)) is))
     by-period commits st b below (Some p) is =
         placed-named (λ w. w.1) old.periods writes b None p (once-from_pairs writes fits.once) (omega (arith, below, periods)) is
-        ∙ sym (held-push commits writes b ∙ ap (λ y. unwrap_or y (held commits b)) is)
+        ∙ sym (held_period-push commits writes b ∙ ap (λ y. unwrap_or y (held_period commits b)) is)
 
-    by-version : (commits : List Commit) → StandsFor old commits → (b : ℕ) → b < old.pit.blocks → (x : Option (Option ℕ)) → said writes b ≡ x
-        → get_or (placed (λ w. old.commits + 1) old.versions writes) b 0 ≡ last (commits ++ writes ∷ []) b
+    by-version : (commits : List Commit) → StandsFor old commits → (b : ℕ) → b < old.pit.blocks → (x : Option (Option ℕ)) → write_of writes b ≡ x
+        → get_or (placed (λ w. old.commits + 1) old.versions writes) b 0 ≡ last_number (commits ++ writes ∷ []) b
     by-version commits st b below None is =
         placed-other (λ w. old.commits + 1) old.versions writes b 0 is
-        ∙ (st.version b below ∙ sym (last-push commits writes b ∙ ap (λ y. cond (is_some y) (length commits + 1) (last commits b)) is))
+        ∙ (st.version b below ∙ sym (last_number-push commits writes b ∙ ap (λ y. cond (is_some y) (length commits + 1) (last_number commits b)) is))
     by-version commits st b below (Some p) is =
         placed-named (λ w. old.commits + 1) old.versions writes b 0 p (once-from_pairs writes fits.once) (omega (arith, below, versions)) is
-        ∙ (omega (arith, st.count) ∙ sym (last-push commits writes b ∙ ap (λ y. cond (is_some y) (length commits + 1) (last commits b)) is))
+        ∙ (omega (arith, st.count) ∙ sym (last_number-push commits writes b ∙ ap (λ y. cond (is_some y) (length commits + 1) (last_number commits b)) is))
 
 -- a pit without a period for any block
 pub nothing-stands : (pit : Pit) → StandsFor (record { pit = pit; commits = 0; periods = replicate pit.blocks None; versions = replicate pit.blocks 0 }) []
 nothing-stands pit = record {
   count = refl;
-  period = λ b below. get_or-replicate pit.blocks b None None below ∙ sym (held-nil b);
-  version = λ b below. get_or-replicate pit.blocks b 0 0 below ∙ sym (last-nil b);
+  period = λ b below. get_or-replicate pit.blocks b None None below ∙ sym (held_period-nil b);
+  version = λ b below. get_or-replicate pit.blocks b 0 0 below ∙ sym (last_number-nil b);
 }
 
 -- of two writes at one place the second stands

@@ -11,7 +11,7 @@ use Rattle.std.proofs.lemmas.List.{take_all}
 use Rattle.std.specs.Int.{w128}
 use Rattle.std.specs.Prelude.{IfNone, IfSome, FitsSigned}
 use Rattle.pit_model.specs.Pit.{Pit, IsSound, upper_of}
-use Rattle.pit_plan.specs.Schedule.{Commit, by_block, coef_of, load_of, said, in_order, is_within}
+use Rattle.pit_plan.specs.Schedule.{Commit, by_block, coef_of, load_of, write_of, in_order, is_within}
 use Rattle.pit_plan.specs.Totals.{Tallied, IsTally, AreLoads, MovesOne, moved_by, with_block}
 use Rattle.pit_plan.specs.Touched.{over, load_over, lesser_of, IsNamed, IsOut, IsOutNear, IsOverAt, IsLeastPair, IsLeastOver, AreMoved}
 use Rattle.pit_plan.specs.Breaches.{IsOrdered, IsUnderLimits, IsFirstOutOfOrder, IsFirstOver, IsFirstBreach}
@@ -108,10 +108,10 @@ kept-over {X = X} before pairs k none = by (lookup (nat_eq k) pairs) none
 -- where no block is written no pair is out of order that wasn't
 near-out : (pit : Pit) (s : ℕ → Option ℕ) (writes : Commit) (b a : ℕ) → IsOrdered pit s → IsOut pit (over s writes) b a → IsOutNear pit (over s writes) writes b a
 near-out pit s writes b a ordered out =
-    elim (cases_Bool (is_some (said writes b))) [
+    elim (cases_Bool (is_some (write_of writes b))) [
       | inl named ↦ (out, inl named)
       | inr kept ↦
-          elim (cases_Bool (is_some (said writes a))) [
+          elim (cases_Bool (is_some (write_of writes a))) [
             | inl named ↦ (out, inr named)
             | inr also ↦
                 let old : in_order (s b) (s a) ≡ false =

@@ -1,7 +1,7 @@
 -- When a schedule is good, and what its first breach is.
 use Rattle.std.specs.Prelude.{◌≡◌, ℕ, ◌<◌, ◌⊎◌, ℤ, true, false, List, Option, Some, None}
 use Rattle.pit_model.specs.Pit.{Pit}
-use Rattle.pit_plan.specs.Schedule.{Commit, held, limit_of, load_of, in_order, is_within, IsPred}
+use Rattle.pit_plan.specs.Schedule.{Commit, held_period, limit_of, load_of, in_order, is_within, IsPred}
 use Rattle.pit_plan.specs.Standing.{Standing, StandsFor}
 use Rattle.pit_plan.specs.declared.breach.Breach.{Breach}
 use Rattle.pit_plan.specs.declared.breach.Breach.TheVariants.{Precedence, Over}
@@ -45,11 +45,11 @@ IsFirstBreach pit schedule limit (Some (Over resource period load top)) = IsFirs
 
 -- what the commits leave is good
 abbrev pub AreGood : Pit → List Commit → Type 0
-AreGood pit commits = IsGood pit (held commits) (limit_of pit commits)
+AreGood pit commits = IsGood pit (held_period commits) (limit_of pit commits)
 
 -- the first breach of what the commits leave
 abbrev pub IsBreachOf : Pit → List Commit → Option Breach → Type 0
-IsBreachOf pit commits breach = IsFirstBreach pit (held commits) (limit_of pit commits) breach
+IsBreachOf pit commits breach = IsFirstBreach pit (held_period commits) (limit_of pit commits) breach
 
 -- no plan that stands as this one does has a breach
 abbrev pub IsGoodNow : Standing → Type 0

@@ -9,21 +9,21 @@ abbrev pub Commit : Type 0
 Commit = List (ℕ × Option ℕ)
 
 -- what a commit says of a block, if it names it
-abbrev pub said : Commit → ℕ → Option (Option ℕ)
-said commit b = lookup (nat_eq b) commit
+abbrev pub write_of : Commit → ℕ → Option (Option ℕ)
+write_of commit b = lookup (nat_eq b) commit
 
 -- what the last commit that names the block says, and none if no commit names it
-unfoldable pub held : List Commit → ℕ → Option ℕ
-held commits b = fold (λ before commit. unwrap_or (said commit b) before) None commits
+unfoldable pub held_period : List Commit → ℕ → Option ℕ
+held_period commits b = fold (λ before commit. unwrap_or (write_of commit b) before) None commits
 
 -- the number of the last commit that names the block, where n commits and a last one were before
-abbrev pub last_after : ℕ → ℕ → List Commit → ℕ → ℕ
-last_after n found [] b = found
-last_after n found (commit ∷ commits) b = last_after (n + 1) (if is_some (said commit b) then n + 1 else found) commits b
+abbrev pub last_number_after : ℕ → ℕ → List Commit → ℕ → ℕ
+last_number_after n found [] b = found
+last_number_after n found (commit ∷ commits) b = last_number_after (n + 1) (if is_some (write_of commit b) then n + 1 else found) commits b
 
 -- its number, counted from 1, and 0 if no commit names the block
-unfoldable pub last : List Commit → ℕ → ℕ
-last commits b = last_after 0 0 commits b
+unfoldable pub last_number : List Commit → ℕ → ℕ
+last_number commits b = last_number_after 0 0 commits b
 
 -- the period of a block, by a list that has a period or none for each
 abbrev pub by_block : List (Option ℕ) → ℕ → Option ℕ

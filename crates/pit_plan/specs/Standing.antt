@@ -1,7 +1,7 @@
 -- What contracts see of a plan.
 use Rattle.std.specs.Prelude.{◌≡◌, ◌≢◌, ℕ, ◌<◌, List, [], ◌∷◌, ◌++◌, length, Option, slice_index_or, All, AllPairs, IfSome}
 use Rattle.pit_model.specs.Pit.{Pit}
-use Rattle.pit_plan.specs.Schedule.{Commit, by_block, held, last}
+use Rattle.pit_plan.specs.Schedule.{Commit, by_block, held_period, last_number}
 
 -- a plan: its pit, the number of commits, and for each block its period and the number of the last commit that named it
 pub record Standing : Type 0 where
@@ -19,8 +19,8 @@ version_of plan b = slice_index_or plan.versions b 0
 -- the plan is what the commits leave
 pub record StandsFor (plan : Standing) (commits : List Commit) : Type 0 where
   pub count : plan.commits ≡ length commits
-  pub period : (b : ℕ) → b < plan.pit.blocks → period_of plan b ≡ held commits b
-  pub version : (b : ℕ) → b < plan.pit.blocks → version_of plan b ≡ last commits b
+  pub period : (b : ℕ) → b < plan.pit.blocks → period_of plan b ≡ held_period commits b
+  pub version : (b : ℕ) → b < plan.pit.blocks → version_of plan b ≡ last_number commits b
 
 -- writes that name blocks and periods of the pit, and no block twice
 pub record Fits (pit : Pit) (writes : Commit) : Type 0 where

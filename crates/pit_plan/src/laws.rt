@@ -1,16 +1,16 @@
 //! Laws of the definitions, each as the contract of a function that does nothing.
 ghost use Rattle.std.specs.Prelude.{◌≡◌, ℕ, ℤ, ◌+◌, ◌++◌, ◌∷◌, [], List, length, Option, None, unwrap_or, is_some, if◌then◌else◌};
 ghost use Rattle.pit_model.specs.Pit.{Pit};
-ghost use Rattle.pit_plan.specs.Schedule.{Commit, said, held, last};
+ghost use Rattle.pit_plan.specs.Schedule.{Commit, write_of, held_period, last_number};
 ghost use Rattle.pit_plan.specs.Breaches.{IsFirstBreach};
 ghost use Rattle.pit_plan.specs.declared.breach.Breach.{Breach};
 
 /// A law of commits: what none leaves, and what one more at the end changes.
 pub fn commits_follow()
-    ensures held_none { (b : ℕ) → held [] b ≡ None }
-    ensures held_more { (commits : List Commit) (commit : Commit) (b : ℕ) → held (commits ++ commit ∷ []) b ≡ unwrap_or (said commit b) (held commits b) }
-    ensures last_none { (b : ℕ) → last [] b ≡ 0 }
-    ensures last_more { (commits : List Commit) (commit : Commit) (b : ℕ) → last (commits ++ commit ∷ []) b ≡ (if is_some (said commit b) then length commits + 1 else last commits b) }
+    ensures held_none { (b : ℕ) → held_period [] b ≡ None }
+    ensures held_more { (commits : List Commit) (commit : Commit) (b : ℕ) → held_period (commits ++ commit ∷ []) b ≡ unwrap_or (write_of commit b) (held_period commits b) }
+    ensures last_none { (b : ℕ) → last_number [] b ≡ 0 }
+    ensures last_more { (commits : List Commit) (commit : Commit) (b : ℕ) → last_number (commits ++ commit ∷ []) b ≡ (if is_some (write_of commit b) then length commits + 1 else last_number commits b) }
 {}
 
 /// A law of breaches: each schedule is good or has a first breach, and never both, nor two of them.

@@ -1,5 +1,5 @@
 ghost use Rattle.std.specs.Prelude.{◌≡◌, ◌<◌, ◌++◌, ◌∷◌, [], List, IfOk, IfErr, OnOk, OnErr, IsOk, length, replicate, All};
-ghost use Rattle.pit_plan.specs.Schedule.{Commit, held, load_of, value_of};
+ghost use Rattle.pit_plan.specs.Schedule.{Commit, held_period, load_of, value_of};
 ghost use Rattle.pit_plan.specs.Standing.{StandsFor, period_of, version_of, Fits, Adds};
 ghost use Rattle.pit_plan.specs.InsidePlan.{placed};
 ghost use Rattle.pit_plan.specs.Totals.{IsTally};
@@ -99,7 +99,7 @@ impl<A: Allocator + Copy + Drop> Plan<A> {
         requires resource { r < self.now.pit.resources }
         requires period { t < self.now.pit.periods }
         ensures { (commits : List Commit) → StandsFor self.now commits
-            → result ≡ load_of self.now.pit (held commits) r t }
+            → result ≡ load_of self.now.pit (held_period commits) r t }
     {
         schedule::load(&self.pit, &self.tally, r, t)
     }
@@ -107,7 +107,7 @@ impl<A: Allocator + Copy + Drop> Plan<A> {
     /// The discounted profit, in units of 10^-18, which is exact.
     pub fn value(&self) -> i128
         ensures { (commits : List Commit) → StandsFor self.now commits
-            → result ≡ value_of self.now.pit (held commits) }
+            → result ≡ value_of self.now.pit (held_period commits) }
     {
         self.tally.worth
     }
@@ -149,7 +149,7 @@ impl<A: Allocator + Copy + Drop> Plan<A> {
     /// Each load that is below its lower limit, by rising period, and in it by rising resource.
     pub fn shortfalls(&self) -> Result<Vec<Short, A>, NoMemory>
         ensures { IfOk result (λ shorts. (commits : List Commit) → StandsFor self.now commits
-            → shorts.items ≡ shortfalls_of self.now.pit (held commits)) }
+            → shorts.items ≡ shortfalls_of self.now.pit (held_period commits)) }
     {
         schedule::shortfalls(*self.versions.allocator(), &self.pit, &self.tally)
     }
