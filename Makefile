@@ -1,10 +1,14 @@
-# make demo    proves and builds ./pit where a source is newer than it, and runs it on the small example
-# make pit     builds alone
-# make test    the whole gate: every proof, test, must-fail edit and stored run, from nothing
-# make clean   removes what was built
-.PHONY: demo test clean
+# make demo           proves and builds ./pit where a source is newer than it, and runs it on the small example
+# make pit            builds alone
+# make check CRATE=C  proves the crate C, over what earlier checks kept: seconds after an edit
+# make test           the whole gate: every proof, test, must-fail edit and stored run, from nothing; then the shell tests of the program
+# make audit          what the gate leaves out, on a copy of the tree: further edits, planted bodies, further tests. Takes hours
+# make clean          removes what was built
+.PHONY: demo check test audit clean
 
 EXAMPLE := examples/tiny
+# What the gate builds last of all, from what it has proved.
+PROVED := crates/pit/out/pit
 
 SOURCES := crates.txt $(shell find crates -name out -prune -o -type f '(' -name '*.rt' -o -name '*.antt' ')' -print)
 
@@ -17,8 +21,16 @@ pit: $(SOURCES)
 	cd crates/pit && rt run -- value data/tiny.cpit data/tiny.sol
 	cp crates/pit/out/pit $@
 
+check:
+	cd crates/$(CRATE) && rt check
+
 test:
 	rt ci
+	tests/cli.sh $(PROVED)
+	tests/no_memory.sh $(PROVED) $(EXAMPLE)
+
+audit:
+	audit/run.sh
 
 clean:
 	rm -rf pit crates/*/out

@@ -1,0 +1,69 @@
+#!/usr/bin/env bash
+# What the gate leaves out, tried on a copy of the tree: further edits, each of which the prover has to refuse; planted wrong bodies, of
+# which only the listed ones may meet their contracts; and further tests. Each line that is not as it should be begins with FAIL.
+# usage: audit/run.sh [edits|plants|tests] [CRATE..]      Without a word all three, of each crate: hours. Wants the toolchain.
+set -u
+cd "$(dirname "$0")/.." || exit 2
+top=$PWD
+parts=(edits plants tests)
+case ${1:-} in
+    edits | plants | tests) parts=("$1") && shift ;;
+esac
+wanted=" $* "
+tree=$(mktemp -d)
+trap 'rm -rf "$tree"' EXIT
+git ls-files -z --cached --others --exclude-standard | xargs -0 cp --parents -t "$tree" || exit 2
+failures=0
+
+# is_wanted CRATE: no crate was named, or this one was.
+is_wanted() { [ "$wanted" = '  ' ] || [[ $wanted == *" $1 "* ]]; }
+
+fail() {
+    echo "FAIL  $1"
+    failures=$((failures + 1))
+}
+
+# edits CRATE: each edit of audit/edits/CRATE is refused.
+edits() {
+    [ -d "$top/audit/edits/$1" ] || return
+    rm -rf "$tree/crates/$1/must-fail"
+    cp -r "$top/audit/edits/$1" "$tree/crates/$1/must-fail"
+    (cd "$tree" && rt must-fail "$1") || fail "edits of $1"
+}
+
+# plants CRATE: what `rt plant` lists, without line numbers, is what audit/plants/CRATE.txt lists.
+plants() {
+    local listed=$top/audit/plants/$1.txt found=$tree/plants.txt
+    (cd "$tree/crates/$1" && rt plant --max 2000 --minutes 60) >"$tree/said.txt" || fail "planting in $1"
+    tail -n 1 "$tree/said.txt"
+    grep -q '^note: some plants may not have been tried' "$tree/said.txt" && fail "plants of $1: not all were tried"
+    grep -E '^(proves|no-ensures|untested) ' "$tree/said.txt" | sed -E 's/:[0-9]+//g; s/ +/ /g' | sort >"$found"
+    touch "$tree/none"
+    [ -f "$listed" ] || listed=$tree/none
+    diff <(grep -v '^#' "$listed" | sort) "$found" || fail "plants of $1: < is listed and was not found, > was found and is not listed"
+}
+
+# tests CRATE: the tests of audit/tests/CRATE pass beside those of the crate.
+tests() {
+    local from=$top/audit/tests/$1 file
+    [ -d "$from" ] || return
+    for file in "$from"/*.txt; do
+        cp "$file" "$tree/crates/$1/src/tests/$(basename "$file" .txt).rt"
+        echo "mod $(basename "$file" .txt);" >>"$tree/crates/$1/src/tests.rt"
+    done
+    (cd "$tree/crates/$1" && rt test) || fail "tests of $1"
+}
+
+for part in "${parts[@]}"; do
+    for folder in crates/*/; do
+        crate=$(basename "$folder")
+        is_wanted "$crate" || continue
+        echo "== $part of $crate"
+        "$part" "$crate"
+    done
+done
+if [ "$failures" -ne 0 ]; then
+    echo "$failures failed"
+    exit 1
+fi
+echo 'all fine'
