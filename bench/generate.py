@@ -3,8 +3,10 @@
 
 usage: bench/generate.py PREFIX NX NY NZ PERIODS SEED [REACH]      writes PREFIX.cpit and PREFIX.sol
 
-Each block has a profit and coefficients for two resources. With REACH it writes PREFIX.prec and PREFIX.blocks too: a block has to be mined
-after those of the bench above that are at most REACH blocks away in either direction. The same words always make the same files.
+Each block has a profit, and coefficients for two resources: tonnes moved, and tonnes milled where it is ore. In each period the upper limits
+are 2 % above what the solution takes, and in each but the last the mill wants half of that at least; so the limits bind: the solution meets
+them, and few further blocks go into a period. With REACH it writes PREFIX.prec and PREFIX.blocks too: a block has to be mined after those of
+the bench above that are at most REACH blocks away in either direction. The same words always make the same files.
 """
 import random
 import sys
@@ -17,6 +19,7 @@ def main():
     nx, ny, nz, periods, seed = (int(word) for word in sys.argv[2:7])
     blocks = nx * ny * nz
     draw = random.Random(seed)
+    loads = [[0, 0] for _ in range(periods)]
     with open(prefix + ".cpit", "w", encoding="ascii", newline="\n") as model:
         model.write(
             f"NAME: {nx} by {ny} by {nz}\nTYPE: CPIT\nNBLOCKS: {blocks}\nNPERIODS: {periods}\n"
@@ -30,23 +33,31 @@ def main():
             model.write(f"{block} {cents / 100:.2f}\n")
         model.write("RESOURCE_CONSTRAINT_COEFFICIENTS:\n")
         for block, (mass, ore) in enumerate(tonnes):
+            period = period_of(block, nx * ny, nz, periods)
             model.write(f"{block} 0 {mass}\n")
             if ore:
                 model.write(f"{block} 1 {mass}\n")
+            if period < periods:
+                loads[period][0] += mass
+                loads[period][1] += mass * ore
         model.write("RESOURCE_CONSTRAINT_LIMITS:\n")
-        for period in range(periods):
-            model.write(f"0 {period} L 999999999999\n1 {period} L 999999999999\n")
+        for period, (moved, milled) in enumerate(loads):
+            least = 0 if period + 1 == periods else milled // 2
+            model.write(f"0 {period} L {moved * 51 // 50}\n1 {period} I {least} {milled * 51 // 50}\n")
         model.write("EOF\n")
     with open(prefix + ".sol", "w", encoding="ascii", newline="\n") as solution:
-        bench = nx * ny
         for block in range(blocks):
-            # The top bench has the highest number and goes first; the deepest tenth stays.
-            depth = nz - 1 - block // bench
-            period = depth * periods * 10 // (nz * 9)
+            period = period_of(block, nx * ny, nz, periods)
             if period < periods:
                 solution.write(f"{block} {period}\n")
     if len(sys.argv) == 8:
         write_order(prefix, nx, ny, nz, int(sys.argv[7]))
+
+
+def period_of(block, bench, nz, periods):
+    """The period of a block, past the last one where it stays: the top bench has the highest number and goes first; the deepest tenth stays."""
+    depth = nz - 1 - block // bench
+    return depth * periods * 10 // (nz * 9)
 
 
 def write_order(prefix, nx, ny, nz, reach):

@@ -1,0 +1,3 @@
+% All is in order, but nothing is mined in period 1.
+0 0
+1 0
