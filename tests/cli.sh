@@ -171,6 +171,14 @@ compare 'both forms of help say the same' 0 '' ''
 status=0
 grep -q 'MineLib' asked && grep -q 'BLOCK PERIOD' asked && grep -q '^ *pit value ' asked || status=lacking
 compare 'help on value tells the formats and an example' 0 '' ''
+check 'help on check' 0 "$SOME" '' check --help
+status=0
+grep -q 'over RESOURCE PERIOD LOAD LIMIT' out && grep -q 'numbered' out && grep -q '^Status: 0 ' out || status=lacking
+: >out
+compare 'help on check tells what is printed, and the statuses' 0 '' ''
+check 'version' 0 'pit 0.1.0' '' --version
+check 'version, short' 0 'pit 0.1.0' '' -V
+check 'version of a subcommand' 2 '' "$SOME" value --version
 
 # Want of memory: the model is larger than the memory that the program may take.
 truncate -s 512M large

@@ -1,7 +1,7 @@
 #!/usr/bin/env bash
 # Refuses each request of a built `pit` for memory in turn, those of the command line's parser too. A run with a refused
 # request has to print `pit: no memory` alone, with status 3, or to end as the run in which nothing is refused.
-# usage: tests/no_memory.sh PIT FOLDER      PIT is the path of the program, FOLDER has tiny.cpit and tiny.sol. Wants a C compiler.
+# usage: tests/no_memory.sh PIT FOLDER      PIT is the path of the program, FOLDER has the small example. Wants a C compiler.
 set -u
 
 if [ $# -ne 2 ] || [ ! -x "$1" ] || [ ! -r "$2/tiny.cpit" ]; then
@@ -64,9 +64,13 @@ each() {
 }
 
 each 'value' value "$data/tiny.cpit" "$data/tiny.sol"
+each 'check' check "$data/tiny.cpit" "$data/tiny.prec" "$data/tiny.sol"
+each 'check, breach and shortfall' check "$data/tiny.cpit" "$data/tiny.prec" "$data/over.sol"
 each 'help' --help
 each 'help on value' value --help
 each 'help value' help value
+each 'help check' help check
+each 'version' --version
 each 'no words'
 each 'no such subcommand' valu
 each 'one file' value "$data/tiny.cpit"

@@ -18,16 +18,40 @@ pub const PRECEDENCE: &str = "PREC";
 /// The name of the argument for the solution.
 pub const SOLUTION: &str = "SOLUTION";
 
+/// What `--version` prints behind the program's name.
+const VERSION: &str = "0.1.0";
+
 const MODEL_HELP: &str = "The model: a CPIT model text of MineLib";
 
 const PRECEDENCE_HELP: &str =
     "The precedences: a line `BLOCK COUNT PREDECESSOR..` for each block that has predecessors";
 
-const SOLUTION_HELP: &str = "The solution: a line `BLOCK PERIOD` for each block that is mined";
+const SOLUTION_HELP: &str =
+    "The solution: a line `BLOCK PERIOD`, or `BLOCK DESTINATION PERIOD PART`, for each block that is mined";
 
-const VALUE_EXAMPLE: &str = "Example:\n  pit value tiny.cpit tiny.sol";
+const PIT_NOTES: &str = "\
+Blocks, periods and resources are numbered from 0. The model's discount rate is a fraction: 0.1 is 10 % a period.
+A section or key of the model that is misspelt is skipped. docs/FORMATS.md has every form and fault line.
 
-const CHECK_EXAMPLE: &str = "Example:\n  pit check tiny.cpit tiny.prec tiny.sol";
+Status: 0 where all is well, 1 where `check` printed a breach or a shortfall, 2 where an input or the command line is
+refused, 3 where memory or a device is wanting. Of 2 and 3 a line on standard error says why.";
+
+const VALUE_NOTES: &str = "\
+Prints the sum of the profits, each times the factor of its period, with 18 digits. Blocks and periods are numbered
+from 0; a DESTINATION is 0, and a PART is 0 or 1.
+
+Example:
+  pit value tiny.cpit tiny.sol";
+
+const CHECK_NOTES: &str = "\
+Prints `value V`; then the first breach, if there is one: `precedence BLOCK PREDECESSOR`, or else
+`over RESOURCE PERIOD LOAD LIMIT`; then `short RESOURCE PERIOD LOAD LIMIT` for each load below its lower limit; and `fine`
+where there was neither. Blocks, periods and resources are numbered from 0; a DESTINATION is 0, and a PART is 0 or 1.
+
+Status: 0 where it printed `fine`, 1 where it printed a breach or a shortfall.
+
+Example:
+  pit check tiny.cpit tiny.prec tiny.sol";
 
 /// The words of the command line, the program's name first.
 pub fn words(rt: &HostRuntime) -> Result<Vec<String>, Fault> {
@@ -45,6 +69,8 @@ pub fn words(rt: &HostRuntime) -> Result<Vec<String>, Fault> {
 pub fn command<'a>(alloc: Global) -> Result<Command<'a>, AllocError> {
     Command::new(alloc, "pit")
         .about("Values and checks schedules of open pit mines")
+        .version(VERSION)
+        .after_help(PIT_NOTES)
         .subcommand_required(true)
         .subcommand(value_command(alloc)?)?
         .subcommand(check_command(alloc)?)
@@ -53,7 +79,7 @@ pub fn command<'a>(alloc: Global) -> Result<Command<'a>, AllocError> {
 fn value_command<'a>(alloc: Global) -> Result<Command<'a>, AllocError> {
     Command::new(alloc, "value")
         .about("Prints the discounted value of a solution")
-        .after_help(VALUE_EXAMPLE)
+        .after_help(VALUE_NOTES)
         .arg(file(alloc, MODEL, MODEL_HELP))?
         .arg(file(alloc, SOLUTION, SOLUTION_HELP))
 }
@@ -61,7 +87,7 @@ fn value_command<'a>(alloc: Global) -> Result<Command<'a>, AllocError> {
 fn check_command<'a>(alloc: Global) -> Result<Command<'a>, AllocError> {
     Command::new(alloc, "check")
         .about("Prints the value of a solution, its first breach and its shortfalls")
-        .after_help(CHECK_EXAMPLE)
+        .after_help(CHECK_NOTES)
         .arg(file(alloc, MODEL, MODEL_HELP))?
         .arg(file(alloc, PRECEDENCE, PRECEDENCE_HELP))?
         .arg(file(alloc, SOLUTION, SOLUTION_HELP))
