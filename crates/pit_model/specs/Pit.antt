@@ -4,6 +4,7 @@ use Rattle.std.specs.Int.{int_min, int_max}
 use Rattle.std.specs.List.{All, filter, list_any, range_with_len}
 use Rattle.std.specs.List.Sorted.{IsStrictlyIncreasing}
 use Rattle.pit_num.specs.Factor.{factor}
+use Rattle.pit_num.specs.Least.{ComesBefore, IsLeastOf}
 use Rattle.pit_num.specs.Within.{IsWithin}
 
 -- the facts of a pit; each list that is by block has one item for each block
@@ -49,12 +50,12 @@ succs_in preds block = filter (λ later. list_any (λ a. a == block) (preds_in p
 abbrev pub succs_of : Pit → ℕ → List ℕ
 succs_of pit block = succs_in pit.preds block
 
--- where the bounds of a resource in a period stand
-abbrev pub bound_place : Pit → ℕ → ℕ → ℕ
-bound_place pit resource period = period * pit.resources + resource
+-- the cell of a resource in a period: by period, and in it by resource
+abbrev pub cell_of : Pit → ℕ → ℕ → ℕ
+cell_of pit resource period = period * pit.resources + resource
 
 abbrev pub bounds_of : Pit → ℕ → ℕ → Option ℤ × Option ℤ
-bounds_of pit resource period = slice_index_or pit.bounds (bound_place pit resource period) (None, None)
+bounds_of pit resource period = slice_index_or pit.bounds (cell_of pit resource period) (None, None)
 
 abbrev pub lower_of : Pit → ℕ → ℕ → Option ℤ
 lower_of pit resource period = (bounds_of pit resource period).0
@@ -70,23 +71,13 @@ abbrev pub is_below_zero : Option ℤ → Bool
 is_below_zero None = false
 is_below_zero (Some bound) = int_lt bound (pos 0)
 
--- no upper bound of the period is below zero
-abbrev pub IsMeetableIn : Pit → ℕ → Type 0
-IsMeetableIn pit period = (resource : ℕ) → resource < pit.resources → is_below_zero (upper_of pit resource period) ≡ false
+-- a period and a resource, both in range, whose upper bound is below zero
+abbrev pub IsUnmeetable : Pit → ℕ × ℕ → Type 0
+IsUnmeetable pit pair = (pair.0 < pit.periods) × (pair.1 < pit.resources) × (is_below_zero (upper_of pit pair.1 pair.0) ≡ true)
 
--- the least resource whose upper bound in the period is below zero
-pub record IsFirstUnmeetableIn (pit : Pit) (period found : ℕ) : Type 0 where
-  pub resource : found < pit.resources
-  pub below : is_below_zero (upper_of pit found period) ≡ true
-  pub beside : (resource : ℕ) → resource < found → is_below_zero (upper_of pit resource period) ≡ false
-
--- a resource and a period, both in range, whose upper bound is below zero, and no lesser (period, resource) has such a one
-pub record IsFirstUnmeetable (pit : Pit) (found : ℕ × ℕ) : Type 0 where
-  pub resource : found.0 < pit.resources
-  pub period : found.1 < pit.periods
-  pub below : is_below_zero (upper_of pit found.0 found.1) ≡ true
-  pub before : (resource period : ℕ) → resource < pit.resources → period < found.1 → is_below_zero (upper_of pit resource period) ≡ false
-  pub beside : (resource : ℕ) → resource < found.0 → is_below_zero (upper_of pit resource found.1) ≡ false
+-- the resource and the period of the least such pair
+abbrev pub IsFirstUnmeetable : Pit → ℕ × ℕ → Type 0
+IsFirstUnmeetable pit found = IsLeastOf ComesBefore (IsUnmeetable pit) (found.1, found.0)
 
 abbrev pub IsMeetable : Pit → Type 0
 IsMeetable pit = (resource period : ℕ) → resource < pit.resources → period < pit.periods → is_below_zero (upper_of pit resource period) ≡ false
@@ -144,7 +135,7 @@ narrowed bounds lo hi = (tighter int_max bounds.0 lo, tighter int_min bounds.1 h
 
 abbrev pub with_limit : Pit → ℕ → ℕ → Option ℤ → Option ℤ → Pit
 with_limit pit resource period lo hi =
-    record pit { bounds = slice_set pit.bounds (bound_place pit resource period) (narrowed (bounds_of pit resource period) lo hi) }
+    record pit { bounds = slice_set pit.bounds (cell_of pit resource period) (narrowed (bounds_of pit resource period) lo hi) }
 
 abbrev pub with_place : Pit → ℕ → ℤ × ℤ × ℤ → Pit
 with_place pit block place = record pit { places = slice_set pit.places block (Some place) }

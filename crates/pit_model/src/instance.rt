@@ -1,6 +1,7 @@
-ghost use Rattle.std.specs.Prelude.{◌≡◌, ◌<◌, ◌^◌, pos, ◌≤ℤ◌, MatchOption};
+ghost use Rattle.std.specs.Prelude.{◌≡◌, ◌<◌, ◌*◌, ◌^◌, pos, ◌≤ℤ◌, MatchOption};
+ghost use Rattle.pit_num.specs.Least.{IsLeast};
 ghost use Rattle.pit_num.specs.Within.{IsWithin};
-ghost use Rattle.pit_model.specs.Pit.{IsSound, profit_of, factor_of, coefs_of, preds_of, succs_of, lower_of, upper_of, place_of, IsFirstUnmeetable, IsMeetable, IsFirstUnmeetableIn, IsMeetableIn, AreCoefs, ArePreds};
+ghost use Rattle.pit_model.specs.Pit.{IsSound, profit_of, factor_of, coefs_of, preds_of, succs_of, lower_of, upper_of, cell_of, place_of, IsUnmeetable, IsFirstUnmeetable, IsMeetable, AreCoefs, ArePreds};
 
 use crate::bounds::{Bounds, bound_place, is_below_zero};
 use crate::coefficients::Coefficients;
@@ -108,6 +109,16 @@ impl<A: Allocator + Copy + Drop> Instance<A> {
         self.succs.row(b)
     }
 
+    /// The cell of a resource in a period: cells go by period, and in it by resource.
+    pub fn cell(&self, r: u32, t: u32) -> u32
+        requires resource { r < self.now.resources }
+        requires period { t < self.now.periods }
+        ensures cell { result ≡ cell_of self.now r t }
+        ensures within { result < self.now.periods * self.now.resources }
+    {
+        t * self.resources + r
+    }
+
     /// The greatest lower bound that was given for the load of a resource in a period, in millionths.
     pub fn lower(&self, r: u32, t: u32) -> Option<i64>
         requires resource { r < self.now.resources }
@@ -149,7 +160,7 @@ impl<A: Allocator + Copy + Drop> Instance<A> {
     /// The least resource whose upper bound in a period is below zero.
     fn unmeetable_in(&self, t: u32) -> Option<u32>
         requires { t < self.now.periods }
-        ensures { MatchOption result (IsMeetableIn self.now t) (IsFirstUnmeetableIn self.now t) }
+        ensures { IsLeast ◌<◌ (λ r. IsUnmeetable self.now (t, r)) result }
     {
         for r in 0..self.resources {
             if is_below_zero(self.upper(r, t)) {

@@ -7,3 +7,4 @@ pub mod Written
 pub mod Leading
 pub mod Plain
 pub mod Wholes
+pub mod CallerLemmas

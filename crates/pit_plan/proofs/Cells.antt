@@ -1,5 +1,5 @@
 -- Cells of the loads.
-use Rattle.std.proofs.Common.{◌≡◌, ◌≢◌, ℕ, suc, ◌+◌, ◌*◌, ◌<◌, Bool, true, false, ℤ, pos, ◌+ℤ◌, FitsSigned, List, length, take, get_or, Option, sym, ap, subst, ◌∙◌, arith, inl, inr}
+use Rattle.std.proofs.Common.{◌≡◌, ℕ, suc, ◌+◌, ◌*◌, ◌<◌, Bool, true, false, ℤ, pos, ◌+ℤ◌, FitsSigned, List, length, take, get_or, Option, refl, sym, ap, subst, ◌∙◌, arith, inl, inr}
 use Rattle.std.specs.Prelude.{nat_eq, slice_set, unwrap_or}
 use Rattle.std.specs.Int.{w128}
 use Rattle.std.proofs.Math.Nat.{mul-le-mul_right}
@@ -7,10 +7,10 @@ use Rattle.std.proofs.lemmas.Int.{ints}
 use Rattle.std.proofs.lemmas.List.{get_or-set_same, get_or-set_other}
 use Rattle.std.proofs.lemmas.Bool.{cond-true, cond-false}
 use Rattle.std.proofs.lemmas.Bool.Decides.{leb_tells, eqb_tells}
-use Rattle.pit_model.specs.Pit.{Pit, coefs_of}
+use Rattle.pit_model.specs.Pit.{Pit, coefs_of, cell_of}
 use Rattle.pit_plan.specs.Schedule.{coef_in, coef_of}
-use Rattle.pit_plan.specs.Totals.{load_at, moved_by, Moves, MovesOne}
-use Rattle.pit_plan.proofs.Named.{Once, absent-before, lookup-at, over-more}
+use Rattle.pit_plan.specs.Totals.{cell_load, load_at, moved_by, Moves, MovesOne, Raises}
+use Rattle.pit_plan.proofs.Named.{Once, absent-before, lookup-at, laid_over-more, same-eq, other-eq}
 
 -- another period or resource stands in another cell
 pub cells_apart : (n r q t u : ℕ) → r < n → q < n → t * n + r ≡ u * n + q → t ≡ u
@@ -27,20 +27,23 @@ cells_apart n r q t u lr lq e =
 pub same_resource : (n r q t u : ℕ) → t * n + r ≡ u * n + q → t ≡ u → q ≡ r
 same_resource n r q t u e same = omega (arith, subst (λ (k : ℕ). t * n + r ≡ k * n + q) (sym same) e)
 
-load_at-set_same : (pit : Pit) (loads : List ℤ) (r t : ℕ) (v : ℤ) → t * pit.resources + r < length loads → load_at pit (slice_set loads (t * pit.resources + r) v) r t ≡ v
-load_at-set_same pit loads r t v l = get_or-set_same loads (t * pit.resources + r) v (pos 0) l
+-- one cell of a list is set
+pub raises-set : (loads : List ℤ) (cell : ℕ) (by : ℤ) → cell < length loads → Raises (cell_load loads) cell by (cell_load (slice_set loads cell (cell_load loads cell +ℤ by)))
+raises-set loads cell by within k =
+    elim (eqb_tells cell k) [
+      | inl here ↦
+          subst (λ (n : ℕ). cell_load (slice_set loads cell (cell_load loads cell +ℤ by)) n ≡ cell_load loads cell +ℤ by) here.1 (get_or-set_same loads cell (cell_load loads cell +ℤ by) (pos 0) within)
+          ∙ sym (cond-true _ _ _ here.0)
+      | inr there ↦ get_or-set_other loads cell k (cell_load loads cell +ℤ by) (pos 0) (λ e. there.1 (sym e)) ∙ sym (cond-false _ _ _ there.0)
+    ]
 
-load_at-set_other : (pit : Pit) (loads : List ℤ) (r t q u : ℕ) (v : ℤ) → t * pit.resources + r ≢ u * pit.resources + q
-    → load_at pit (slice_set loads (t * pit.resources + r) v) q u ≡ load_at pit loads q u
-load_at-set_other pit loads r t q u v apart = get_or-set_other loads (t * pit.resources + r) (u * pit.resources + q) v (pos 0) (λ e. apart (sym e))
-
--- one cell is set
-pub one-set : (pit : Pit) (loads : List ℤ) (r t : ℕ) (by : ℤ) → r < pit.resources → t * pit.resources + r < length loads
-    → MovesOne pit.resources (load_at pit loads) r t by (load_at pit (slice_set loads (t * pit.resources + r) (load_at pit loads r t +ℤ by)))
-one-set pit loads r t by lr within = record {
-  moved = load_at-set_same pit loads r t (load_at pit loads r t +ℤ by) within;
-  others = λ q u lq apart. load_at-set_other pit loads r t q u (load_at pit loads r t +ℤ by)
-      (λ e. let same = cells_apart pit.resources r q t u lr lq e in apart (same_resource pit.resources r q t u e same, sym same));
+-- the load of one cell is that of one resource in one period
+pub moves-one : (pit : Pit) (old new : ℕ → ℤ) (r t : ℕ) (by : ℤ) → r < pit.resources → Raises old (cell_of pit r t) by new → MovesOne pit.resources (load_at pit old) r t by (load_at pit new)
+moves-one pit old new r t by lr raises = record {
+  moved = raises (cell_of pit r t) ∙ cond-true _ _ _ (same-eq (cell_of pit r t) (cell_of pit r t) refl);
+  others = λ q u lq apart.
+      raises (cell_of pit q u) ∙ cond-false _ _ _ (other-eq (cell_of pit r t) (cell_of pit q u)
+      (λ e. let same = cells_apart pit.resources r q t u lr lq e in apart (same_resource pit.resources r q t u e same, sym same)));
 }
 
 -- the first pairs of a row say nothing of the next one's resource
@@ -56,7 +59,7 @@ pub moves-more : (pit : Pit) (old : ℕ → ℕ → ℤ) (t : ℕ) (up : Bool) (
     → Moves pit old t (λ r. moved_by up (coef_in (take (k + 1) row) r)) new
 moves-more pit old t up row k d now new once within lr moves one = record {
   moved = λ r lq.
-      let more = over-more (λ _. pos 0) row k r d once within in
+      let more = laid_over-more (λ _. pos 0) row k r d once within in
       elim (eqb_tells r (get_or row k d).0) [
         | inl here ↦
             let before = none-before row k d once within in
@@ -80,7 +83,3 @@ room-more pit old now b t up k d once within lr room moves =
     let whole : coef_of pit b r ≡ (get_or row k d).1 = ap (λ (x : Option ℤ). unwrap_or x (pos 0)) (lookup-at row k d once within) in
     let now_is : now r t ≡ old r t = moves.moved r lr ∙ (ap (λ (x : ℤ). old r t +ℤ moved_by up x) (none-before row k d once within) ∙ nothing up (old r t)) in
     subst (λ (x : ℤ). FitsSigned w128 (x +ℤ moved_by up (get_or row k d).1)) (sym now_is) (subst (λ (x : ℤ). FitsSigned w128 (old r t +ℤ moved_by up x)) whole (room r lr))
-
-pub cell-is : (now new : List ℤ) (at place : ℕ) (coef by : ℤ) → at ≡ place → coef ≡ by → new ≡ slice_set now at (get_or now at (pos 0) +ℤ coef) → new ≡ slice_set now place (get_or now place (pos 0) +ℤ by)
-cell-is now new at place coef by same is set =
-    subst (λ (k : ℕ). new ≡ slice_set now k (get_or now k (pos 0) +ℤ by)) same (subst (λ (x : ℤ). new ≡ slice_set now at (get_or now at (pos 0) +ℤ x)) is set)

@@ -2,10 +2,10 @@
 use Rattle.std.proofs.Common.{◌≡◌, ℕ, suc, ◌⊎◌, Bool, true, false, cond, Option, Some, None, sym, ap, subst, ◌∙◌, arith, inl, inr}
 use Rattle.std.specs.Prelude.{nat_eq, nat_lt, ◌&&◌, ◌||◌}
 use Rattle.std.proofs.lemmas.Bool.Decides.{leb_tells, eqb_tells}
-use Rattle.pit_plan.specs.Breaches.{ComesBefore}
-use Rattle.pit_plan.specs.Touched.{comes_before, lesser_of, IsLeastPair}
+use Rattle.pit_num.specs.Least.{ComesBefore, IsLeast, IsLeastOf}
+use Rattle.pit_plan.specs.Touched.{comes_before, lesser_of}
 
-tells : (p q : ℕ × ℕ) → ((comes_before p q ≡ true) × ComesBefore p.0 p.1 q.0 q.1) ⊎ ((comes_before p q ≡ false) × (ComesBefore p.0 p.1 q.0 q.1 → ⊥))
+tells : (p q : ℕ × ℕ) → ((comes_before p q ≡ true) × ComesBefore p q) ⊎ ((comes_before p q ≡ false) × (ComesBefore p q → ⊥))
 tells p q =
     elim (leb_tells (suc p.0) q.0) [
       | inl less ↦ inl (ap (λ (b : Bool). b || (nat_eq p.0 q.0 && nat_lt p.1 q.1)) less.0, inl less.1)
@@ -26,26 +26,26 @@ tells p q =
           ]
     ]
 
-earlier : (x y b a c d : ℕ) → ComesBefore x y b a → ComesBefore b a c d → ComesBefore x y c d
-earlier x y b a c d one two =
+earlier : (p q r : ℕ × ℕ) → ComesBefore p q → ComesBefore q r → ComesBefore p r
+earlier p q r one two =
     elim one [
       | inl less ↦ elim two [ inl more ↦ inl (omega (arith, less, more)) | inr same ↦ inl (omega (arith, less, same.0)) ]
       | inr same ↦ elim two [ inl more ↦ inl (omega (arith, same.0, more)) | inr also ↦ inr (omega (arith, same.0, also.0), omega (arith, same.1, also.1)) ]
     ]
 
 -- what comes before a pair comes before one that is no lesser
-before-greater : (x y b a c d : ℕ) → ComesBefore x y b a → (ComesBefore c d b a → ⊥) → ComesBefore x y c d
-before-greater x y b a c d before not =
-    elim (leb_tells (suc x) c) [
+before-greater : (p q r : ℕ × ℕ) → ComesBefore p q → (ComesBefore r q → ⊥) → ComesBefore p r
+before-greater p q r before not =
+    elim (leb_tells (suc p.0) r.0) [
       | inl less ↦ inl less.1
       | inr above ↦
           elim before [
             | inl less ↦ absurd (not (inl (omega (arith, above.1, less))))
             | inr same ↦
-                elim (eqb_tells c b) [
+                elim (eqb_tells r.0 q.0) [
                   | inr apart ↦ absurd (not (inl (omega (arith, above.1, same.0, apart.1))))
                   | inl here ↦
-                      elim (leb_tells (suc d) a) [
+                      elim (leb_tells (suc r.1) q.1) [
                         | inl below ↦ absurd (not (inr (here.1, below.1)))
                         | inr beyond ↦ inr (omega (arith, same.0, here.1), omega (arith, same.1, beyond.1))
                       ]
@@ -54,24 +54,31 @@ before-greater x y b a c d before not =
     ]
 
 -- the lesser of the least pairs of two kinds is the least pair of either
-pub least-lesser : (P Q R : ℕ → ℕ → Type 0) (f g : Option (ℕ × ℕ)) → IsLeastPair P f → IsLeastPair Q g
-    → ((x y : ℕ) → P x y → R x y) → ((x y : ℕ) → Q x y → R x y) → ((x y : ℕ) → R x y → P x y ⊎ Q x y) → IsLeastPair R (lesser_of f g)
-least-lesser P Q R None None p q one two splits = λ x y is. elim (splits x y is) [ inl h ↦ p x y h | inr h ↦ q x y h ]
-least-lesser P Q R None (Some g) p q one two splits =
-    (two g.0 g.1 q.0, λ x y is before. elim (splits x y is) [ inl h ↦ p x y h | inr h ↦ q.1 x y h before ])
-least-lesser P Q R (Some f) None p q one two splits =
-    (one f.0 f.1 p.0, λ x y is before. elim (splits x y is) [ inl h ↦ p.1 x y h before | inr h ↦ q x y h ])
+pub least-lesser : (P Q R : ℕ × ℕ → Type 0) (f g : Option (ℕ × ℕ)) → IsLeast ComesBefore P f → IsLeast ComesBefore Q g
+    → ((x : ℕ × ℕ) → P x → R x) → ((x : ℕ × ℕ) → Q x → R x) → ((x : ℕ × ℕ) → R x → P x ⊎ Q x) → IsLeast ComesBefore R (lesser_of f g)
+least-lesser P Q R None None p q one two splits = λ x is. elim (splits x is) [ inl h ↦ p x h | inr h ↦ q x h ]
+least-lesser P Q R None (Some g) p q one two splits = record {
+  passes = two g q.passes;
+  first = λ x is before. elim (splits x is) [ inl h ↦ p x h | inr h ↦ q.first x h before ];
+}
+least-lesser P Q R (Some f) None p q one two splits = record {
+  passes = one f p.passes;
+  first = λ x is before. elim (splits x is) [ inl h ↦ p.first x h before | inr h ↦ q x h ];
+}
 least-lesser P Q R (Some f) (Some g) p q one two splits =
     elim (tells g f) [
-      | inl lesser ↦
-          subst (IsLeastPair R) (sym (ap (λ (b : Bool). cond b (Some g) (Some f)) lesser.0))
-          (two g.0 g.1 q.0, λ x y is before. elim (splits x y is) [ inl h ↦ p.1 x y h (earlier x y g.0 g.1 f.0 f.1 before lesser.1) | inr h ↦ q.1 x y h before ])
-      | inr greater ↦
-          subst (IsLeastPair R) (sym (ap (λ (b : Bool). cond b (Some g) (Some f)) greater.0))
-          (one f.0 f.1 p.0, λ x y is before. elim (splits x y is) [ inl h ↦ p.1 x y h before | inr h ↦ q.1 x y h (before-greater x y f.0 f.1 g.0 g.1 before greater.1) ])
+      | inl lesser ↦ subst (IsLeast ComesBefore R) (sym (ap (λ (b : Bool). cond b (Some g) (Some f)) lesser.0)) (of-second lesser.1)
+      | inr greater ↦ subst (IsLeast ComesBefore R) (sym (ap (λ (b : Bool). cond b (Some g) (Some f)) greater.0)) (of-first greater.1)
     ]
+  where
+    of-second : ComesBefore g f → IsLeastOf ComesBefore R g
+    of-second lesser = record {
+      passes = two g q.passes;
+      first = λ x is before. elim (splits x is) [ inl h ↦ p.first x h (earlier x g f before lesser) | inr h ↦ q.first x h before ];
+    }
 
--- of two kinds that hold of the same pairs the least pair is one
-pub least-same : (P Q : ℕ → ℕ → Type 0) (f : Option (ℕ × ℕ)) → IsLeastPair P f → ((x y : ℕ) → P x y → Q x y) → ((x y : ℕ) → Q x y → P x y) → IsLeastPair Q f
-least-same P Q None p one two = λ x y is. p x y (two x y is)
-least-same P Q (Some f) p one two = (one f.0 f.1 p.0, λ x y is before. p.1 x y (two x y is) before)
+    of-first : (ComesBefore g f → ⊥) → IsLeastOf ComesBefore R f
+    of-first greater = record {
+      passes = one f p.passes;
+      first = λ x is before. elim (splits x is) [ inl h ↦ p.first x h before | inr h ↦ q.first x h (before-greater x f g before greater) ];
+    }

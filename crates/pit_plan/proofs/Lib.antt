@@ -9,7 +9,9 @@ pub mod Cells
 pub mod Moved
 pub mod Shorts
 pub mod Same
+pub mod Good
 pub mod OneBreach
 pub mod Least
 pub mod Touched
 pub mod SomeBreach
+pub mod CallerLemmas

@@ -11,11 +11,11 @@ use Rattle.std.proofs.lemmas.Nat.{mul-add-lt}
 use Rattle.std.proofs.lemmas.Bool.Decides.{eqb_tells}
 use Rattle.pit_num.specs.Within.{IsWithin}
 use Rattle.pit_model.specs.Pit.{Pit, IsSound, coefs_of, profit_of, factor_of}
-use Rattle.pit_num.proofs.Factors.{factor_le}
+use Rattle.pit_num.proofs.CallerLemmas.{factor_le}
 use Rattle.pit_plan.proofs.Bounds.{zero-within, product-within}
 use Rattle.pit_plan.specs.Sums.{total}
 use Rattle.pit_plan.specs.Schedule.{by_block, coef_in, coef_of, share, load_of, earned_in, value_of, is_in}
-use Rattle.pit_plan.specs.Totals.{load_at, AreLoads, AreTotals, Tallied, IsTally, Moves, MovesIn, moved_by, with_block}
+use Rattle.pit_plan.specs.Totals.{cell_load, load_at, AreLoads, AreTotals, Tallied, IsTally, MovesIn, moved_by, with_block}
 use Rattle.pit_plan.proofs.Named.{same-eq, other-eq}
 use Rattle.pit_plan.proofs.Sums.{total-same, total-more, total-nothing}
 use Rattle.pit_plan.proofs.Same.{same-load, same-value}
@@ -150,7 +150,7 @@ shifted pit s b p false old new below is are moves = λ r t lr lt.
     let opposite = elim (is_in p t) as (λ x. cond x (neg_ℤ (coef_of pit b r)) (pos 0) +ℤ cond x (coef_of pit b r) (pos 0) ≡ pos 0) [ true ↦ omega (arith, ints) | false ↦ omega (arith, ints) ] in
     omega (arith, ints, changed, are r t lr lt, moved, opposite)
 
-pub room : (pit : Pit) (s : ℕ → Option ℕ) (b t r : ℕ) (up : Bool) (load : ℤ) → IsSound pit → b < pit.blocks → s b ≡ cond up None (Some t) → load ≡ load_of pit s r t
+room : (pit : Pit) (s : ℕ → Option ℕ) (b t r : ℕ) (up : Bool) (load : ℤ) → IsSound pit → b < pit.blocks → s b ≡ cond up None (Some t) → load ≡ load_of pit s r t
     → FitsSigned w128 (load +ℤ moved_by up (coef_of pit b r))
 room pit s b t r true load sound below is kept =
     let changed = load-with pit s b (Some t) None r t below is in
@@ -163,40 +163,44 @@ room pit s b t r false load sound below is kept =
     let small = load-within pit (with_block s b None) r t sound in
     omega (arith, ints, changed, share, kept, small.low, small.high, sound.few_blocks)
 
-pub taken : (pit : Pit) (s : ℕ → Option ℕ) (b t : ℕ) (old new : List ℤ) (sum less : ℤ) → b < pit.blocks → s b ≡ Some t → AreTotals pit s old sum
-    → Moves pit (load_at pit old) t (λ r. moved_by false (coef_of pit b r)) (load_at pit new) → less ≡ sum -ℤ earned_in pit b (Some t) → AreTotals pit (with_block s b None) new less
-taken pit s b t old new sum less below is are moves after = record {
-  each = shifted pit s b (Some t) false (load_at pit old) (load_at pit new) below is are.each moves;
-  value = let changed = value-with pit s b None (Some t) below is in omega (arith, ints, changed, are.value, after);
+-- so there is room for a block where it comes to, or where it leaves
+pub room-for : (pit : Pit) (s : ℕ → Option ℕ) (b : ℕ) (p : Option ℕ) (up : Bool) (loads : ℕ → ℕ → ℤ) → IsSound pit → b < pit.blocks → s b ≡ cond up None p → AreLoads pit s loads
+    → IfSome p (λ t. t < pit.periods) → IfSome p (λ t. (r : ℕ) → r < pit.resources → FitsSigned w128 (loads r t +ℤ moved_by up (coef_of pit b r)))
+room-for pit s b None up loads sound below is are in_range = tt
+room-for pit s b (Some t) up loads sound below is are in_range = λ r lr. room pit s b t r up (loads r t) sound below is (are r t lr in_range)
+
+pub taken : (pit : Pit) (s : ℕ → Option ℕ) (b : ℕ) (p : Option ℕ) (old new : List ℤ) (sum less : ℤ) → b < pit.blocks → s b ≡ p → AreTotals pit s old sum
+    → MovesIn pit (load_at pit (cell_load old)) p (λ r. moved_by false (coef_of pit b r)) (load_at pit (cell_load new)) → less ≡ sum -ℤ earned_in pit b p → AreTotals pit (with_block s b None) new less
+taken pit s b p old new sum less below is are moves after = record {
+  each = shifted pit s b p false (load_at pit (cell_load old)) (load_at pit (cell_load new)) below is are.each moves;
+  value = let changed = value-with pit s b None p below is in omega (arith, ints, changed, are.value, after);
 }
 
-pub sum-out : (pit : Pit) (s : ℕ → Option ℕ) (b t : ℕ) (sum : ℤ) → IsSound pit → b < pit.blocks → s b ≡ Some t → sum ≡ value_of pit s → FitsSigned w128 (sum -ℤ earned_in pit b (Some t))
-sum-out pit s b t sum sound below is kept =
-    let changed = value-with pit s b None (Some t) below is in
+pub sum-out : (pit : Pit) (s : ℕ → Option ℕ) (b : ℕ) (p : Option ℕ) (sum : ℤ) → IsSound pit → b < pit.blocks → s b ≡ p → sum ≡ value_of pit s → FitsSigned w128 (sum -ℤ earned_in pit b p)
+sum-out pit s b p sum sound below is kept =
+    let changed = value-with pit s b None p below is in
     let small = value-within pit (with_block s b None) sound in
     omega (arith, ints, changed, kept, small.low, small.high, sound.few_blocks)
 
-pub put : (pit : Pit) (s : ℕ → Option ℕ) (b t : ℕ) (old new : List ℤ) (sum more : ℤ) → b < pit.blocks → s b ≡ None → AreTotals pit s old sum
-    → Moves pit (load_at pit old) t (λ r. moved_by true (coef_of pit b r)) (load_at pit new) → more ≡ sum +ℤ earned_in pit b (Some t) → AreTotals pit (with_block s b (Some t)) new more
-put pit s b t old new sum more below is are moves after = record {
-  each = shifted pit s b (Some t) true (load_at pit old) (load_at pit new) below is are.each moves;
-  value = let changed = value-with pit s b (Some t) None below is in omega (arith, ints, changed, are.value, after);
+pub put : (pit : Pit) (s : ℕ → Option ℕ) (b : ℕ) (p : Option ℕ) (old new : List ℤ) (sum more : ℤ) → b < pit.blocks → s b ≡ None → AreTotals pit s old sum
+    → MovesIn pit (load_at pit (cell_load old)) p (λ r. moved_by true (coef_of pit b r)) (load_at pit (cell_load new)) → more ≡ sum +ℤ earned_in pit b p → AreTotals pit (with_block s b p) new more
+put pit s b p old new sum more below is are moves after = record {
+  each = shifted pit s b p true (load_at pit (cell_load old)) (load_at pit (cell_load new)) below is are.each moves;
+  value = let changed = value-with pit s b p None below is in omega (arith, ints, changed, are.value, after);
 }
 
-pub sum-in : (pit : Pit) (s : ℕ → Option ℕ) (b t : ℕ) (sum : ℤ) → IsSound pit → b < pit.blocks → s b ≡ None → sum ≡ value_of pit s → FitsSigned w128 (sum +ℤ earned_in pit b (Some t))
-sum-in pit s b t sum sound below is kept =
-    let changed = value-with pit s b (Some t) None below is in
-    let small = value-within pit (with_block s b (Some t)) sound in
+pub sum-in : (pit : Pit) (s : ℕ → Option ℕ) (b : ℕ) (p : Option ℕ) (sum : ℤ) → IsSound pit → b < pit.blocks → s b ≡ None → sum ≡ value_of pit s → FitsSigned w128 (sum +ℤ earned_in pit b p)
+sum-in pit s b p sum sound below is kept =
+    let changed = value-with pit s b p None below is in
+    let small = value-within pit (with_block s b p) sound in
     omega (arith, ints, changed, kept, small.low, small.high, sound.few_blocks)
 
 -- ---- tallies
 
-in_range-at : (pit : Pit) (tally : Tallied) (b : ℕ) → IsTally pit tally → b < pit.blocks → IfSome (by_block tally.periods b) (λ t. t < pit.periods)
-in_range-at pit tally b is below = is.in_range b None (omega (arith, below, is.each_period))
-
 -- the period of a block is in range
-pub period-known : (pit : Pit) (tally : Tallied) (b t : ℕ) → IsTally pit tally → b < pit.blocks → by_block tally.periods b ≡ Some t → t < pit.periods
-period-known pit tally b t is below mined = subst (λ (p : Option ℕ). IfSome p (λ u. u < pit.periods)) mined (in_range-at pit tally b is below)
+pub period-in_range : (pit : Pit) (tally : Tallied) (b : ℕ) (p : Option ℕ) → IsTally pit tally → b < pit.blocks → by_block tally.periods b ≡ p → IfSome p (λ t. t < pit.periods)
+period-in_range pit tally b p is below has =
+    subst (λ (q : Option ℕ). IfSome q (λ t. t < pit.periods)) has (is.in_range b None (omega (arith, below, is.each_period)))
 
 -- a tally with one block's period replaced, whose totals are those of the schedule
 pub tally-set : (pit : Pit) (old : Tallied) (b : ℕ) (p : Option ℕ) (loads : List ℤ) (worth : ℤ) → IsTally pit old → b < pit.blocks → IfSome p (λ t. t < pit.periods)

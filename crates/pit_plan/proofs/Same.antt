@@ -1,12 +1,14 @@
 -- Schedules that agree on all blocks are alike.
 use Rattle.std.proofs.Common.{◌≡◌, ℕ, ◌<◌, cond, ℤ, pos, List, [], ◌∷◌, ◌++◌, Option, Some, None, sym, ap, subst, ◌∙◌}
 use Rattle.std.specs.Prelude.{unwrap_or}
+use Rattle.pit_num.specs.Least.{ComesBefore}
+use Rattle.pit_num.proofs.CallerLemmas.{least-same}
 use Rattle.pit_model.specs.Pit.{Pit, IsSound, upper_of, lower_of}
 use Rattle.pit_plan.proofs.Sums.{total-same}
 use Rattle.pit_plan.specs.Schedule.{Commit, IsPred, by_block, coef_of, write_of, held_period, is_in, share, load_of, value_of, earned_in, in_order, is_within}
 use Rattle.pit_plan.specs.Standing.{Standing, StandsFor}
-use Rattle.pit_plan.specs.Breaches.{IsFirstBreach, IsOrdered, IsBreachOf, IsGood, IsGoodNow}
-use Rattle.pit_plan.specs.Touched.{over}
+use Rattle.pit_plan.specs.Breaches.{IsFirstBreach, IsOrdered, IsOutOfOrder, IsOverLimit, IsBreachOf, IsGood, IsGoodNow}
+use Rattle.pit_plan.specs.Touched.{laid_over}
 use Rattle.pit_plan.specs.Shortfalls.{short_at, shorts_in, shortfalls_of}
 use Rattle.std.specs.List.{range_with_len}
 use Rattle.pit_plan.specs.declared.short.Short.{Short}
@@ -54,20 +56,15 @@ same-breach pit s u lim None sound h f =
       within = λ t r p q. sym (under-at pit s u lim h t r) ∙ f.within t r p q;
     }
 same-breach pit s u lim (Some (Precedence block before)) sound h f =
-    record {
-      pred = f.pred;
-      fails = sym (order-at pit s u sound h block before f.pred) ∙ f.fails;
-      first = λ b a is less. sym (order-at pit s u sound h b a is) ∙ f.first b a is less;
-    }
+    least-same ComesBefore (IsOutOfOrder pit s) (IsOutOfOrder pit u) (Some (block, before)) f
+    (λ p is. (is.0, sym (order-at pit s u sound h p.0 p.1 is.0) ∙ is.1)) (λ p is. (is.0, order-at pit s u sound h p.0 p.1 is.0 ∙ is.1))
 same-breach pit s u lim (Some (Over resource period load top)) sound h f =
     record {
       ordered = same-order pit s u sound h f.ordered;
-      in_periods = f.in_periods;
-      in_resources = f.in_resources;
+      least = least-same ComesBefore (IsOverLimit pit s lim) (IsOverLimit pit u lim) (Some (period, resource)) f.least
+          (λ p is. (is.0, is.1, sym (under-at pit s u lim h p.0 p.1) ∙ is.2)) (λ p is. (is.0, is.1, under-at pit s u lim h p.0 p.1 ∙ is.2));
       load_is = f.load_is ∙ same-load pit s u resource period h;
       limit_is = f.limit_is;
-      fails = f.fails;
-      first = λ t r p q less. sym (under-at pit s u lim h t r) ∙ f.first t r p q less;
     }
 
 -- what is found of a plan's periods is found of what its commits leave
@@ -79,11 +76,11 @@ breach-of inside plan periods x is same sound first commits =
 
 -- and what is found of these with writes laid over them, where they are good, is found of what its commits and the writes leave
 pub breach-after : (inside plan : Standing) (w : Commit) (x : Option Breach) → inside ≡ plan → IsSound inside.pit
-    → (IsGood inside.pit (by_block inside.periods) (upper_of inside.pit) → IsFirstBreach inside.pit (over (by_block inside.periods) w) (upper_of inside.pit) x)
+    → (IsGood inside.pit (by_block inside.periods) (upper_of inside.pit) → IsFirstBreach inside.pit (laid_over (by_block inside.periods) w) (upper_of inside.pit) x)
     → IsGoodNow plan → (commits : List Commit) → StandsFor plan commits → IsBreachOf plan.pit (commits ++ w ∷ []) x
 breach-after inside plan w x is sound first good commits =
     subst (λ (p : Standing). IsGoodNow p → StandsFor p commits → IsBreachOf p.pit (commits ++ w ∷ []) x) is
-    (λ now st. same-breach inside.pit (over (by_block inside.periods) w) (held_period (commits ++ w ∷ [])) (upper_of inside.pit) x sound
+    (λ now st. same-breach inside.pit (laid_over (by_block inside.periods) w) (held_period (commits ++ w ∷ [])) (upper_of inside.pit) x sound
     (λ b below. ap (unwrap_or (write_of w b)) (st.period b below) ∙ sym (held_period-push commits w b))
     (first (same-breach inside.pit (held_period commits) (by_block inside.periods) (upper_of inside.pit) None sound (λ b below. sym (st.period b below)) (now commits st)))) good
 

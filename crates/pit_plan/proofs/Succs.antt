@@ -1,5 +1,5 @@
 -- Successors: the blocks that have a block among their predecessors.
-use Rattle.std.proofs.Common.{◌≡◌, ℕ, zero, suc, ◌<◌, ◌≤◌, Bool, true, false, cond, List, [], ◌∷◌, length, get_or, Option, Some, None, refl, sym, ap, subst, ◌∙◌, arith, inl, inr}
+use Rattle.std.proofs.Common.{◌≡◌, ℕ, zero, suc, ◌<◌, ◌≤◌, Bool, true, false, cond, List, [], ◌∷◌, length, get_or, Option, None, refl, sym, ap, subst, ◌∙◌, arith, inl, inr}
 use Rattle.std.specs.Prelude.{Contains, ◌||◌, ◌==◌}
 use Rattle.std.specs.List.{filter, list_any, range_with_len}
 use Rattle.std.specs.List.Sorted.{IsStrictlyIncreasing}
@@ -7,9 +7,10 @@ use Rattle.std.proofs.lemmas.Bool.{cases_Bool, true≢false}
 use Rattle.std.proofs.lemmas.Bool.Decides.{eqb_tells}
 use Rattle.std.proofs.lemmas.List.FromFn.{length-range_with_len, get_or-range_with_len}
 use Rattle.std.proofs.lemmas.List.Elements.{Contains-get_or, All-from_get_or, All-contains}
+use Rattle.pit_num.specs.Least.{ComesBefore, IsLeast, IsLeastOf}
 use Rattle.pit_model.specs.Pit.{Pit, preds_in, preds_of, succs_in, succs_of}
 use Rattle.pit_plan.specs.Schedule.{IsPred, in_order}
-use Rattle.pit_plan.specs.Touched.{IsOut, IsLeastPair}
+use Rattle.pit_plan.specs.Breaches.{IsOutOfOrder}
 use Rattle.pit_plan.proofs.Preds.{pred-listed, before-place}
 
 any-from_contains : (xs : List ℕ) (b k : ℕ) → k < length xs → get_or xs k b ≡ b → list_any (λ a. a == b) xs ≡ true
@@ -63,26 +64,40 @@ pub pred-from_succ : (pit : Pit) (x b : ℕ) → Contains (succs_of pit b) x →
 unfolding succs_in
 pred-from_succ pit x b is = contains-from_any (preds_of pit x) b (from-filter (λ later. list_any (λ a. a == b) (preds_in pit.preds later)) (range_with_len 0 (length pit.preds)) x is.0 is.1 is.2)
 
--- the first successor that is out of order, in their list, is the least
-pub first-behind : (pit : Pit) (s : ℕ → Option ℕ) (b j : ℕ) → IsStrictlyIncreasing (succs_of pit b) → j < length (succs_of pit b)
-    → ((k : ℕ) → k < j → in_order (s (get_or (succs_of pit b) k 0)) (s b) ≡ true) → in_order (s (get_or (succs_of pit b) j 0)) (s b) ≡ false
-    → IsLeastPair (λ x a. (a ≡ b) × IsOut pit s x a) (Some (get_or (succs_of pit b) j 0, b))
-first-behind pit s b j up within each fails = (
-  (refl, (pred-from_succ pit (get_or (succs_of pit b) j 0) b (Contains-get_or (succs_of pit b) j 0 within), fails)),
-  λ x a is before.
-      let has = succ-from_pred pit x b (subst (IsPred pit x) is.0 is.1.0) in
-      let late : in_order (s x) (s b) ≡ false = subst (λ (y : ℕ). in_order (s x) (s y) ≡ false) is.0 is.1.1 in
+-- ---- the least pair of a block that is out of order
+
+-- with a predecessor
+pub none-before : (pit : Pit) (s : ℕ → Option ℕ) (b : ℕ) → IsLeast ◌<◌ (λ a. IsOutOfOrder pit s (b, a)) None → IsLeast ComesBefore (λ p. IsOutOfOrder pit s p × (p.0 ≡ b)) None
+none-before pit s b none = λ p is. none p.1 (subst (λ (x : ℕ). IsOutOfOrder pit s (x, p.1)) is.1 is.0)
+
+pub least-before : (pit : Pit) (s : ℕ → Option ℕ) (b a : ℕ) → IsLeastOf ◌<◌ (λ x. IsOutOfOrder pit s (b, x)) a → IsLeastOf ComesBefore (λ p. IsOutOfOrder pit s p × (p.0 ≡ b)) (b, a)
+least-before pit s b a least = record {
+  passes = (least.passes, refl);
+  first = λ p is before.
       elim before [
-        | inl less ↦ true≢false (sym (before-place (λ y. in_order (s y) (s b)) (succs_of pit b) j x up within each has less) ∙ late)
-        | inr same ↦ absurd (omega (arith, same.1, is.0))
-      ],
-)
+        | inl less ↦ omega (arith, less, is.1)
+        | inr same ↦ least.first p.1 (subst (λ (x : ℕ). IsOutOfOrder pit s (x, p.1)) is.1 is.0) same.1
+      ];
+}
+
+-- with a successor: the first that is out of order, in their list, is the least
+pub least-behind : (pit : Pit) (s : ℕ → Option ℕ) (b j : ℕ) → IsStrictlyIncreasing (succs_of pit b) → j < length (succs_of pit b)
+    → ((k : ℕ) → k < j → in_order (s (get_or (succs_of pit b) k 0)) (s b) ≡ true) → in_order (s (get_or (succs_of pit b) j 0)) (s b) ≡ false
+    → IsLeastOf ComesBefore (λ p. IsOutOfOrder pit s p × (p.1 ≡ b)) (get_or (succs_of pit b) j 0, b)
+least-behind pit s b j up within each fails = record {
+  passes = ((pred-from_succ pit (get_or (succs_of pit b) j 0) b (Contains-get_or (succs_of pit b) j 0 within), fails), refl);
+  first = λ p is before.
+      let out : IsOutOfOrder pit s (p.0, b) = subst (λ (y : ℕ). IsOutOfOrder pit s (p.0, y)) is.1 is.0 in
+      elim before [
+        | inl less ↦ true≢false (sym (before-place (λ y. in_order (s y) (s b)) (succs_of pit b) j p.0 up within each (succ-from_pred pit p.0 b out.0) less) ∙ out.1)
+        | inr same ↦ omega (arith, same.1, is.1)
+      ];
+}
 
 -- or none is
 pub none-behind : (pit : Pit) (s : ℕ → Option ℕ) (b n : ℕ) → length (succs_of pit b) ≤ n → ((k : ℕ) → k < n → in_order (s (get_or (succs_of pit b) k 0)) (s b) ≡ true)
-    → IsLeastPair (λ x a. (a ≡ b) × IsOut pit s x a) None
-none-behind pit s b n whole each = λ x a is.
-    let has = succ-from_pred pit x b (subst (IsPred pit x) is.0 is.1.0) in
-    let late : in_order (s x) (s b) ≡ false = subst (λ (y : ℕ). in_order (s x) (s y) ≡ false) is.0 is.1.1 in
-    true≢false (sym (All-contains (λ y. in_order (s y) (s b) ≡ true) (succs_of pit b) x
-    (All-from_get_or (λ y. in_order (s y) (s b) ≡ true) (succs_of pit b) 0 (λ k below. each k (omega (arith, below, whole)))) has) ∙ late)
+    → IsLeast ComesBefore (λ p. IsOutOfOrder pit s p × (p.1 ≡ b)) None
+none-behind pit s b n whole each = λ p is.
+    let out : IsOutOfOrder pit s (p.0, b) = subst (λ (y : ℕ). IsOutOfOrder pit s (p.0, y)) is.1 is.0 in
+    true≢false (sym (All-contains (λ y. in_order (s y) (s b) ≡ true) (succs_of pit b) p.0
+    (All-from_get_or (λ y. in_order (s y) (s b) ≡ true) (succs_of pit b) 0 (λ k below. each k (omega (arith, below, whole)))) (succ-from_pred pit p.0 b out.0)) ∙ out.1)

@@ -1,14 +1,11 @@
 -- When a schedule is good, and what its first breach is.
-use Rattle.std.specs.Prelude.{◌≡◌, ℕ, ◌<◌, ◌⊎◌, ℤ, true, false, List, Option, Some, None}
+use Rattle.std.specs.Prelude.{◌≡◌, ℕ, ◌<◌, ℤ, true, false, List, Option, Some, None}
+use Rattle.pit_num.specs.Least.{ComesBefore, IsLeastOf}
 use Rattle.pit_model.specs.Pit.{Pit}
 use Rattle.pit_plan.specs.Schedule.{Commit, held_period, limit_of, load_of, in_order, is_within, IsPred}
 use Rattle.pit_plan.specs.Standing.{Standing, StandsFor}
 use Rattle.pit_plan.specs.declared.breach.Breach.{Breach}
 use Rattle.pit_plan.specs.declared.breach.Breach.TheVariants.{Precedence, Over}
-
--- pairs in order by their first number, and then their second
-abbrev pub ComesBefore : ℕ → ℕ → ℕ → ℕ → Type 0
-ComesBefore x y b a = (x < b) ⊎ ((x ≡ b) × (y < a))
 
 -- each block that has a period has its predecessors no later
 abbrev pub IsOrdered : Pit → (ℕ → Option ℕ) → Type 0
@@ -22,25 +19,26 @@ pub record IsGood (pit : Pit) (schedule : ℕ → Option ℕ) (limit : ℕ → �
   pub ordered : IsOrdered pit schedule
   pub within : IsUnderLimits pit schedule limit
 
--- the least pair (block, predecessor) that is out of order
-pub record IsFirstOutOfOrder (pit : Pit) (schedule : ℕ → Option ℕ) (block before : ℕ) : Type 0 where
-  pub pred : IsPred pit block before
-  pub fails : in_order (schedule block) (schedule before) ≡ false
-  pub first : (b a : ℕ) → IsPred pit b a → ComesBefore b a block before → in_order (schedule b) (schedule a) ≡ true
+-- a block and its predecessor that are out of order
+abbrev pub IsOutOfOrder : Pit → (ℕ → Option ℕ) → ℕ × ℕ → Type 0
+IsOutOfOrder pit schedule pair = IsPred pit pair.0 pair.1 × (in_order (schedule pair.0) (schedule pair.1) ≡ false)
 
--- the least (period, resource) that is over its limit, where no pair is out of order
+-- a period and a resource whose load is above its limit
+abbrev pub IsOverLimit : Pit → (ℕ → Option ℕ) → (ℕ → ℕ → Option ℤ) → ℕ × ℕ → Type 0
+IsOverLimit pit schedule limit pair =
+    (pair.0 < pit.periods) × (pair.1 < pit.resources) × (is_within (load_of pit schedule pair.1 pair.0) (limit pair.1 pair.0) ≡ false)
+
+-- the least load that is above its limit, with both, where no pair is out of order
 pub record IsFirstOver (pit : Pit) (schedule : ℕ → Option ℕ) (limit : ℕ → ℕ → Option ℤ) (resource period : ℕ) (load top : ℤ) : Type 0 where
   pub ordered : IsOrdered pit schedule
-  pub in_periods : period < pit.periods
-  pub in_resources : resource < pit.resources
+  pub least : IsLeastOf ComesBefore (IsOverLimit pit schedule limit) (period, resource)
   pub load_is : load ≡ load_of pit schedule resource period
   pub limit_is : limit resource period ≡ Some top
-  pub fails : is_within load (Some top) ≡ false
-  pub first : (t r : ℕ) → t < pit.periods → r < pit.resources → ComesBefore t r period resource → is_within (load_of pit schedule r t) (limit r t) ≡ true
 
+-- the least pair that is out of order, else the least load that is above its limit
 abbrev pub IsFirstBreach : Pit → (ℕ → Option ℕ) → (ℕ → ℕ → Option ℤ) → Option Breach → Type 0
 IsFirstBreach pit schedule limit None = IsGood pit schedule limit
-IsFirstBreach pit schedule limit (Some (Precedence block before)) = IsFirstOutOfOrder pit schedule block before
+IsFirstBreach pit schedule limit (Some (Precedence block before)) = IsLeastOf ComesBefore (IsOutOfOrder pit schedule) (block, before)
 IsFirstBreach pit schedule limit (Some (Over resource period load top)) = IsFirstOver pit schedule limit resource period load top
 
 -- what the commits leave is good

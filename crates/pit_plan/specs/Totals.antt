@@ -1,11 +1,15 @@
 -- The loads and the value that a plan keeps.
-use Rattle.std.specs.Prelude.{◌≡◌, ◌≢◌, ℕ, ◌+◌, ◌*◌, ◌<◌, ℤ, pos, neg_ℤ, ◌+ℤ◌, Bool, nat_eq, List, length, Option, Some, None, slice_index_or, if◌then◌else◌, All, IfSome}
-use Rattle.pit_model.specs.Pit.{Pit}
+use Rattle.std.specs.Prelude.{◌≡◌, ◌≢◌, ℕ, ◌*◌, ◌<◌, ℤ, pos, neg_ℤ, ◌+ℤ◌, Bool, nat_eq, List, length, Option, Some, None, slice_index_or, if◌then◌else◌, All, IfSome}
+use Rattle.pit_model.specs.Pit.{Pit, cell_of}
 use Rattle.pit_plan.specs.Schedule.{by_block, load_of, value_of}
 
--- the load that is kept for a resource in a period
-abbrev pub load_at : Pit → List ℤ → ℕ → ℕ → ℤ
-load_at pit loads r t = slice_index_or loads (t * pit.resources + r) (pos 0)
+-- the load of a cell, of a list that has one for each
+abbrev pub cell_load : List ℤ → ℕ → ℤ
+cell_load loads cell = slice_index_or loads cell (pos 0)
+
+-- the load of a resource in a period, by the loads of cells
+abbrev pub load_at : Pit → (ℕ → ℤ) → ℕ → ℕ → ℤ
+load_at pit loads r t = loads (cell_of pit r t)
 
 -- the loads, by resource and period, are those of the schedule
 abbrev pub AreLoads : Pit → (ℕ → Option ℕ) → (ℕ → ℕ → ℤ) → Type 0
@@ -13,7 +17,7 @@ AreLoads pit schedule loads = (r t : ℕ) → r < pit.resources → t < pit.peri
 
 -- what is kept is that of the schedule
 pub record AreTotals (pit : Pit) (schedule : ℕ → Option ℕ) (loads : List ℤ) (sum : ℤ) : Type 0 where
-  pub each : AreLoads pit schedule (load_at pit loads)
+  pub each : AreLoads pit schedule (load_at pit (cell_load loads))
   pub value : sum ≡ value_of pit schedule
 
 -- a schedule with its loads and its value
@@ -47,6 +51,10 @@ MovesIn pit old (Some t) by new = Moves pit old t by new
 pub record MovesOne (resources : ℕ) (old : ℕ → ℕ → ℤ) (r t : ℕ) (by : ℤ) (new : ℕ → ℕ → ℤ) : Type 0 where
   pub moved : new r t ≡ old r t +ℤ by
   pub others : (q u : ℕ) → q < resources → ((q ≡ r) × (u ≡ t) → ⊥) → new q u ≡ old q u
+
+-- the load of one cell is raised, and no other is
+abbrev pub Raises : (ℕ → ℤ) → ℕ → ℤ → (ℕ → ℤ) → Type 0
+Raises old cell by new = (k : ℕ) → new k ≡ (if nat_eq cell k then old cell +ℤ by else old k)
 
 -- the schedule with one block's period replaced
 abbrev pub with_block : (ℕ → Option ℕ) → ℕ → Option ℕ → ℕ → Option ℕ

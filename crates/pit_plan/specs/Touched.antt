@@ -1,48 +1,37 @@
--- What writes touch: the schedule and the loads that they leave, and the least of the pairs that they break.
-use Rattle.std.specs.Prelude.{◌≡◌, ℕ, ◌+◌, ◌*◌, ◌<◌, ◌⊎◌, ℤ, pos, Bool, true, false, nat_eq, nat_lt, ◌&&◌, ◌||◌, List, Option, Some, None, unwrap_or, is_some, slice_index_or, if◌then◌else◌}
+-- What writes touch: the schedule and the loads that they leave, and the pairs that they break.
+use Rattle.std.specs.Prelude.{◌≡◌, ℕ, ◌<◌, ◌⊎◌, ℤ, Bool, true, false, nat_eq, nat_lt, ◌&&◌, ◌||◌, List, length, Option, Some, None, unwrap_or, is_some, if◌then◌else◌}
 use Rattle.std.specs.Map.{lookup}
-use Rattle.pit_model.specs.Pit.{Pit, upper_of}
-use Rattle.pit_plan.specs.Schedule.{Commit, by_block, IsPred, in_order, is_within}
-use Rattle.pit_plan.specs.Breaches.{ComesBefore}
-use Rattle.pit_plan.specs.Totals.{Tallied, AreLoads}
+use Rattle.pit_num.specs.Least.{ComesBefore, IsLeastOf}
+use Rattle.pit_model.specs.Pit.{Pit, cell_of}
+use Rattle.pit_plan.specs.Schedule.{Commit, by_block, is_within}
+use Rattle.pit_plan.specs.Breaches.{IsOutOfOrder}
+use Rattle.pit_plan.specs.Totals.{Tallied, AreLoads, cell_load, load_at}
 use Rattle.pit_plan.specs.declared.breach.Breach.{Breach}
 use Rattle.pit_plan.specs.declared.breach.Breach.TheVariants.{Precedence, Over}
 
 -- what the pairs say of a number, else what was there
-abbrev pub over : {X : Type 0} → (ℕ → X) → List (ℕ × X) → ℕ → X
-over before pairs k = unwrap_or (lookup (nat_eq k) pairs) (before k)
-
--- a load, by those that are kept and the cells that were moved
-abbrev pub load_over : Pit → List ℤ → List (ℕ × ℤ) → ℕ → ℕ → ℤ
-load_over pit kept moved r t = over (λ cell. slice_index_or kept cell (pos 0)) moved (t * pit.resources + r)
+abbrev pub laid_over : {X : Type 0} → (ℕ → X) → List (ℕ × X) → ℕ → X
+laid_over before pairs k = unwrap_or (lookup (nat_eq k) pairs) (before k)
 
 -- a pair of the list names the number
 abbrev pub IsNamed : {X : Type 0} → List (ℕ × X) → ℕ → Type 0
 IsNamed pairs k = is_some (lookup (nat_eq k) pairs) ≡ true
 
--- a block and its predecessor that are out of order
-abbrev pub IsOut : Pit → (ℕ → Option ℕ) → ℕ → ℕ → Type 0
-IsOut pit schedule b a = IsPred pit b a × (in_order (schedule b) (schedule a) ≡ false)
+-- a block and its predecessor that are out of order, of which one is written
+abbrev pub IsOutNear : Pit → (ℕ → Option ℕ) → Commit → ℕ × ℕ → Type 0
+IsOutNear pit schedule writes pair = IsOutOfOrder pit schedule pair × (IsNamed writes pair.0 ⊎ IsNamed writes pair.1)
 
--- the same, and one of them is written
-abbrev pub IsOutNear : Pit → (ℕ → Option ℕ) → Commit → ℕ → ℕ → Type 0
-IsOutNear pit schedule writes b a = IsOut pit schedule b a × (IsNamed writes b ⊎ IsNamed writes a)
+-- the period and the resource of a cell that was moved, and whose load is above its limit
+abbrev pub IsOverAt : Pit → (ℕ → ℕ → Option ℤ) → List (ℕ × ℤ) → ℕ × ℕ → Type 0
+IsOverAt pit limit cells pair =
+    (pair.0 < pit.periods) × (pair.1 < pit.resources)
+    × ((load : ℤ) × (lookup (nat_eq (cell_of pit pair.1 pair.0)) cells ≡ Some load) × (is_within load (limit pair.1 pair.0) ≡ false))
 
--- a cell that was moved, and whose load is above its limit
-abbrev pub IsOverAt : Pit → List (ℕ × ℤ) → ℕ → ℕ → Type 0
-IsOverAt pit cells t r =
-    (t < pit.periods) × (r < pit.resources)
-    × ((load : ℤ) × (lookup (nat_eq (t * pit.resources + r)) cells ≡ Some load) × (is_within load (upper_of pit r t) ≡ false))
-
--- the loads that the writes leave, of which the moved ones have cells
-pub record AreMoved (pit : Pit) (tally : Tallied) (writes : Commit) (cells : List (ℕ × ℤ)) : Type 0 where
-  pub loads : AreLoads pit (over (by_block tally.periods) writes) (load_over pit tally.loads cells)
-  pub in_range : (cell : ℕ) → IsNamed cells cell → cell < pit.periods * pit.resources
-
--- the least of such pairs, or none where there is none
-abbrev pub IsLeastPair : (ℕ → ℕ → Type 0) → Option (ℕ × ℕ) → Type 0
-IsLeastPair Is None = (x y : ℕ) → Is x y → ⊥
-IsLeastPair Is (Some pair) = Is pair.0 pair.1 × ((x y : ℕ) → Is x y → ComesBefore x y pair.0 pair.1 → ⊥)
+-- the loads that the writes leave: those that are kept, and over them those of the cells that were moved
+pub record AreMoved (pit : Pit) (tally : Tallied) (writes : Commit) (kept : List ℤ) (cells : List (ℕ × ℤ)) : Type 0 where
+  pub same : kept ≡ tally.loads
+  pub loads : AreLoads pit (laid_over (by_block tally.periods) writes) (load_at pit (laid_over (cell_load kept) cells))
+  pub in_range : (cell : ℕ) → IsNamed cells cell → cell < length kept
 
 -- by their first numbers, and then their second
 abbrev pub comes_before : ℕ × ℕ → ℕ × ℕ → Bool
@@ -54,8 +43,8 @@ lesser_of None other = other
 lesser_of (Some p) None = Some p
 lesser_of (Some p) (Some q) = if comes_before q p then Some q else Some p
 
--- the breach is the least cell whose load is above its limit
-abbrev pub IsLeastOver : Pit → List (ℕ × ℤ) → Breach → Type 0
-IsLeastOver pit cells (Precedence block before) = ⊥
-IsLeastOver pit cells (Over resource period load top) =
-    IsLeastPair (IsOverAt pit cells) (Some (period, resource)) × (lookup (nat_eq (period * pit.resources + resource)) cells ≡ Some load) × (upper_of pit resource period ≡ Some top)
+-- the breach is the least cell whose load is above its limit, with both
+abbrev pub IsLeastOver : Pit → (ℕ → ℕ → Option ℤ) → List (ℕ × ℤ) → Breach → Type 0
+IsLeastOver pit limit cells (Precedence block before) = ⊥
+IsLeastOver pit limit cells (Over resource period load top) =
+    IsLeastOf ComesBefore (IsOverAt pit limit cells) (period, resource) × (lookup (nat_eq (cell_of pit resource period)) cells ≡ Some load) × (limit resource period ≡ Some top)

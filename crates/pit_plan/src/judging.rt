@@ -1,17 +1,18 @@
 //! The first breach that a schedule would have after writes, found where these touch it.
-ghost use Rattle.std.specs.Prelude.{◌≡◌, ◌≢◌, ℕ, ◌+◌, ◌*◌, ◌<◌, ◌+ℤ◌, pos, length, take, slice_index_or, FitsSigned, IfNone, IfOk, IfSome, OnOk, All, AllPairs};
-ghost use Rattle.std.specs.Int.{w128};
+ghost use Rattle.std.specs.Prelude.{◌≡◌, ◌≢◌, ℕ, ◌+◌, ◌*◌, ◌<◌, true, None, pos, length, take, slice_index_or, IfNone, IfOk, IfSome, OnOk, All, AllPairs};
 ghost use Rattle.indexmap.specs.IndexMap.{index_map_len};
-ghost use Rattle.pit_model.specs.Pit.{upper_of};
-ghost use Rattle.pit_plan.specs.Schedule.{by_block, coef_of};
-ghost use Rattle.pit_plan.specs.Standing.{Fits};
-ghost use Rattle.pit_plan.specs.Breaches.{IsFirstBreach, IsGood};
-ghost use Rattle.pit_plan.specs.Totals.{IsTally, MovesIn, moved_by};
-ghost use Rattle.pit_plan.specs.Touched.{over, load_over, lesser_of, IsLeastPair, IsOut, IsOutNear, IsOverAt, IsLeastOver, IsNamed, AreMoved};
+ghost use Rattle.pit_num.specs.Fitting.{Fits};
+ghost use Rattle.pit_num.specs.Least.{ComesBefore, IsLeast};
+ghost use Rattle.pit_model.specs.Pit.{cell_of, upper_of};
+ghost use Rattle.pit_plan.specs.Schedule.{by_block};
+ghost use Rattle.pit_plan.specs.Breaches.{IsFirstBreach, IsGood, IsOutOfOrder};
+ghost use Rattle.pit_plan.specs.Totals.{cell_load, IsTally};
+ghost use Rattle.pit_plan.specs.Touched.{laid_over, lesser_of, IsOutNear, IsOverAt, IsLeastOver, IsNamed, AreMoved};
 
 use crate::breach::Breach;
+use crate::loads::{Loads, plus, shift};
 use crate::schedule::{Schedule, first_late, keeps_order};
-use crate::tally::{Tally, moved, plus};
+use crate::tally::Tally;
 use indexmap::IndexMap;
 use pit_model::Instance;
 use pit_num::NoMemory;
@@ -30,15 +31,44 @@ struct Overlay<'a, A: Allocator + Copy + Drop> {
 }
 
 impl<'a, A: Allocator + Copy + Drop> Schedule for Overlay<'a, A> {
-    ghost period_at = { λ s. over (by_block s.periods.now) s.writes.entries };
+    ghost period_at = { λ s. laid_over (by_block s.periods.now) s.writes.entries };
 
     ghost count = { λ s. length s.periods.now };
+
+    ghost limit_at = { λ s. upper_of };
 
     fn period(&self, b: u32) -> Option<u32> {
         match self.writes.get(&b) {
             Some(period) => *period,
             None => self.periods[b as usize],
         }
+    }
+
+    fn limit<B: Allocator + Copy + Drop>(&self, pit: &Instance<B>, r: u32, t: u32) -> Option<i64> {
+        pit.upper(r, t)
+    }
+}
+
+/// Loads of which some are moved, each of these by its cell.
+#[derive(Drop)]
+struct MovedLoads<'a, A: Allocator + Copy + Drop> {
+    kept: &'a [i128],
+    cells: Cells<A>,
+}
+
+impl<'a, A: Allocator + Copy + Drop> Loads for MovedLoads<'a, A> {
+    ghost load_in = { λ loads. laid_over (cell_load loads.kept.now) loads.cells.entries };
+
+    ghost base = { λ loads. loads.kept.now };
+
+    ghost is_sound = { λ loads. (cell : ℕ) → IsNamed loads.cells.entries cell → cell < length loads.kept.now };
+
+    ghost can_refuse = { true };
+
+    fn add(&mut self, cell: u32, term: i64) -> Result<(), NoMemory> {
+        let load = plus(load_in(self.kept, &self.cells, cell), i128::from(term));
+        self.cells.insert(cell, load)?;
+        Ok(())
     }
 }
 
@@ -51,9 +81,9 @@ pub(crate) fn first_breach_after<A: Allocator + Copy + Drop>(
     writes: &[(u32, Option<u32>)],
 ) -> Result<Option<Breach>, NoMemory>
     requires tally { IsTally pit.now tally.now }
-    requires fits { Fits pit.now writes.now }
+    requires fits { Fits pit.now.blocks pit.now.periods writes.now }
     ensures { IfOk result (λ breach. IsGood pit.now (by_block tally.now.periods) (upper_of pit.now)
-        → IsFirstBreach pit.now (over (by_block tally.now.periods) writes.now) (upper_of pit.now) breach) }
+        → IsFirstBreach pit.now (laid_over (by_block tally.now.periods) writes.now) (upper_of pit.now) breach) }
 {
     let after = Overlay {
         periods: &tally.periods,
@@ -62,8 +92,8 @@ pub(crate) fn first_breach_after<A: Allocator + Copy + Drop>(
     if let Some((block, before)) = first_out_near(pit, &after, writes) {
         return Ok(Some(Breach::Precedence { block, before }));
     }
-    let cells = moved_cells(alloc, pit, tally, writes)?;
-    Ok(first_over_in(pit, &cells))
+    let loads = moved_loads(alloc, pit, tally, writes)?;
+    Ok(first_over_in(pit, &after, &loads.cells))
 }
 
 /// The writes, by block.
@@ -89,7 +119,7 @@ fn first_out_near<S: Schedule, A: Allocator + Copy + Drop>(
 ) -> Option<(u32, u32)>
     requires same { S.count schedule.now ≡ pit.now.blocks }
     requires known { All (λ w. w.0 < pit.now.blocks) writes.now }
-    ensures { IsLeastPair (IsOutNear pit.now (S.period_at schedule.now) writes.now) result }
+    ensures { IsLeast ComesBefore (IsOutNear pit.now (S.period_at schedule.now) writes.now) result }
 {
     let mut least: Option<(u32, u32)> = None;
     for (block, _) in writes {
@@ -107,7 +137,7 @@ fn out_before<S: Schedule, A: Allocator + Copy + Drop>(
 ) -> Option<(u32, u32)>
     requires same { S.count schedule.now ≡ pit.now.blocks }
     requires known { b < pit.now.blocks }
-    ensures { IsLeastPair (λ x a. (x ≡ b) × IsOut pit.now (S.period_at schedule.now) x a) result }
+    ensures { IsLeast ComesBefore (λ p. IsOutOfOrder pit.now (S.period_at schedule.now) p × (p.0 ≡ b)) result }
 {
     let before = first_late(pit.preds(b), schedule, schedule.period(b))?;
     Some((b, before))
@@ -121,7 +151,7 @@ fn out_behind<S: Schedule, A: Allocator + Copy + Drop>(
 ) -> Option<(u32, u32)>
     requires same { S.count schedule.now ≡ pit.now.blocks }
     requires known { b < pit.now.blocks }
-    ensures { IsLeastPair (λ x a. (a ≡ b) × IsOut pit.now (S.period_at schedule.now) x a) result }
+    ensures { IsLeast ComesBefore (λ p. IsOutOfOrder pit.now (S.period_at schedule.now) p × (p.1 ≡ b)) result }
 {
     let before = schedule.period(b);
     for later in pit.succs(b) {
@@ -149,89 +179,52 @@ fn lesser(one: Option<(u32, u32)>, other: Option<(u32, u32)>) -> Option<(u32, u3
     }
 }
 
-/// The loads that the writes move, as they are then, each by its cell.
-fn moved_cells<A: Allocator + Copy + Drop>(
+/// The loads as the writes leave them.
+fn moved_loads<'a, A: Allocator + Copy + Drop>(
     alloc: A,
     pit: &Instance<A>,
-    tally: &Tally<A>,
+    tally: &'a Tally<A>,
     writes: &[(u32, Option<u32>)],
-) -> Result<Cells<A>, NoMemory>
+) -> Result<MovedLoads<'a, A>, NoMemory>
     requires tally { IsTally pit.now tally.now }
-    requires fits { Fits pit.now writes.now }
-    ensures { IfOk result (λ cells. AreMoved pit.now tally.now writes.now cells.entries) }
+    requires fits { Fits pit.now.blocks pit.now.periods writes.now }
+    ensures { IfOk result (λ loads. AreMoved pit.now tally.now writes.now loads.kept.now loads.cells.entries) }
 {
-    let mut cells = IndexMap::new(alloc);
+    let mut loads = MovedLoads {
+        kept: &tally.loads,
+        cells: IndexMap::new(alloc),
+    };
     for k in 0..writes.len() {
-        move_block(pit, tally, writes, k, &mut cells)?;
+        move_block(pit, tally, writes, k, &mut loads)?;
     }
-    Ok(cells)
+    Ok(loads)
 }
 
 /// Moves the loads by one more write.
-fn move_block<A: Allocator + Copy + Drop>(
+fn move_block<'a, A: Allocator + Copy + Drop>(
     pit: &Instance<A>,
     tally: &Tally<A>,
     writes: &[(u32, Option<u32>)],
     k: usize,
-    cells: &mut Cells<A>,
+    loads: &mut MovedLoads<'a, A>,
 ) -> Result<(), NoMemory>
     requires tally { IsTally pit.now tally.now }
-    requires fits { Fits pit.now writes.now }
+    requires fits { Fits pit.now.blocks pit.now.periods writes.now }
     requires within { k < length writes.now }
-    requires cells { AreMoved pit.now tally.now (take k writes.now) cells.old.entries }
-    ensures { OnOk result (AreMoved pit.now tally.now (take (k + 1) writes.now) cells.new.entries) }
+    requires moved { AreMoved pit.now tally.now (take k writes.now) loads.old.kept.now loads.old.cells.entries }
+    ensures { OnOk result (AreMoved pit.now tally.now (take (k + 1) writes.now) loads.new.kept.now loads.new.cells.entries) }
 {
     let _blocks = pit.blocks();
     let (block, period) = writes[k];
-    shift_cells(pit, &tally.loads, cells, block, tally.period(block), false)?;
-    shift_cells(pit, &tally.loads, cells, block, period, true)?;
+    shift(pit, loads, block, tally.period(block), false)?;
+    shift(pit, loads, block, period, true)?;
     Ok(())
-}
-
-/// Adds a block's coefficients to the loads of a period, if there is one, or takes them from these.
-fn shift_cells<A: Allocator + Copy + Drop>(
-    pit: &Instance<A>,
-    kept: &[i128],
-    cells: &mut Cells<A>,
-    b: u32,
-    period: Option<u32>,
-    up: bool,
-) -> Result<(), NoMemory>
-    requires known { b < pit.now.blocks }
-    requires len { length kept.now ≡ pit.now.periods * pit.now.resources }
-    requires period { IfSome period (λ t. t < pit.now.periods) }
-    requires room { IfSome period (λ t. (r : ℕ) → r < pit.now.resources
-        → FitsSigned w128 (load_over pit.now kept.now cells.old.entries r t +ℤ moved_by up (coef_of pit.now b r))) }
-    requires cells { (cell : ℕ) → IsNamed cells.old.entries cell → cell < pit.now.periods * pit.now.resources }
-    ensures moves { OnOk result (MovesIn pit.now (load_over pit.now kept.now cells.old.entries) period (λ r. moved_by up (coef_of pit.now b r))
-        (load_over pit.now kept.now cells.new.entries)) }
-    ensures cells { OnOk result ((cell : ℕ) → IsNamed cells.new.entries cell → cell < pit.now.periods * pit.now.resources) }
-{
-    let Some(t) = period else {
-        return Ok(());
-    };
-    for (r, coef) in pit.coefs(b) {
-        let cell = cell_of(pit, *r, t);
-        let load = plus(load_in(kept, cells, cell), i128::from(moved(up, *coef)));
-        cells.insert(cell, load)?;
-    }
-    Ok(())
-}
-
-/// The cell of a resource in a period.
-fn cell_of<A: Allocator + Copy + Drop>(pit: &Instance<A>, r: u32, t: u32) -> u32
-    requires resource { r < pit.now.resources }
-    requires period { t < pit.now.periods }
-    ensures { result ≡ t * pit.now.resources + r }
-{
-    let _blocks = pit.blocks();
-    t * pit.resources() + r
 }
 
 /// The load of a cell: as it was moved, or else as it is kept.
 fn load_in<A: Allocator + Copy + Drop>(kept: &[i128], cells: &Cells<A>, cell: u32) -> i128
     requires { cell < length kept.now }
-    ensures { result ≡ over (λ k. slice_index_or kept.now k (pos 0)) cells.now.entries cell }
+    ensures { result ≡ laid_over (cell_load kept.now) cells.now.entries cell }
 {
     match cells.get(&cell) {
         Some(load) => *load,
@@ -240,14 +233,18 @@ fn load_in<A: Allocator + Copy + Drop>(kept: &[i128], cells: &Cells<A>, cell: u3
 }
 
 /// The least period, and in it the least resource, of a cell whose load is above its limit.
-fn first_over_in<A: Allocator + Copy + Drop>(pit: &Instance<A>, cells: &Cells<A>) -> Option<Breach>
+fn first_over_in<S: Schedule, A: Allocator + Copy + Drop>(
+    pit: &Instance<A>,
+    schedule: &S,
+    cells: &Cells<A>,
+) -> Option<Breach>
     requires { (cell : ℕ) → IsNamed cells.now.entries cell → cell < pit.now.periods * pit.now.resources }
-    ensures none { IfNone result ((t r : ℕ) → IsOverAt pit.now cells.now.entries t r → ⊥) }
-    ensures some { IfSome result (IsLeastOver pit.now cells.now.entries) }
+    ensures none { IfNone result (IsLeast ComesBefore (IsOverAt pit.now (S.limit_at schedule.now pit.now) cells.now.entries) None) }
+    ensures some { IfSome result (IsLeastOver pit.now (S.limit_at schedule.now pit.now) cells.now.entries) }
 {
-    let (period, resource) = least_over(pit, cells)?;
-    let load = *cells.get(&cell_of(pit, resource, period))?;
-    let limit = pit.upper(resource, period)?;
+    let (period, resource) = least_over(pit, schedule, cells)?;
+    let load = *cells.get(&pit.cell(resource, period))?;
+    let limit = schedule.limit(pit, resource, period)?;
     Some(Breach::Over {
         resource,
         period,
@@ -257,30 +254,36 @@ fn first_over_in<A: Allocator + Copy + Drop>(pit: &Instance<A>, cells: &Cells<A>
 }
 
 /// The least period, and in it the least resource, of a cell whose load is above its limit.
-fn least_over<A: Allocator + Copy + Drop>(pit: &Instance<A>, cells: &Cells<A>) -> Option<(u32, u32)>
+fn least_over<S: Schedule, A: Allocator + Copy + Drop>(
+    pit: &Instance<A>,
+    schedule: &S,
+    cells: &Cells<A>,
+) -> Option<(u32, u32)>
     requires { (cell : ℕ) → IsNamed cells.now.entries cell → cell < pit.now.periods * pit.now.resources }
-    ensures { IsLeastPair (IsOverAt pit.now cells.now.entries) result }
+    ensures { IsLeast ComesBefore (IsOverAt pit.now (S.limit_at schedule.now pit.now) cells.now.entries) result }
 {
     let mut least: Option<(u32, u32)> = None;
     for i in 0..cells.len() {
-        least = lesser(least, over_at(pit, cells, i));
+        least = lesser(least, over_at(pit, schedule, cells, i));
     }
     least
 }
 
 /// The period and the resource of a cell, if its load is above its limit.
-fn over_at<A: Allocator + Copy + Drop>(
+fn over_at<S: Schedule, A: Allocator + Copy + Drop>(
     pit: &Instance<A>,
+    schedule: &S,
     cells: &Cells<A>,
     i: usize,
 ) -> Option<(u32, u32)>
     requires within { i < index_map_len cells.now }
     requires cells { (cell : ℕ) → IsNamed cells.now.entries cell → cell < pit.now.periods * pit.now.resources }
-    ensures { IsLeastPair (λ t r. IsOverAt pit.now cells.now.entries t r × (t * pit.now.resources + r ≡ (slice_index_or cells.now.entries i (0, pos 0)).0)) result }
+    ensures { IsLeast ComesBefore (λ p. IsOverAt pit.now (S.limit_at schedule.now pit.now) cells.now.entries p
+        × (cell_of pit.now p.1 p.0 ≡ (slice_index_or cells.now.entries i (0, pos 0)).0)) result }
 {
     let (cell, load) = cells.get_index(i)?;
     let (t, r) = (*cell / pit.resources(), *cell % pit.resources());
-    let limit = pit.upper(r, t)?;
+    let limit = schedule.limit(pit, r, t)?;
     if *load <= i128::from(limit) {
         return None;
     }

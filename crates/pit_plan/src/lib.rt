@@ -8,14 +8,17 @@
 mod breach;
 mod judging;
 mod laws;
+mod loads;
 mod plan;
 mod schedule;
 mod short;
 mod tally;
 #[cfg(test)]
 mod tests;
+mod writes;
 
 pub use breach::Breach;
 pub use laws::{commits_follow, one_breach};
-pub use plan::Plan;
+pub use plan::{COMMITS_MAX, Plan};
 pub use short::Short;
+pub use writes::writes_of;

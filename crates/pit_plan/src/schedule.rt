@@ -1,13 +1,14 @@
 //! What a schedule, which is a period or none for each block, loads, earns and breaks.
-ghost use Rattle.std.specs.Prelude.{◌≡◌, ℕ, ◌<◌, ◌^◌, ◌++◌, true, length, Option, IfNone, IfSome, IfOk, OnOk, All};
+ghost use Rattle.std.specs.Prelude.{◌≡◌, ℕ, ℤ, ◌<◌, ◌^◌, ◌++◌, length, Option, IfSome, IfOk, OnOk, All};
 ghost use Rattle.std.specs.List.Sorted.{IsStrictlyIncreasing};
+ghost use Rattle.pit_num.specs.Least.{ComesBefore, IsLeast};
 ghost use Rattle.pit_num.specs.Within.{IsWithin};
-ghost use Rattle.pit_model.specs.Pit.{upper_of, lower_of};
-ghost use Rattle.pit_plan.specs.Schedule.{by_block, load_of, earned_in, in_order};
+ghost use Rattle.pit_model.specs.Pit.{Pit, upper_of, lower_of};
+ghost use Rattle.pit_plan.specs.Schedule.{by_block, load_of, earned_in, in_order, is_within};
 ghost use Rattle.pit_plan.specs.Totals.{IsTally};
-ghost use Rattle.pit_plan.specs.Breaches.{IsFirstBreach, IsFirstOutOfOrder, IsOrdered};
+ghost use Rattle.pit_plan.specs.Breaches.{IsFirstBreach, IsOutOfOrder, IsOverLimit};
 ghost use Rattle.pit_plan.specs.Shortfalls.{shortfalls_of, shorts_in, short_at};
-ghost use Rattle.pit_plan.specs.InsideSchedule.{IsFirstLate, IsUnderIn, IsOverIn};
+ghost use Rattle.pit_plan.specs.InsideSchedule.{IsLate};
 
 use crate::breach::Breach;
 use crate::short::Short;
@@ -16,7 +17,7 @@ use pit_model::Instance;
 use pit_num::NoMemory;
 use std::alloc::Allocator;
 
-/// The periods of so many blocks.
+/// The periods of so many blocks, and the limits that are in force.
 pub(crate) trait Schedule {
     /// The period of each block.
     ghost period_at: { Self → ℕ → Option ℕ };
@@ -24,9 +25,17 @@ pub(crate) trait Schedule {
     /// How many blocks there are.
     ghost count: { Self → ℕ };
 
+    /// The upper limit of the load of a resource in a period, in a pit.
+    ghost limit_at: { Self → Pit → ℕ → ℕ → Option ℤ };
+
     fn period(&self, b: u32) -> Option<u32>
         requires { b < count self.now }
         ensures { result ≡ period_at self.now b };
+
+    fn limit<A: Allocator + Copy + Drop>(&self, pit: &Instance<A>, r: u32, t: u32) -> Option<i64>
+        requires resource { r < pit.now.resources }
+        requires period { t < pit.now.periods }
+        ensures { result ≡ limit_at self.now pit.now r t };
 }
 
 /// The load of a resource in a period.
@@ -41,7 +50,7 @@ pub(crate) fn load<A: Allocator + Copy + Drop>(
     requires period { t < pit.now.periods }
     ensures { result ≡ load_of pit.now (by_block tally.now.periods) r t }
 {
-    tally.loads[t as usize * pit.resources() as usize + r as usize]
+    tally.loads[pit.cell(r, t) as usize]
 }
 
 /// What a block earns in a period.
@@ -61,7 +70,7 @@ pub(crate) fn earned<A: Allocator + Copy + Drop>(
     }
 }
 
-/// The first of the blocks that is later than a period.
+/// The least of the blocks that is later than a period.
 pub(crate) fn first_late<S: Schedule>(
     preds: &[u32],
     schedule: &S,
@@ -69,8 +78,7 @@ pub(crate) fn first_late<S: Schedule>(
 ) -> Option<u32>
     requires known { All (λ a. a < S.count schedule.now) preds.now }
     requires rising { IsStrictlyIncreasing preds.now }
-    ensures none { IfNone result (All (λ a. in_order later (S.period_at schedule.now a) ≡ true) preds.now) }
-    ensures some { IfSome result (IsFirstLate (S.period_at schedule.now) later preds.now) }
+    ensures { IsLeast ◌<◌ (IsLate (S.period_at schedule.now) later preds.now) result }
 {
     for a in preds {
         if !keeps_order(later, schedule.period(*a)) {
@@ -97,8 +105,7 @@ fn first_out_of_order<A: Allocator + Copy + Drop>(
     tally: &Tally<A>,
 ) -> Option<(u32, u32)>
     requires { length tally.now.periods ≡ pit.now.blocks }
-    ensures none { IfNone result (IsOrdered pit.now (by_block tally.now.periods)) }
-    ensures some { IfSome result (λ p. IsFirstOutOfOrder pit.now (by_block tally.now.periods) p.0 p.1) }
+    ensures { IsLeast ComesBefore (IsOutOfOrder pit.now (by_block tally.now.periods)) result }
 {
     for b in 0..pit.blocks() {
         if let Some(a) = first_late(pit.preds(b), tally, tally.period(b)) {
@@ -108,42 +115,50 @@ fn first_out_of_order<A: Allocator + Copy + Drop>(
     None
 }
 
-/// The least resource that is over its limit in the period.
+/// Whether the load of a resource in a period is at most its limit.
+fn keeps_limit<A: Allocator + Copy + Drop>(
+    pit: &Instance<A>,
+    tally: &Tally<A>,
+    r: u32,
+    t: u32,
+) -> bool
+    requires tally { IsTally pit.now tally.now }
+    requires resource { r < pit.now.resources }
+    requires period { t < pit.now.periods }
+    ensures { result ≡ is_within (load_of pit.now (by_block tally.now.periods) r t) (upper_of pit.now r t) }
+{
+    match tally.limit(pit, r, t) {
+        Some(limit) => load(pit, tally, r, t) <= i128::from(limit),
+        None => true,
+    }
+}
+
+/// The least resource whose load in the period is above its limit.
 fn first_over_in<A: Allocator + Copy + Drop>(
     pit: &Instance<A>,
     tally: &Tally<A>,
     t: u32,
-) -> Option<Breach>
+) -> Option<u32>
     requires tally { IsTally pit.now tally.now }
     requires period { t < pit.now.periods }
-    ensures none { IfNone result (IsUnderIn pit.now (by_block tally.now.periods) (upper_of pit.now) t pit.now.resources) }
-    ensures some { IfSome result (IsOverIn pit.now (by_block tally.now.periods) (upper_of pit.now) t) }
+    ensures { IsLeast ◌<◌ (λ r. IsOverLimit pit.now (by_block tally.now.periods) (upper_of pit.now) (t, r)) result }
 {
     for r in 0..pit.resources() {
-        if let Some(limit) = pit.upper(r, t) {
-            let load = load(pit, tally, r, t);
-            if load > i128::from(limit) {
-                return Some(Breach::Over {
-                    resource: r,
-                    period: t,
-                    load,
-                    limit,
-                });
-            }
+        if !keeps_limit(pit, tally, r, t) {
+            return Some(r);
         }
     }
     None
 }
 
-/// The least period and resource that is over its limit.
-fn first_over<A: Allocator + Copy + Drop>(pit: &Instance<A>, tally: &Tally<A>) -> Option<Breach>
-    requires tally { IsTally pit.now tally.now }
-    requires ordered { IsOrdered pit.now (by_block tally.now.periods) }
-    ensures { IsFirstBreach pit.now (by_block tally.now.periods) (upper_of pit.now) result }
+/// The least period, and in it the least resource, whose load is above its limit.
+fn first_over<A: Allocator + Copy + Drop>(pit: &Instance<A>, tally: &Tally<A>) -> Option<(u32, u32)>
+    requires { IsTally pit.now tally.now }
+    ensures { IsLeast ComesBefore (IsOverLimit pit.now (by_block tally.now.periods) (upper_of pit.now)) result }
 {
     for t in 0..pit.periods() {
-        if let Some(over) = first_over_in(pit, tally, t) {
-            return Some(over);
+        if let Some(r) = first_over_in(pit, tally, t) {
+            return Some((t, r));
         }
     }
     None
@@ -160,7 +175,14 @@ pub(crate) fn first_breach<A: Allocator + Copy + Drop>(
     if let Some((block, before)) = first_out_of_order(pit, tally) {
         return Some(Breach::Precedence { block, before });
     }
-    first_over(pit, tally)
+    let (period, resource) = first_over(pit, tally)?;
+    let limit = tally.limit(pit, resource, period)?;
+    Some(Breach::Over {
+        resource,
+        period,
+        load: load(pit, tally, resource, period),
+        limit,
+    })
 }
 
 /// Each load that is below its lower limit, by rising period, and in it by rising resource.

@@ -1,12 +1,13 @@
 //! A schedule with its loads and its value, which are moved by differences.
-ghost use Rattle.std.specs.Prelude.{◌≡◌, ℕ, ◌+◌, ◌*◌, ◌<◌, ◌^◌, ◌+ℤ◌, ◌-ℤ◌, None, length, replicate, slice_index_or, slice_set, pos, FitsSigned, IfOk, IfSome};
+ghost use Rattle.std.specs.Prelude.{◌≡◌, ℕ, ◌*◌, ◌<◌, ◌+ℤ◌, ◌-ℤ◌, false, None, length, replicate, slice_index_or, slice_set, pos, FitsSigned, IfOk, IfSome};
 ghost use Rattle.std.specs.Int.{w128};
-ghost use Rattle.pit_num.specs.Within.{IsWithin};
+ghost use Rattle.pit_num.specs.Fitting.{Fits};
+ghost use Rattle.pit_model.specs.Pit.{upper_of};
 ghost use Rattle.pit_plan.specs.Schedule.{by_block, coef_of};
-ghost use Rattle.pit_plan.specs.Standing.{Fits};
-ghost use Rattle.pit_plan.specs.InsidePlan.{placed};
-ghost use Rattle.pit_plan.specs.Totals.{load_at, Moves, moved_by, IsTally};
+ghost use Rattle.pit_plan.specs.InsidePlan.{with_writes};
+ghost use Rattle.pit_plan.specs.Totals.{cell_load, load_at, MovesIn, moved_by, IsTally};
 
+use crate::loads::{Loads, plus, shift};
 use crate::schedule::{Schedule, earned};
 use pit_model::Instance;
 use pit_num::NoMemory;
@@ -34,8 +35,14 @@ impl<A: Allocator + Drop> Schedule for Tally<A> {
 
     ghost count = { λ tally. length tally.periods };
 
+    ghost limit_at = { λ tally. upper_of };
+
     fn period(&self, b: u32) -> Option<u32> {
         self.periods[b as usize]
+    }
+
+    fn limit<B: Allocator + Copy + Drop>(&self, pit: &Instance<B>, r: u32, t: u32) -> Option<i64> {
+        pit.upper(r, t)
     }
 }
 
@@ -57,8 +64,8 @@ impl<A: Allocator + Copy + Drop> Tally<A> {
     /// Gives each written block its period.
     pub(crate) fn write(&mut self, pit: &Instance<A>, writes: &[(u32, Option<u32>)])
         requires tally { IsTally pit.now self.old }
-        requires fits { Fits pit.now writes.now }
-        ensures periods { self.new.periods ≡ placed (λ w. w.1) self.old.periods writes.now }
+        requires fits { Fits pit.now.blocks pit.now.periods writes.now }
+        ensures periods { self.new.periods ≡ with_writes (λ w. w.1) self.old.periods writes.now }
         ensures tally { IsTally pit.now self.new }
     {
         for (block, period) in writes {
@@ -77,10 +84,7 @@ impl<A: Allocator + Copy + Drop> Tally<A> {
         let _blocks = pit.blocks();
         let old = self.periods[b as usize];
         self.periods[b as usize] = None;
-        let Some(t) = old else {
-            return;
-        };
-        shift(pit, &mut self.loads, b, t, false);
+        shift_kept(pit, &mut self.loads, b, old, false);
         self.worth = minus(self.worth, earned(pit, b, old));
     }
 
@@ -95,41 +99,45 @@ impl<A: Allocator + Copy + Drop> Tally<A> {
     {
         let _blocks = pit.blocks();
         self.periods[b as usize] = period;
-        let Some(t) = period else {
-            return;
-        };
-        shift(pit, &mut self.loads, b, t, true);
+        shift_kept(pit, &mut self.loads, b, period, true);
         self.worth = plus(self.worth, earned(pit, b, period));
     }
 }
 
-/// Adds a block's coefficients to the loads of a period, or takes them from these.
-fn shift<A: Allocator + Copy + Drop>(
-    pit: &Instance<A>,
-    loads: &mut Vec<i128, A>,
-    b: u32,
-    t: u32,
-    up: bool,
-)
-    requires known { b < pit.now.blocks }
-    requires period { t < pit.now.periods }
-    requires len { length loads.old.items ≡ pit.now.periods * pit.now.resources }
-    requires room { (r : ℕ) → r < pit.now.resources → FitsSigned w128 (load_at pit.now loads.old.items r t +ℤ moved_by up (coef_of pit.now b r)) }
-    ensures len { length loads.new.items ≡ length loads.old.items }
-    ensures moves { Moves pit.now (load_at pit.now loads.old.items) t (λ r. moved_by up (coef_of pit.now b r)) (load_at pit.now loads.new.items) }
-{
-    for (r, coef) in pit.coefs(b) {
-        let cell = t as usize * pit.resources() as usize + *r as usize;
-        add_at(loads, cell, moved(up, *coef));
+/// The loads of all cells, which began with 0.
+impl<A: Allocator + Drop> Loads for Vec<i128, A> {
+    ghost load_in = { λ loads. cell_load loads.items };
+
+    ghost base = { λ loads. replicate (length loads.items) (pos 0) };
+
+    ghost is_sound = { λ loads. Unit {0} };
+
+    ghost can_refuse = { false };
+
+    fn add(&mut self, cell: u32, term: i64) -> Result<(), NoMemory> {
+        add_at(self, cell as usize, term);
+        Ok(())
     }
 }
 
-/// A sum that stays in range.
-pub(crate) fn plus(sum: i128, term: i128) -> i128
-    requires { FitsSigned w128 (sum +ℤ term) }
-    ensures { result ≡ sum +ℤ term }
+/// Moves the loads of all cells, which is never refused.
+fn shift_kept<A: Allocator + Copy + Drop>(
+    pit: &Instance<A>,
+    loads: &mut Vec<i128, A>,
+    b: u32,
+    period: Option<u32>,
+    up: bool,
+)
+    requires known { b < pit.now.blocks }
+    requires period { IfSome period (λ t. t < pit.now.periods) }
+    requires len { length loads.old.items ≡ pit.now.periods * pit.now.resources }
+    requires room { IfSome period (λ t. (r : ℕ) → r < pit.now.resources
+        → FitsSigned w128 (load_at pit.now (cell_load loads.old.items) r t +ℤ moved_by up (coef_of pit.now b r))) }
+    ensures len { length loads.new.items ≡ length loads.old.items }
+    ensures moves { MovesIn pit.now (load_at pit.now (cell_load loads.old.items)) period (λ r. moved_by up (coef_of pit.now b r))
+        (load_at pit.now (cell_load loads.new.items)) }
 {
-    sum + term
+    let _never_refused = shift(pit, loads, b, period, up);
 }
 
 /// A difference that stays in range.
@@ -140,19 +148,11 @@ fn minus(sum: i128, term: i128) -> i128
     sum - term
 }
 
-/// A coefficient, or its opposite.
-pub(crate) fn moved(up: bool, coef: i64) -> i64
-    requires { IsWithin (10 ^ 18) coef }
-    ensures { result ≡ moved_by up coef }
-{
-    if up { coef } else { -coef }
-}
-
 /// Adds to a cell.
-fn add_at<A: Allocator + Drop>(loads: &mut Vec<i128, A>, at: usize, coef: i64)
+fn add_at<A: Allocator + Drop>(loads: &mut Vec<i128, A>, at: usize, term: i64)
     requires within { at < length loads.old.items }
-    requires room { FitsSigned w128 (slice_index_or loads.old.items at (pos 0) +ℤ coef) }
-    ensures { loads.new.items ≡ slice_set loads.old.items at (slice_index_or loads.old.items at (pos 0) +ℤ coef) }
+    requires room { FitsSigned w128 (slice_index_or loads.old.items at (pos 0) +ℤ term) }
+    ensures { loads.new.items ≡ slice_set loads.old.items at (slice_index_or loads.old.items at (pos 0) +ℤ term) }
 {
-    loads[at] += i128::from(coef);
+    loads[at] += i128::from(term);
 }

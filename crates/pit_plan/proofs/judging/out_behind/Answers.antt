@@ -1,8 +1,9 @@
-use Rattle.std.proofs.Common.{◌≡◌, ◌<◌, ◌≤◌, ℕ, Option, Some, List, false, length, get_or, sym, ap, subst, ◌∙◌}
+use Rattle.std.proofs.Common.{◌≡◌, ◌<◌, ◌≤◌, ℕ, Option, List, false, length, get_or, sym, ap, subst, ◌∙◌}
+use Rattle.pit_num.specs.Least.{ComesBefore, IsLeastOf}
 use Rattle.pit_model.specs.Pit.{ArePreds, succs_of}
 use Rattle.pit_plan.specs.Schedule.{in_order}
-use Rattle.pit_plan.specs.Touched.{IsOut, IsLeastPair}
-use Rattle.pit_plan.proofs.Succs.{first-behind, none-behind}
+use Rattle.pit_plan.specs.Breaches.{IsOutOfOrder}
+use Rattle.pit_plan.proofs.Succs.{least-behind, none-behind}
 use Rattle.pit_plan.proofs.judging.out_behind.Goals as goal
 
 pub returns-then-not-keeps_order : goal.returns-then-not-keeps_order
@@ -15,8 +16,8 @@ returns-then-not-keeps_order g c =
     let later = c.period.ensures ∙ ap (λ (xs : List ℕ). s (get_or xs j 0)) is in
     let fails : in_order (s (get_or (succs_of pit c.args.b) j 0)) (s c.args.b) ≡ false =
     ap (λ (x : Option ℕ). in_order x (s c.args.b)) (sym later) ∙ (ap (in_order c.period.result) (sym c.period-before.ensures) ∙ (sym c.keeps_order.ensures ∙ c.if-not-keeps_order.true)) in
-    subst (λ (xs : List ℕ). IsLeastPair (λ x a. (a ≡ c.args.b) × IsOut pit s x a) (Some (get_or xs j 0, c.args.b))) (sym is)
-    (first-behind pit s c.args.b j sound.rising (subst (λ (xs : List ℕ). j < length xs) is c.loop-later-test.true) c.loop-later.invariant.1 fails)
+    subst (λ (xs : List ℕ). IsLeastOf ComesBefore (λ p. IsOutOfOrder pit s p × (p.1 ≡ c.args.b)) (get_or xs j 0, c.args.b)) (sym is)
+    (least-behind pit s c.args.b j sound.rising (subst (λ (xs : List ℕ). j < length xs) is c.loop-later-test.true) c.loop-later.invariant.1 fails)
 
 pub returns : goal.returns
 returns g c =

@@ -1,7 +1,8 @@
+use Rattle.std.proofs.Common.{ℕ, ◌<◌}
 use Rattle.pit_model.specs.Pit.{upper_of}
-use Rattle.pit_plan.specs.InsideSchedule.{IsUnderIn}
 use Rattle.pit_plan.specs.Schedule.{by_block}
+use Rattle.pit_plan.specs.Breaches.{IsOverLimit}
 use Rattle.pit_plan.proofs.schedule.first_over_in.Given as goal
 
 abbrev pub invariant-loop-r : goal.invariant-loop-r
-invariant-loop-r g l = IsUnderIn l.pit (by_block l.tally.periods) (upper_of l.pit) l.t l.r
+invariant-loop-r g l = (r : ℕ) → r < l.r → IsOverLimit l.pit (by_block l.tally.periods) (upper_of l.pit) (l.t, r) → ⊥

@@ -2,11 +2,11 @@ use Rattle.std.proofs.Common.{ℕ, List, Option, None, get_or, sym, ap, ◌∙�
 use Rattle.std.specs.Prelude.{slice_set}
 use Rattle.std.proofs.lemmas.List.{get_or-set_same}
 use Rattle.pit_plan.specs.Schedule.{by_block}
-use Rattle.pit_plan.proofs.Slots.{placed-none, placed-more, set-twice}
+use Rattle.pit_plan.proofs.Slots.{with_writes-none, with_writes-more, set-twice}
 use Rattle.pit_plan.proofs.tally.Tally.write.Goals as goal
 
 pub loop-block-init : goal.loop-block-init
-loop-block-init g c = (sym (placed-none (λ w. w.1) c.args.self.now.periods), c.requires.tally)
+loop-block-init g c = (sym (with_writes-none (λ w. w.1) c.args.self.now.periods), c.requires.tally)
 
 pub put_in-requires-clause-none : goal.put_in-requires-clause-none
 put_in-requires-clause-none g c =
@@ -21,6 +21,6 @@ loop-block-preserved g c =
       c.put_in.ensures.periods
           ∙ (ap (λ (ps : List (Option ℕ)). slice_set ps w.0 w.1) c.take_out.ensures.periods
           ∙ (set-twice c.loop-block.self.periods w.0 None w.1
-          ∙ placed-more (λ v. v.1) c.args.self.now.periods c.loop-block.self.periods c.args.writes.now c.loop-block.block-index (0, None) c.loop-block-test.true c.loop-block.invariant.0)),
+          ∙ with_writes-more (λ v. v.1) c.args.self.now.periods c.loop-block.self.periods c.args.writes.now c.loop-block.block-index (0, None) c.loop-block-test.true c.loop-block.invariant.0)),
       c.put_in.ensures.tally,
     )

@@ -1,6 +1,0 @@
-use Rattle.std.proofs.Common.{take}
-use Rattle.pit_plan.specs.Touched.{AreMoved}
-use Rattle.pit_plan.proofs.judging.moved_cells.Given as goal
-
-abbrev pub invariant-loop-k : goal.invariant-loop-k
-invariant-loop-k g l = AreMoved l.pit l.tally (take l.k l.writes) l.cells.entries
