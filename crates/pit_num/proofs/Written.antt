@@ -35,11 +35,7 @@ front_after a b c xs ys before front = record {
   appended = appends_more a b c xs front.written before front.appended;
 }
 
--- a fact that holds at any answer
-pub on_err : {T E : Type 0} (r : Result T E) {P : Type 0} → P → OnErr r P
-on_err (Ok x) p = tt
-on_err (Err e) p = p
-
+-- a fact that follows from another at any answer
 pub map_ok : {T E : Type 0} (r : Result T E) {P Q : Type 0} → (P → Q) → OnOk r P → OnOk r Q
 map_ok (Ok x) f p = f p
 map_ok (Err e) f p = tt
