@@ -1,9 +1,10 @@
 -- What one write after another leaves on a device.
-use Rattle.std.proofs.Common.{◌≡◌, ℕ, ◌+◌, Option, Some, None, List, [], ◌∷◌, ◌++◌, refl, sym, ap, ◌∙◌, append_assoc, length, length-append, take, drop, ◌≤◌, ◌-◌, ◌<◌, suc, arith, OnErr, OnOk, Result, Ok, Err, replicate}
+use Rattle.std.proofs.Common.{◌≡◌, ℕ, ◌+◌, Bool, Option, Some, None, List, [], ◌∷◌, ◌++◌, refl, sym, ap, subst, ◌∙◌, append_assoc, length, length-append, take, drop, ◌≤◌, ◌-◌, ◌<◌, suc, arith, IsTrue, IsErr, OnErr, OnOk, Result, Ok, Err, replicate}
+use Rattle.std.proofs.lemmas.Bool.{false≢true}
 use Rattle.std.proofs.lemmas.List.{append-nil, take-replicate, take_at, take-append-drop, take_rest}
 use Rattle.std.proofs.Math.Seq.{take-add}
 use Rattle.std.specs.Io.KnownBytes.{Appends, Keeps}
-use Rattle.pit_num.specs.Printed.{AppendsFront}
+use Rattle.pit_num.specs.Printed.{AppendsFront, Writes, WritesIfAny}
 
 pub appends_nothing : (a : Option (List ℕ)) → Appends a a []
 appends_nothing None = tt
@@ -34,11 +35,7 @@ front_after a b c xs ys before front = record {
   appended = appends_more a b c xs front.written before front.appended;
 }
 
--- a fact that holds at any answer
-pub on_err : {T E : Type 0} (r : Result T E) {P : Type 0} → P → OnErr r P
-on_err (Ok x) p = tt
-on_err (Err e) p = p
-
+-- a fact that follows from another at any answer
 pub map_ok : {T E : Type 0} (r : Result T E) {P Q : Type 0} → (P → Q) → OnOk r P → OnOk r Q
 map_ok (Ok x) f p = f p
 map_ok (Err e) f p = tt
@@ -46,6 +43,40 @@ map_ok (Err e) f p = tt
 pub map_err : {T E : Type 0} (r : Result T E) {P Q : Type 0} → (P → Q) → OnErr r P → OnErr r Q
 map_err (Ok x) f p = tt
 map_err (Err e) f p = f p
+
+-- a call whose first write failed
+pub failed_early : {D E : Type 0} (contents : D → Option (List ℕ)) (has_failed : D → Bool) (old new : D) (text : List ℕ) (result : Result (Unit {0}) E)
+    → IsErr result → AppendsFront (contents old) (contents new) text → IsTrue (has_failed new) → Writes contents has_failed old new text result
+failed_early contents has_failed old new text (Ok x) is front failed = absurd (false≢true is)
+failed_early contents has_failed old new text (Err e) is front failed = record { ok = tt; err = front; fault = failed; sound = tt }
+
+-- the same of a text that may be empty
+pub failed_early_if_any : {D E : Type 0} (contents : D → Option (List ℕ)) (has_failed : D → Bool) (old new : D) (text : List ℕ) (result : Result (Unit {0}) E)
+    → IsErr result → AppendsFront (contents old) (contents new) text → IsTrue (has_failed new) → (text ≡ [] → ⊥) → WritesIfAny contents has_failed old new text result
+failed_early_if_any contents has_failed old new text (Ok x) is front failed some = absurd (false≢true is)
+failed_early_if_any contents has_failed old new text (Err e) is front failed some = record { ok = tt; err = front; fault = failed; sound = tt; empty = λ none. absurd (some none) }
+
+-- a write behind another
+pub written_behind : {D E : Type 0} (contents : D → Option (List ℕ)) (has_failed : D → Bool) (old between new : D) (front rest text : List ℕ) (result : Result (Unit {0}) E)
+    → Appends (contents old) (contents between) front → Writes contents has_failed between new rest result → front ++ rest ≡ text → Writes contents has_failed old new text result
+written_behind contents has_failed old between new front rest text result before writes whole =
+    subst (λ (xs : List ℕ). Writes contents has_failed old new xs result) whole (record {
+      ok = map_ok result (λ after. appends_more (contents old) (contents between) (contents new) front rest before after) writes.ok;
+      err = map_err result (λ after. front_after (contents old) (contents between) (contents new) front rest before after) writes.err;
+      fault = writes.fault;
+      sound = writes.sound;
+    })
+
+-- a text that isn't empty
+pub some_written : {D E : Type 0} (contents : D → Option (List ℕ)) (has_failed : D → Bool) (old new : D) (text other : List ℕ) (result : Result (Unit {0}) E)
+    → WritesIfAny contents has_failed old new text result → text ≡ other → 0 < length other → Writes contents has_failed old new other result
+some_written contents has_failed old new text other result writes same some =
+    subst (λ (xs : List ℕ). Writes contents has_failed old new xs result) same (record {
+      ok = writes.ok;
+      err = writes.err;
+      fault = writes.fault;
+      sound = map_ok result (λ sound. sound (subst (λ (xs : List ℕ). 0 < length xs) (sym same) some)) writes.sound;
+    })
 
 -- a point and zeros, over which digits were written at the end
 pub placed : (k start : ℕ) (digits old new : List ℕ) → start + length digits ≡ 1 + k → length digits ≤ k → k ≤ 18 → old ≡ 46 ∷ replicate 18 48 → drop start new ≡ digits ++ drop (1 + k) old → take start new ≡ take start old → take (1 + k) new ≡ 46 ∷ (replicate (k - length digits) 48 ++ digits)

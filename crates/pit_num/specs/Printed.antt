@@ -1,5 +1,5 @@
 -- The texts of printed numbers, and what a device holds after a write.
-use Rattle.std.specs.Prelude.{◌≡◌, ℕ, ℤ, pos, negsuc, ◌+◌, ◌-◌, ◌/◌, ◌%◌, ◌^◌, List, ◌∷◌, ◌++◌, length, Option, decimal, replicate}
+use Rattle.std.specs.Prelude.{◌≡◌, ℕ, ℤ, pos, negsuc, ◌+◌, ◌-◌, ◌/◌, ◌%◌, ◌^◌, ◌<◌, Bool, IsTrue, IsFalse, List, [], ◌∷◌, ◌++◌, length, Option, Result, IsOk, OnOk, OnErr, decimal, replicate}
 use Rattle.std.specs.Io.KnownBytes.{Appends}
 
 -- the digits of n behind as many zeros as make k digits
@@ -21,3 +21,19 @@ pub record AppendsFront (old new : Option (List ℕ)) (text : List ℕ) : Type 0
   pub rest : List ℕ
   pub whole : text ≡ written ++ rest
   pub appended : Appends old new written
+
+-- A call was to give a device a text. The device holds the text behind what it held, and hasn't failed; or it has failed, and holds a front
+-- of the text there.
+pub record Writes {D E : Type 0} (contents : D → Option (List ℕ)) (has_failed : D → Bool) (old new : D) (text : List ℕ) (result : Result (Unit {0}) E) : Type 0 where
+  pub ok : OnOk result (Appends (contents old) (contents new) text)
+  pub err : OnErr result (AppendsFront (contents old) (contents new) text)
+  pub fault : OnErr result (IsTrue (has_failed new))
+  pub sound : OnOk result (IsFalse (has_failed new))
+
+-- The same of a text that may be empty. Of an empty one the device is given nothing, so that such a text is no fault of any device.
+pub record WritesIfAny {D E : Type 0} (contents : D → Option (List ℕ)) (has_failed : D → Bool) (old new : D) (text : List ℕ) (result : Result (Unit {0}) E) : Type 0 where
+  pub ok : OnOk result (Appends (contents old) (contents new) text)
+  pub err : OnErr result (AppendsFront (contents old) (contents new) text)
+  pub fault : OnErr result (IsTrue (has_failed new))
+  pub sound : OnOk result (0 < length text → IsFalse (has_failed new))
+  pub empty : text ≡ [] → IsOk result × (new ≡ old)

@@ -1,6 +1,5 @@
-ghost use Rattle.std.specs.Prelude.{◌≡◌, ◌<◌, ◌≤◌, [], IsTrue, IsFalse, IsOk, OnErr, OnOk, decimal, length};
-ghost use Rattle.std.specs.Io.KnownBytes.{Appends};
-ghost use Rattle.pit_num.specs.Printed.{unsigned_text, fixed_text, AppendsFront};
+ghost use Rattle.std.specs.Prelude.{◌<◌, ◌≤◌, decimal};
+ghost use Rattle.pit_num.specs.Printed.{unsigned_text, fixed_text, Writes, WritesIfAny};
 
 use super::sink::Sink;
 use itoa::{Buffer, write_digits};
@@ -12,30 +11,21 @@ pub struct WriteFault;
 /// Writes a value, in units of 10^-18: a `-` where it is negative, the whole part without leading zeros, a point and
 /// 18 digits. Takes no memory.
 pub fn write_value<W: Sink>(w: &mut W, value: i128) -> Result<(), WriteFault>
-    ensures ok { OnOk result (Appends (W.contents w.old) (W.contents w.new) (fixed_text 18 value)) }
-    ensures err { OnErr result (AppendsFront (W.contents w.old) (W.contents w.new) (fixed_text 18 value)) }
-    ensures fault { OnErr result (IsTrue (W.has_failed w.new)) }
-    ensures sound { OnOk result (IsFalse (W.has_failed w.new)) }
+    ensures { Writes W.contents W.has_failed w.old w.new (fixed_text 18 value) result }
 {
     write_fixed(w, value, 18)
 }
 
 /// Writes a load or a limit, in millionths: the same with 6 digits. Takes no memory.
 pub fn write_micro<W: Sink>(w: &mut W, value: i128) -> Result<(), WriteFault>
-    ensures ok { OnOk result (Appends (W.contents w.old) (W.contents w.new) (fixed_text 6 value)) }
-    ensures err { OnErr result (AppendsFront (W.contents w.old) (W.contents w.new) (fixed_text 6 value)) }
-    ensures fault { OnErr result (IsTrue (W.has_failed w.new)) }
-    ensures sound { OnOk result (IsFalse (W.has_failed w.new)) }
+    ensures { Writes W.contents W.has_failed w.old w.new (fixed_text 6 value) result }
 {
     write_fixed(w, value, 6)
 }
 
 /// Writes a whole number. Takes no memory.
 pub fn write_whole<W: Sink>(w: &mut W, n: u32) -> Result<(), WriteFault>
-    ensures ok { OnOk result (Appends (W.contents w.old) (W.contents w.new) (decimal n)) }
-    ensures err { OnErr result (AppendsFront (W.contents w.old) (W.contents w.new) (decimal n)) }
-    ensures fault { OnErr result (IsTrue (W.has_failed w.new)) }
-    ensures sound { OnOk result (IsFalse (W.has_failed w.new)) }
+    ensures { Writes W.contents W.has_failed w.old w.new (decimal n) result }
 {
     let mut buffer = Buffer::new();
     write_text(w, buffer.format(n).as_bytes())
@@ -44,14 +34,12 @@ pub fn write_whole<W: Sink>(w: &mut W, n: u32) -> Result<(), WriteFault>
 /// Writes a number in units of 10^-`places`.
 fn write_fixed<W: Sink>(w: &mut W, value: i128, places: u32) -> Result<(), WriteFault>
     requires { (0 < places) × (places ≤ 18) }
-    ensures ok { OnOk result (Appends (W.contents w.old) (W.contents w.new) (fixed_text places value)) }
-    ensures err { OnErr result (AppendsFront (W.contents w.old) (W.contents w.new) (fixed_text places value)) }
-    ensures fault { OnErr result (IsTrue (W.has_failed w.new)) }
-    ensures sound { OnOk result (IsFalse (W.has_failed w.new)) }
+    ensures { Writes W.contents W.has_failed w.old w.new (fixed_text places value) result }
 {
     let magnitude = value.unsigned_abs();
     if value < 0 {
         write_text(w, b"-")?;
+        return write_unsigned(w, magnitude, places);
     }
     write_unsigned(w, magnitude, places)
 }
@@ -59,10 +47,7 @@ fn write_fixed<W: Sink>(w: &mut W, value: i128, places: u32) -> Result<(), Write
 /// The same of a number that isn't negative.
 fn write_unsigned<W: Sink>(w: &mut W, n: u128, places: u32) -> Result<(), WriteFault>
     requires { (0 < places) × (places ≤ 18) }
-    ensures ok { OnOk result (Appends (W.contents w.old) (W.contents w.new) (unsigned_text places n)) }
-    ensures err { OnErr result (AppendsFront (W.contents w.old) (W.contents w.new) (unsigned_text places n)) }
-    ensures fault { OnErr result (IsTrue (W.has_failed w.new)) }
-    ensures sound { OnOk result (IsFalse (W.has_failed w.new)) }
+    ensures { Writes W.contents W.has_failed w.old w.new (unsigned_text places n) result }
 {
     let unit = 10u128.pow(places);
     let mut buffer = Buffer::new();
@@ -76,11 +61,7 @@ fn write_unsigned<W: Sink>(w: &mut W, n: u128, places: u32) -> Result<(), WriteF
 
 /// Gives a device the whole text. Of an empty one it gives nothing, so that such a text is no fault of any device.
 pub fn write_text<W: Sink>(w: &mut W, text: &[u8]) -> Result<(), WriteFault>
-    ensures ok { OnOk result (Appends (W.contents w.old) (W.contents w.new) text.now) }
-    ensures err { OnErr result (AppendsFront (W.contents w.old) (W.contents w.new) text.now) }
-    ensures fault { OnErr result (IsTrue (W.has_failed w.new)) }
-    ensures sound { OnOk result (0 < length text.now → IsFalse (W.has_failed w.new)) }
-    ensures empty { text.now ≡ [] → IsOk result × (w.new ≡ w.old) }
+    ensures { WritesIfAny W.contents W.has_failed w.old w.new text.now result }
 {
     let mut rest = text;
     while !rest.is_empty() {

@@ -1,10 +1,9 @@
 use Rattle.std.proofs.Common.{◌≡◌, ℕ, ◌∙◌, ap, List, length, take, ◌++◌, ◌∷◌, ◌/◌, ◌%◌, ◌^◌, ◌<◌, ◌≤◌, decimal, arith, subst, refl, replicate, ◌+◌}
-use Rattle.std.specs.Io.KnownBytes.{Appends}
 use Rattle.pit_num.specs.Printed.{unsigned_text, places, AppendsFront}
 use Rattle.std.proofs.lemmas.Fmt.{length-decimal-le}
 use Rattle.pit_num.proofs.Digits.{power_le}
 use Rattle.pit_num.proofs.Nearest.{ten_pos}
-use Rattle.pit_num.proofs.Written.{on_err, map_ok, map_err, front_more, front_after, appends_more, placed}
+use Rattle.pit_num.proofs.Written.{front_more, failed_early, written_behind, some_written, placed}
 use Rattle.pit_num.proofs.print.write_unsigned.Goals as goal
 
 remainder : (n k : ℕ) → k ≤ 18 → (unit : ℕ) → unit ≡ 10 ^ k → (n % unit < 10 ^ k) × (10 ^ k ≤ 10 ^ 18)
@@ -24,12 +23,14 @@ text_is n k unit whole fraction unit_is whole_is fraction_is =
 pub nonzero_div-n : goal.nonzero_div-n
 nonzero_div-n g c = omega (arith, ten_pos c.args.places, c.pow-unit.ensures)
 
-pub returns-in_err-write_text-clause-err : goal.returns-in_err-write_text-clause-err
-returns-in_err-write_text-clause-err g c =
+pub returns-in_err-write_text : goal.returns-in_err-write_text
+returns-in_err-write_text g c =
     let whole : c.as_bytes.result.now ≡ decimal (c.args.n / c.pow-unit.result) = cc in
-    on_err c.from_residual.result (subst (λ (xs : List ℕ). AppendsFront (g.W.Sink.contents c.args.w.now) (g.W.Sink.contents c.write_text.new.w) xs)
+    failed_early _ _ _ _ _ c.from_residual.result c.from_residual.ensures.0
+    (subst (λ (xs : List ℕ). AppendsFront (g.W.Sink.contents c.args.w.now) (g.W.Sink.contents c.write_text.new.w) xs)
     (text_is c.args.n c.args.places c.pow-unit.result c.as_bytes.result.now (46 ∷ places c.args.places (c.args.n % c.pow-unit.result)) c.pow-unit.ensures whole refl)
     (front_more _ _ _ _ c.in_err-write_text.ensures.err))
+    c.in_err-write_text.ensures.fault
 
 pub nonzero_rem-n : goal.nonzero_rem-n
 nonzero_rem-n g c = omega (arith, ten_pos c.args.places, c.pow-unit.ensures)
@@ -41,22 +42,12 @@ pub write_digits-requires : goal.write_digits-requires
 write_digits-requires g c = let few : length (decimal (c.args.n % c.pow-unit.result)) ≤ c.args.places = decimal_fits c.args.n c.args.places c.requires.0 c.requires.1 c.pow-unit.result c.pow-unit.ensures in
     (omega arith, omega arith)
 
-pub returns-clause-ok : goal.returns-clause-ok
-returns-clause-ok g c =
+pub returns : goal.returns
+returns g c =
     let few : length (decimal (c.args.n % c.pow-unit.result)) ≤ c.args.places = decimal_fits c.args.n c.args.places c.requires.0 c.requires.1 c.pow-unit.result c.pow-unit.ensures in
     let whole : c.as_bytes.result.now ≡ decimal (c.args.n / c.pow-unit.result) = cc in
     let fraction : take (1 + c.args.places) c.write_digits.new.buf ≡ 46 ∷ places c.args.places (c.args.n % c.pow-unit.result) =
     placed c.args.places c.write_digits.result (decimal (c.args.n % c.pow-unit.result)) (46 ∷ replicate 18 48) c.write_digits.new.buf c.write_digits.ensures.start few c.requires.1 refl c.write_digits.ensures.written c.write_digits.ensures.before in
-    map_ok c.write_text-2.result (λ after. subst (λ (xs : List ℕ). Appends (g.W.Sink.contents c.args.w.now) (g.W.Sink.contents c.write_text-2.new.w) xs)
-    (text_is c.args.n c.args.places c.pow-unit.result c.as_bytes.result.now (take (1 + c.args.places) c.write_digits.new.buf) c.pow-unit.ensures whole fraction)
-    (appends_more _ _ _ _ _ c.in_ok-write_text.ensures.ok after)) c.write_text-2.ensures.ok
-
-pub returns-clause-err : goal.returns-clause-err
-returns-clause-err g c =
-    let few : length (decimal (c.args.n % c.pow-unit.result)) ≤ c.args.places = decimal_fits c.args.n c.args.places c.requires.0 c.requires.1 c.pow-unit.result c.pow-unit.ensures in
-    let whole : c.as_bytes.result.now ≡ decimal (c.args.n / c.pow-unit.result) = cc in
-    let fraction : take (1 + c.args.places) c.write_digits.new.buf ≡ 46 ∷ places c.args.places (c.args.n % c.pow-unit.result) =
-    placed c.args.places c.write_digits.result (decimal (c.args.n % c.pow-unit.result)) (46 ∷ replicate 18 48) c.write_digits.new.buf c.write_digits.ensures.start few c.requires.1 refl c.write_digits.ensures.written c.write_digits.ensures.before in
-    map_err c.write_text-2.result (λ after. subst (λ (xs : List ℕ). AppendsFront (g.W.Sink.contents c.args.w.now) (g.W.Sink.contents c.write_text-2.new.w) xs)
-    (text_is c.args.n c.args.places c.pow-unit.result c.as_bytes.result.now (take (1 + c.args.places) c.write_digits.new.buf) c.pow-unit.ensures whole fraction)
-    (front_after _ _ _ _ _ c.in_ok-write_text.ensures.ok after)) c.write_text-2.ensures.err
+    written_behind _ _ _ c.write_text.new.w _ c.as_bytes.result.now (46 ∷ places c.args.places (c.args.n % c.pow-unit.result)) _ c.write_text-2.result c.in_ok-write_text.ensures.ok
+    (some_written _ _ _ _ _ _ c.write_text-2.result c.write_text-2.ensures fraction (omega arith))
+    (text_is c.args.n c.args.places c.pow-unit.result c.as_bytes.result.now (46 ∷ places c.args.places (c.args.n % c.pow-unit.result)) c.pow-unit.ensures whole refl)
