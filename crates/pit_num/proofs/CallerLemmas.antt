@@ -1,0 +1,4 @@
+-- Lemmas for the crates above.
+pub use Rattle.pit_num.proofs.Written.{appends_nothing, appends_more, front_more, front_after, on_err, map_ok, map_err}
+pub use Rattle.pit_num.proofs.Factors.{factor_le}
+pub use Rattle.pit_num.proofs.Fitting.{writes_of-fits}
