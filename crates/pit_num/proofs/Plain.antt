@@ -8,6 +8,7 @@ use Rattle.std.proofs.lemmas.List.Folds.{list_all-append}
 use Rattle.std.proofs.lemmas.List.Sums.{prefix_len_stops, prefix_len-le-length, prefix_len-drop_no, prefix_len-drop_all}
 use Rattle.std.proofs.lemmas.Bool.Decides.{nat_tests}
 use Rattle.pit_num.specs.Decimal.{are_digits, is_point, is_e, is_negative, after_sign, after_front_point, mantissa, whole_part, fraction_part, has_exponent, signed_exponent, with_sign, micro_of, millionths, raises, lowers, significand, exponent, is_number, is_decimal, is_too_long}
+use Rattle.pit_num.specs.declared.limits.TheConstants.{MICRO_LIMIT}
 use Rattle.pit_num.specs.Rounding.{nearest}
 use Rattle.std.proofs.lemmas.Nat.{pow-add}
 use Rattle.std.proofs.Math.Nat.{mul-le-mul_right}
@@ -116,11 +117,11 @@ plain_millionths text W F plain few =
     ∙ spread (digits_value 10 W) (10 ^ length F) (digits_value 10 F) (10 ^ (6 - length F))
     ∙ ap (λ (n : ℕ). digits_value 10 W * n + digits_value 10 F * 10 ^ (6 - length F)) powers
 
-is_micro : (text : List ℕ) → is_decimal text ≡ true → is_too_long text ≡ false → millionths text < 10 ^ 18 → micro_of text ≡ Ok (with_sign (is_negative text) (millionths text))
+is_micro : (text : List ℕ) → is_decimal text ≡ true → is_too_long text ≡ false → millionths text < MICRO_LIMIT → micro_of text ≡ Ok (with_sign (is_negative text) (millionths text))
 unfolding micro_of
 is_micro text decimal short small = grind (arith, nat_tests)
 
-pub plain_micro : (text W F : List ℕ) → IsPlain text W F → are_digits W ≡ true → are_digits F ≡ true → 0 < length W + length F → length W ≤ 12 → length F ≤ 6 → millionths text < 10 ^ 18 → micro_of text ≡ Ok (with_sign (is_negative text) (millionths text))
+pub plain_micro : (text W F : List ℕ) → IsPlain text W F → are_digits W ≡ true → are_digits F ≡ true → 0 < length W + length F → length W ≤ 12 → length F ≤ 6 → millionths text < MICRO_LIMIT → micro_of text ≡ Ok (with_sign (is_negative text) (millionths text))
 plain_micro text W F plain whole fraction some short few small =
     let parts : significand text ≡ W ++ F = ap (λ (ds : List ℕ). ds ++ fraction_part text) plain.whole ∙ ap (λ (ds : List ℕ). W ++ ds) plain.fraction in
     let count : length (significand text) ≡ length W + length F = ap length parts ∙ length-append W F in
@@ -133,7 +134,7 @@ plain_micro text W F plain whole fraction some short few small =
     is_micro text decimal not_long small
 
 -- what two fronts of digits say of a text
-pub fronts_micro : (text U F : List ℕ) (count places whole fraction : ℕ) → U ≡ after_sign text → count ≡ prefix_len is_ascii_digit U → whole ≡ digits_value 10 (take count U) → F ≡ after_front_point (drop count U) → places ≡ prefix_len is_ascii_digit F → fraction ≡ digits_value 10 (take places F) → length F ≤ places → count + places ≢ 0 → count ≤ 12 → places ≤ 6 → whole * 10 ^ 6 + fraction * 10 ^ (6 - places) < 10 ^ 18 → micro_of text ≡ Ok (with_sign (is_negative text) (whole * 10 ^ 6 + fraction * 10 ^ (6 - places)))
+pub fronts_micro : (text U F : List ℕ) (count places whole fraction : ℕ) → U ≡ after_sign text → count ≡ prefix_len is_ascii_digit U → whole ≡ digits_value 10 (take count U) → F ≡ after_front_point (drop count U) → places ≡ prefix_len is_ascii_digit F → fraction ≡ digits_value 10 (take places F) → length F ≤ places → count + places ≢ 0 → count ≤ 12 → places ≤ 6 → whole * 10 ^ 6 + fraction * 10 ^ (6 - places) < MICRO_LIMIT → micro_of text ≡ Ok (with_sign (is_negative text) (whole * 10 ^ 6 + fraction * 10 ^ (6 - places)))
 fronts_micro text U F count places whole fraction unsigned count_is whole_is behind_is places_is fraction_is long some short few small =
     let count_le : count ≤ length U = omega (arith, prefix_len-le-length is_ascii_digit U) in
     let places_le : places ≤ length F = omega (arith, prefix_len-le-length is_ascii_digit F) in
@@ -154,7 +155,7 @@ fronts_micro text U F count places whole fraction unsigned count_is whole_is beh
     ∙ ap (λ (n : ℕ). Ok (with_sign (is_negative text) n)) value
 
 -- a number of few digits is below the limit
-pub plain_bound : (whole fraction places : ℕ) → whole < 10 ^ 12 → fraction < 10 ^ places → places ≤ 6 → whole * 10 ^ 6 + fraction * 10 ^ (6 - places) < 10 ^ 18
+pub plain_bound : (whole fraction places : ℕ) → whole < 10 ^ 12 → fraction < 10 ^ places → places ≤ 6 → whole * 10 ^ 6 + fraction * 10 ^ (6 - places) < MICRO_LIMIT
 plain_bound whole fraction places small part few =
     let all : places + (6 - places) ≡ 6 = omega arith in
     let powers : 10 ^ places * 10 ^ (6 - places) ≡ 10 ^ 6 = sym (pow-add 10 places (6 - places)) ∙ ap (λ (k : ℕ). 10 ^ k) all in

@@ -4,6 +4,8 @@ use Rattle.std.specs.Str.Parse.{digits_value}
 use Rattle.std.specs.List.{before_first, after_first, list_any, list_all}
 use Rattle.std.specs.Char.{is_ascii_digit}
 use Rattle.pit_num.specs.Rounding.{nearest}
+use Rattle.pit_num.specs.declared.limits.TheConstants.{MICRO_LIMIT}
+use Rattle.pit_num.specs.declared.parse.TheConstants.{DIGITS_MAX, EXPONENT_DIGITS_MAX}
 use Rattle.pit_num.specs.declared.parse.NumError.{NumError}
 use Rattle.pit_num.specs.declared.parse.NumError.TheVariants.{Malformed, TooLong, TooLarge}
 
@@ -19,7 +21,7 @@ is_number text = nat_lt 0 (length text) && are_digits text
 unfoldable pub whole_of : List ℕ → Result ℕ NumError
 whole_of text =
     if not (is_number text) then Err Malformed
-    else if nat_lt 38 (length text) then Err TooLong
+    else if nat_lt DIGITS_MAX (length text) then Err TooLong
     else if nat_le (2 ^ 32) (digits_value 10 text) then Err TooLarge
     else Ok (digits_value 10 text)
 
@@ -75,7 +77,7 @@ is_decimal text =
     is_number (significand text) && (not (has_exponent text) || is_number (exponent text))
 
 abbrev pub is_too_long : List ℕ → Bool
-is_too_long text = nat_lt 38 (length (significand text)) || nat_lt 3 (length (exponent text))
+is_too_long text = nat_lt DIGITS_MAX (length (significand text)) || nat_lt EXPONENT_DIGITS_MAX (length (exponent text))
 
 -- ten to the exponent stands in the numerator, or in the denominator
 abbrev pub raises : List ℕ → ℕ
@@ -97,7 +99,7 @@ millionths text = nearest (numerator text * 10 ^ 6) (denominator text)
 
 -- a magnitude that is small enough
 abbrev pub below_limit : ℕ → Option ℕ
-below_limit n = if nat_lt n (10 ^ 18) then Some n else None
+below_limit n = if nat_lt n MICRO_LIMIT then Some n else None
 
 abbrev pub with_sign : Bool → ℕ → ℤ
 with_sign negative n = if negative then neg_ℤ (pos n) else pos n
@@ -106,5 +108,5 @@ unfoldable pub micro_of : List ℕ → Result ℤ NumError
 micro_of text =
     if not (is_decimal text) then Err Malformed
     else if is_too_long text then Err TooLong
-    else if nat_le (10 ^ 18) (millionths text) then Err TooLarge
+    else if nat_le MICRO_LIMIT (millionths text) then Err TooLarge
     else Ok (with_sign (is_negative text) (millionths text))

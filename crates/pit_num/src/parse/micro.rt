@@ -5,6 +5,7 @@ use super::digits::{SHORT_MAX, are_digits, leading_digits};
 use super::parts::{after_front_point, split_exponent, split_point, split_sign};
 use super::scale::magnitude;
 use super::{DIGITS_MAX, EXPONENT_DIGITS_MAX, NumError};
+use crate::limits::MICRO_LIMIT;
 
 /// The number that a decimal text stands for in millionths, a half away from zero. Takes no memory.
 pub fn parse_micro(text: &str) -> Result<i64, NumError>
@@ -45,7 +46,7 @@ fn plain_magnitude(whole: u64, fraction: u64, places: usize) -> u64
     requires fraction { fraction < 10 ^ places }
     requires places { places ≤ PLACES }
     ensures value { result ≡ whole * 10 ^ 6 + fraction * 10 ^ (6 - places) }
-    ensures bound { result < 10 ^ 18 }
+    ensures bound { result < MICRO_LIMIT }
 {
     whole * 1_000_000 + fraction * place_value(places)
 }
@@ -70,7 +71,7 @@ fn place_value(places: usize) -> u64
 /// A number below the limit, negated where it is to be negative.
 #[inline]
 fn with_sign(negative: bool, magnitude: u64) -> i64
-    requires { magnitude < 10 ^ 18 }
+    requires { magnitude < MICRO_LIMIT }
     ensures { result ≡ with_sign negative magnitude }
 {
     let value = magnitude as i64;

@@ -5,9 +5,10 @@ ghost use Rattle.pit_num.specs.Rounding.{nearest};
 
 use super::digits::digits_value;
 use super::{DIGITS_MAX, EXPONENT_DIGITS_MAX};
+use crate::limits::MICRO_LIMIT;
 
-/// 10^18, which no magnitude in millionths reaches.
-const LIMIT: u128 = 1_000_000_000_000_000_000;
+/// The limit of magnitudes, in the width of a significand.
+const LIMIT: u128 = MICRO_LIMIT as u128;
 
 /// The magnitude of a decimal's parts in millionths, where it is below the limit.
 pub fn magnitude(whole: &[u8], fraction: &[u8], lowers: bool, exponent: &[u8]) -> Option<u64>

@@ -1,6 +1,7 @@
 use Rattle.std.proofs.Common.{arith, ◌≡◌, ◌+◌, ◌-◌, ◌*◌, ◌^◌, ◌<◌, ℕ, ℤ, drop, ap, sym, ◌∙◌, Ok, Result, Bool}
 use Rattle.std.proofs.lemmas.List.{take_rest}
 use Rattle.pit_num.specs.declared.parse.NumError.{NumError}
+use Rattle.pit_num.specs.declared.limits.TheConstants.{MICRO_LIMIT}
 use Rattle.pit_num.specs.Decimal.{is_negative, with_sign, after_front_point}
 use Rattle.pit_num.proofs.Digits.{power_le}
 use Rattle.pit_num.proofs.Magnitudes.{sign_kept}
@@ -18,7 +19,7 @@ unfolding wrapped
 returns c =
     let n : ℕ = c.leading_digits-whole.result.0 * 10 ^ 6 + c.leading_digits-fraction.result.0 * 10 ^ (6 - c.leading_digits-fraction.result.1) in
     let value : c.plain_magnitude-magnitude.result ≡ n = c.plain_magnitude-magnitude.ensures.value in
-    let small : n < 10 ^ 18 = omega (arith, value, c.plain_magnitude-magnitude.ensures.bound) in
+    let small : n < MICRO_LIMIT = omega (arith, value, c.plain_magnitude-magnitude.ensures.bound) in
     let is : c.with_sign.result ≡ with_sign (is_negative c.args.text.now) n = c.with_sign.ensures ∙ ap (λ (b : Bool). with_sign b c.plain_magnitude-magnitude.result) c.split_sign-negative.ensures.sign ∙ ap (with_sign (is_negative c.args.text.now)) value in
     let behind : c.after_front_point-behind.result.now ≡ after_front_point (drop c.leading_digits-whole.result.1 c.split_sign-negative.result.1.now) = c.after_front_point-behind.ensures ∙ ap after_front_point (take_rest c.split_sign-negative.result.1.now c.leading_digits-whole.result.1) in
     ap wrapped (sign_kept c.with_sign.result (is_negative c.args.text.now) n is small)
