@@ -1,9 +1,60 @@
--- The words that faults name inputs with.
-use Rattle.std.specs.Prelude.{ℕ, List, codes}
+-- The inputs: the words that faults name them with, and what their texts stand for.
+use Rattle.std.specs.Prelude.{◌≡◌, ℕ, List, codes}
+use Rattle.pit_model.specs.Pit.{Pit}
+use Rattle.pit_text.specs.declared.error.TextError.{TextError}
+use Rattle.pit_text.specs.Cutting.{cut_of, end_line}
+use Rattle.pit_text.specs.Stands.{StandsFor, FailsFirst, StandsWhole, FailsWhole}
+use Rattle.pit_text.specs.Model.{model_line, model_end, pit_of}
+use Rattle.pit_text.specs.Precedence.{precedence_line, pit_with_preds}
+use Rattle.pit_text.specs.Solution.{solution_line, period_in, scheduled, IsSolution}
 use Rattle.pit_cli.specs.declared.input.Input.{Input}
 use Rattle.pit_cli.specs.declared.input.Input.TheVariants.{Model, Precedence, Solution}
+use Rattle.pit_cli.specs.Steps.{Step}
+use Rattle.pit_cli.specs.Devices.{Reading, input_step}
 
 abbrev pub input_name : Input → List ℕ
 input_name Model = codes "model"
 input_name Precedence = codes "precedence"
 input_name Solution = codes "solution"
+
+-- a text stands for facts, and these say a value
+pub record StandsAs {F B : Type 0} (Stands : List F → Type 0) (value_of : List F → B) (value : B) : Type 0 where
+  pub facts : List F
+  pub stands : Stands facts
+  pub says : value ≡ value_of facts
+
+-- a model that stands for a pit, and one with its first error
+abbrev pub IsModel : List ℕ → Pit → Type 0
+IsModel bytes = StandsAs (StandsWhole model_line model_end (cut_of bytes)) pit_of
+
+abbrev pub IsBadModel : List ℕ → TextError → Type 0
+IsBadModel bytes error = FailsWhole model_line model_end (cut_of bytes) (end_line bytes) error.line error.cause
+
+-- precedences that stand for a pit, of one that is given; and one with its first error
+abbrev pub IsOrder : Pit → List ℕ → Pit → Type 0
+IsOrder given bytes = StandsAs (StandsFor (precedence_line given) (cut_of bytes)) (pit_with_preds given)
+
+abbrev pub IsBadOrder : Pit → List ℕ → TextError → Type 0
+IsBadOrder given bytes error = FailsFirst (precedence_line given) (cut_of bytes) error.line error.cause
+
+-- a solution of a pit, its blocks with their periods by rising block, and one with its first error
+abbrev pub IsSolutionOf : Pit → List ℕ → List (ℕ × ℕ) → Type 0
+IsSolutionOf pit bytes = StandsAs (StandsFor (solution_line pit.blocks pit.periods) (cut_of bytes)) (λ facts. scheduled pit.blocks (period_in facts))
+
+abbrev pub IsBadSolution : Pit → List ℕ → TextError → Type 0
+IsBadSolution pit bytes error = FailsFirst (solution_line pit.blocks pit.periods) (cut_of bytes) error.line error.cause
+
+-- the blocks of a schedule rise, and blocks and periods are those of the pit
+abbrev pub IsScheduleOf : Pit → List (ℕ × ℕ) → Type 0
+IsScheduleOf pit schedule = IsSolution pit.blocks pit.periods schedule
+
+-- ---- the steps
+
+abbrev pub model_step : Reading → Step (Unit {0}) Pit
+model_step model = input_step Model model (λ _. IsModel) (λ _. IsBadModel)
+
+abbrev pub order_step : Reading → Step Pit Pit
+order_step precedence = input_step Precedence precedence IsOrder IsBadOrder
+
+abbrev pub schedule_step : Reading → Step Pit (List (ℕ × ℕ))
+schedule_step solution = input_step Solution solution IsSolutionOf IsBadSolution

@@ -1,5 +1,7 @@
+pub mod Steps
+pub mod Devices
 pub mod Inputs
 pub mod Statuses
 pub mod CheckText
-pub mod Outcome
-pub mod Checked
+pub mod Value
+pub mod Check

@@ -5,8 +5,8 @@ ghost use Rattle.pit_num.specs.Printed.{fixed_text};
 ghost use Rattle.pit_cli.specs.CheckText.{load_text, pair_text, breach_text, short_text, shorts_text, is_fine as fine_of, fine_text, check_text, check_status};
 ghost use Rattle.pit_cli.specs.declared.status.Status.TheVariants.{Fine, Failed};
 
-use super::engine::write_line;
 use super::status::Status;
+use super::value_text::write_line;
 use pit_num::{Sink, WriteFault, write_micro, write_text, write_whole};
 use pit_plan::{Breach, Short};
 

@@ -1,24 +1,27 @@
 //! The engines of `pit`: from the bytes of the inputs to the bytes of the answer.
 //!
-//! An engine reads its inputs whole from devices, in order, and each is parsed before the next is read. What it writes is the text
-//! of what its inputs stand for, or nothing where an input has a fault; the fault is the first one.
+//! An engine is a run of steps: it reads its inputs whole from devices, in order, and each is parsed before the next is read. What it writes is
+//! the text of what its inputs stand for, or nothing where an input has a fault; the fault is the first one. As `one_outcome` says, what the
+//! devices show tells how a run ended.
 #![tactic(auto)]
 
 mod check_text;
-mod checking;
-mod engine;
+mod engines;
 mod fault;
 mod input;
+mod outcome;
 mod parsed;
 mod planned;
 mod read;
 mod status;
 #[cfg(test)]
 mod tests;
+mod value_text;
 
-pub use checking::check;
-pub use engine::value;
+pub use engines::check::check;
+pub use engines::value::value;
 pub use fault::CliFault;
 pub use input::Input;
-pub use read::{MAX_BYTES, ReadError, read_all};
+pub use outcome::one_outcome;
+pub use read::{INPUT_BYTES_MAX, ReadError, read_all};
 pub use status::Status;

@@ -1,6 +1,7 @@
 ghost use Rattle.std.specs.Prelude.{◌≡◌, IfOk, MatchResult};
-ghost use Rattle.pit_text.specs.Solution.{IsSolution};
-ghost use Rattle.pit_cli.specs.Outcome.{reading, IsWhole, IsModel, IsOrder, IsSolutionOf, IsInputFault, IsModelFault, IsOrderFault, IsSolutionFault, ReadsPit, IsPitFault, ReadsSchedule, IsScheduleFault};
+ghost use Rattle.pit_cli.specs.Steps.{IsResultOf};
+ghost use Rattle.pit_cli.specs.Devices.{reading_of, IsWhole, IsInputFault, IsTextFault};
+ghost use Rattle.pit_cli.specs.Inputs.{IsModel, IsBadModel, IsOrder, IsBadOrder, IsSolutionOf, IsBadSolution, IsScheduleOf, model_step, schedule_step};
 
 use super::fault::CliFault;
 use super::input::Input;
@@ -16,7 +17,7 @@ pub(crate) fn bytes_of<A: Allocator, R: Source>(
     source: &mut R,
     file: Input,
 ) -> Result<Vec<u8, A>, CliFault>
-    ensures { let read = reading (R.remaining source.old) (R.remaining source.new) (R.has_failed source.new) in
+    ensures { let read = reading_of (R.remaining source.old) (R.remaining source.new) (R.has_failed source.new) in
         MatchResult result (λ bytes. IsWhole read bytes.items) (IsInputFault read file) }
 {
     match read_all(alloc, source) {
@@ -29,7 +30,7 @@ pub(crate) fn bytes_of<A: Allocator, R: Source>(
 
 /// The pit of a model, to which facts can be added.
 fn builder_of<A: Allocator + Copy + Drop>(alloc: A, model: &[u8]) -> Result<Builder<A>, CliFault>
-    ensures { MatchResult result (IsModel model.now) (IsModelFault model.now) }
+    ensures { MatchResult result (IsModel model.now) (IsTextFault Input.Model (IsBadModel model.now)) }
 {
     match read_model(alloc, model) {
         Ok(builder) => Ok(builder),
@@ -47,7 +48,7 @@ pub(crate) fn ordered<A: Allocator + Copy + Drop>(
     precedence: &[u8],
     given: Builder<A>,
 ) -> Result<Builder<A>, CliFault>
-    ensures { MatchResult result (IsOrder given precedence.now) (IsOrderFault given precedence.now) }
+    ensures { MatchResult result (IsOrder given precedence.now) (IsTextFault Input.Precedence (IsBadOrder given precedence.now)) }
 {
     match read_precedence(alloc, precedence, given) {
         Ok(builder) => Ok(builder),
@@ -77,8 +78,10 @@ fn schedule_of<A: Allocator + Copy + Drop>(
     solution: &[u8],
     instance: &Instance<A>,
 ) -> Result<Vec<(u32, u32), A>, CliFault>
-    ensures result { MatchResult result (λ schedule. IsSolutionOf instance.now solution.now schedule.items) (IsSolutionFault instance.now solution.now) }
-    ensures fits { IfOk result (λ schedule. IsSolution instance.now.blocks instance.now.periods schedule.items) }
+    ensures result { MatchResult result
+        (λ schedule. IsSolutionOf instance.now solution.now schedule.items)
+        (IsTextFault Input.Solution (IsBadSolution instance.now solution.now)) }
+    ensures fits { IfOk result (λ schedule. IsScheduleOf instance.now schedule.items) }
 {
     match read_solution(alloc, solution, instance) {
         Ok(schedule) => Ok(schedule),
@@ -95,8 +98,8 @@ pub(crate) fn read_builder<A: Allocator + Copy + Drop, M: Source>(
     alloc: A,
     model: &mut M,
 ) -> Result<Builder<A>, CliFault>
-    ensures { let read = reading (M.remaining model.old) (M.remaining model.new) (M.has_failed model.new) in
-        MatchResult result (ReadsPit read) (IsPitFault read) }
+    ensures { let read = reading_of (M.remaining model.old) (M.remaining model.new) (M.has_failed model.new) in
+        IsResultOf (model_step read) tt result }
 {
     let bytes = bytes_of(alloc, model, Input::Model)?;
     builder_of(alloc, &bytes)
@@ -108,9 +111,9 @@ pub(crate) fn read_schedule<A: Allocator + Copy + Drop, S: Source>(
     solution: &mut S,
     pit: &Instance<A>,
 ) -> Result<Vec<(u32, u32), A>, CliFault>
-    ensures read { let read = reading (S.remaining solution.old) (S.remaining solution.new) (S.has_failed solution.new) in
-        MatchResult result (λ schedule. ReadsSchedule read pit.now schedule.items) (IsScheduleFault read pit.now) }
-    ensures fits { IfOk result (λ schedule. IsSolution pit.now.blocks pit.now.periods schedule.items) }
+    ensures read { let read = reading_of (S.remaining solution.old) (S.remaining solution.new) (S.has_failed solution.new) in
+        MatchResult result (λ schedule. (schedule_step read).Gives pit.now schedule.items) ((schedule_step read).Fails pit.now) }
+    ensures fits { IfOk result (λ schedule. IsScheduleOf pit.now schedule.items) }
 {
     let bytes = bytes_of(alloc, solution, Input::Solution)?;
     schedule_of(alloc, &bytes, pit)

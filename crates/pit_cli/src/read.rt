@@ -1,4 +1,4 @@
-ghost use Rattle.std.specs.Prelude.{◌≡◌, ℕ, ◌^◌, ◌<◌, ◌≤◌, ◌↔◌, List, IsTrue, IfOk, IfErr, IsErrOf, length};
+ghost use Rattle.std.specs.Prelude.{◌≡◌, ℕ, ◌<◌, ◌≤◌, ◌↔◌, List, IsTrue, IfOk, IfErr, IsErrOf, length};
 ghost use Rattle.std.specs.Io.KnownBytes.{Consumes, IsAtEnd};
 
 use pit_num::Source;
@@ -9,14 +9,14 @@ use std::alloc::Allocator;
 pub enum ReadError {
     /// The device failed.
     Read,
-    /// More than `MAX_BYTES` bytes came.
+    /// More than `INPUT_BYTES_MAX` bytes came.
     TooLong,
     /// Memory ran out.
     NoMemory,
 }
 
-/// The most bytes of one input.
-pub const MAX_BYTES: usize = 4_294_967_296;
+/// The greatest number of bytes of one input.
+pub const INPUT_BYTES_MAX: usize = 4_294_967_296;
 
 /// How many bytes are asked of a device at once.
 const CHUNK: usize = 65_536;
@@ -25,15 +25,14 @@ const CHUNK: usize = 65_536;
 pub fn read_all<A: Allocator, R: Source>(alloc: A, source: &mut R) -> Result<Vec<u8, A>, ReadError>
     ensures bytes { IfOk result (λ text. Consumes (R.remaining source.old) (R.remaining source.new) text.items) }
     ensures end { IfOk result (λ text. IsAtEnd (R.remaining source.new)) }
-    ensures short { IfOk result (λ text. length text.items ≤ 2 ^ 32) }
-
+    ensures short { IfOk result (λ text. length text.items ≤ INPUT_BYTES_MAX) }
     ensures read { IsErrOf result ReadError.Read ↔ IsTrue (R.has_failed source.new) }
-    ensures long { IsErrOf result ReadError.TooLong → (text : List ℕ) × (2 ^ 32 < length text) × Consumes (R.remaining source.old) (R.remaining source.new) text }
+    ensures long { IsErrOf result ReadError.TooLong → (text : List ℕ) × (INPUT_BYTES_MAX < length text) × Consumes (R.remaining source.old) (R.remaining source.new) text }
     ensures err { IfErr result (λ error. (text : List ℕ) × Consumes (R.remaining source.old) (R.remaining source.new) text) }
 {
     let mut text = Vec::new(alloc);
     let mut chunk = [0u8; CHUNK];
-    while text.len() <= MAX_BYTES {
+    while text.len() <= INPUT_BYTES_MAX {
         match source.take(&mut chunk) {
             Ok(0) => return Ok(text),
             Ok(n) => {

@@ -1,12 +1,13 @@
 -- The lines of a solution, and how they follow each other.
-use Rattle.std.proofs.Common.{◌≡◌, ℕ, zero, suc, ◌+◌, ◌-◌, ◌<◌, ◌≤◌, ◌^◌, List, [], ◌∷◌, ◌++◌, length, length-append, length-take-le, take, drop, set, decimal, Option, Some, None, Result, Ok, ap, sym, ◌∙◌, refl, subst, arith, append_assoc, lit<, add-zero}
+use Rattle.std.proofs.Common.{◌≡◌, ℕ, zero, suc, ◌+◌, ◌-◌, ◌<◌, ◌≤◌, ◌^◌, Bool, List, [], ◌∷◌, ◌++◌, length, length-append, length-take-le, take, drop, set, decimal, Option, Some, None, Result, Ok, ap, sym, ◌∙◌, refl, subst, arith, append_assoc, lit<, add-zero}
 use Rattle.std.proofs.lemmas.Fmt.{length-decimal-le}
 use Rattle.std.proofs.lemmas.List.{append-nil, drop-set, drop_all}
 use Rattle.std.proofs.lemmas.List.Concat.{flat_map-append}
 use Rattle.std.specs.Option.{option_to_list, option_map}
 use Rattle.std.specs.List.{flat_map}
-use Rattle.pit_num.specs.Printed.{AppendsFront}
-use Rattle.pit_num.proofs.Written.{appends_nothing, appends_more, front_more, front_after}
+use Rattle.std.specs.Io.KnownBytes.{Appends}
+use Rattle.pit_num.specs.Printed.{AppendsFront, WritesIfAny}
+use Rattle.pit_num.proofs.Written.{appends_nothing, appends_more, front_more, front_after, map_ok, map_err}
 use Rattle.pit_text.specs.Solution.{scheduled, paired}
 use Rattle.pit_text.specs.SolutionText.{line_text, solution_text, slot_text, Gathers}
 use Rattle.pit_text.proofs.Standing.{scheduled_none, scheduled_more}
@@ -87,6 +88,19 @@ gathers_front a b c text left whole rest gathered front is =
     subst (λ (xs : List ℕ). AppendsFront a c xs) (ap (λ (xs : List ℕ). xs ++ rest) (sym gathered.whole) ∙ sym is)
     (front_more a c (gathered.given ++ left) rest (front_after a b c gathered.given left gathered.appended front))
 
+-- the device was given what was held at the end
+pub last_written : {D E : Type 0} (contents : D → Option (List ℕ)) (has_failed : D → Bool) (old between new : D) (text left whole : List ℕ) (result : Result (Unit {0}) E)
+    → Gathers (contents old) (contents between) [] text left → WritesIfAny contents has_failed between new left result → text ≡ whole
+    → (0 < length whole → 0 < length left) → (whole ≡ [] → (left ≡ []) × (between ≡ old)) → WritesIfAny contents has_failed old new whole result
+last_written contents has_failed old between new text left whole result gathered writes same held nothing =
+    record {
+      ok = map_ok result (λ after. subst (λ (xs : List ℕ). Appends (contents old) (contents new) xs) (sym gathered.whole ∙ same) (appends_more (contents old) (contents between) (contents new) gathered.given left gathered.appended after)) writes.ok;
+      err = map_err result (λ front. gathers_front (contents old) (contents between) (contents new) text left whole [] gathered front (sym same ∙ sym (append-nil text))) writes.err;
+      fault = writes.fault;
+      sound = map_ok result (λ sound some. sound (held some)) writes.sound;
+      empty = λ none. let given = writes.empty (nothing none).0 in (given.0, given.1 ∙ (nothing none).1);
+    }
+
 -- a text that has a line isn't empty
 pub has_line : (whole text line rest : List ℕ) → 0 < length line → whole ≡ (text ++ line) ++ rest → whole ≡ [] → ⊥
 has_line whole text line rest some is none =
@@ -116,3 +130,10 @@ none_held a b text chunk held gathered none within =
     let long : length text ≡ length gathered.given + length (take held chunk) = ap length gathered.whole ∙ length-append gathered.given (take held chunk) in
     let short : length text ≡ 0 = ap length none in
     omega (arith, length-take-le held chunk within)
+
+-- of a text that isn't empty something is held
+pub held_of_some : (held : ℕ) (chunk text whole : List ℕ) → held ≤ length chunk → (held ≡ 0 → text ≡ []) → text ≡ whole → 0 < length whole → 0 < length (take held chunk)
+held_of_some zero chunk text whole within none same some =
+    let short : length whole ≡ 0 = ap length (sym same ∙ none refl) in
+    absurd (omega arith)
+held_of_some (suc held) chunk text whole within none same some = omega (arith, length-take-le (suc held) chunk within)

@@ -1,5 +1,6 @@
-use Rattle.std.proofs.Common.{◌≡◌, ◌-◌, ◌<◌, length, false}
+use Rattle.std.proofs.Common.{◌≡◌, ◌+◌, ◌-◌, ◌<◌, length, false}
 use Rattle.std.specs.Io.KnownBytes.{Consumes}
+use Rattle.pit_cli.specs.declared.read.TheConstants.{INPUT_BYTES_MAX}
 use Rattle.pit_cli.proofs.read.read_all.Given as goal
 
 abbrev pub invariant-loop-chunk : goal.invariant-loop-chunk
@@ -9,4 +10,4 @@ invariant-loop-chunk g l = record {
 }
 
 abbrev pub decreases-loop-chunk : goal.decreases-loop-chunk
-decreases-loop-chunk g l = 4294967297 - length l.text.items
+decreases-loop-chunk g l = INPUT_BYTES_MAX + 1 - length l.text.items

@@ -1,8 +1,8 @@
 use Rattle.std.proofs.Common.{rules, ◌≡◌, ℕ, ◌+◌, ◌++◌, [], List, None, Option, length, take, slice_index_or, ap, sym, ◌∙◌, subst, arith, refl}
-use Rattle.pit_num.proofs.Written.{on_err}
+use Rattle.pit_num.proofs.Written.{failed_early_if_any}
 use Rattle.pit_text.specs.Solution.{scheduled}
 use Rattle.pit_text.specs.SolutionText.{slot_text, solution_text, Gathers}
-use Rattle.pit_text.proofs.SolutionTexts.{text_none, text_more, text_grows, gathers_none, gathers_more, gathers_front, has_line, none_held, untouched_more}
+use Rattle.pit_text.proofs.SolutionTexts.{text_none, text_more, text_grows, gathers_none, gathers_more, gathers_front, has_line, none_held, held_of_some, last_written, untouched_more}
 use Rattle.pit_text.proofs.solution_text.write_lines.Goals as goal
 
 pub loop-block-init : goal.loop-block-init
@@ -28,24 +28,24 @@ loop-block-preserved g c =
           (kept.0, more ∙ kept.1);
     }
 
-pub returns-in_err-held-clause-err : goal.returns-in_err-held-clause-err
-returns-in_err-held-clause-err g c =
+pub returns-in_err-held : goal.returns-in_err-held
+returns-in_err-held g c =
     let period : ℕ → Option ℕ = λ b. slice_index_or c.args.periods.now b None in
     let grown = text_grows c.loop-block.block (length c.args.periods.now) period (search rules) in
-    on_err c.from_residual.result (gathers_front _ _ _ _ _ _ grown.0 c.loop-block.invariant.gathered c.in_err-held.ensures.err grown.1)
+    let more = text_grows (c.loop-block.block + 1) (length c.args.periods.now) period (search rules) in
+    failed_early_if_any _ _ _ _ _ c.from_residual.result c.from_residual.ensures.0
+    (gathers_front _ _ _ _ _ _ grown.0 c.loop-block.invariant.gathered c.in_err-held.ensures.err grown.1)
+    c.in_err-held.ensures.fault
+    (has_line _ (solution_text (scheduled c.loop-block.block period)) (slot_text c.loop-block.block (period c.loop-block.block)) more.0 c.in_err-held.ensures.some
+    (more.1 ∙ ap (λ (xs : List ℕ). xs ++ more.0) (text_more c.loop-block.block period)))
 
-pub returns-in_err-held-clause-empty : goal.returns-in_err-held-clause-empty
-returns-in_err-held-clause-empty g c = λ empty.
-    let period : ℕ → Option ℕ = λ b. slice_index_or c.args.periods.now b None in
-    let grown = text_grows (c.loop-block.block + 1) (length c.args.periods.now) period (search rules) in
-    absurd (has_line _ (solution_text (scheduled c.loop-block.block period)) (slot_text c.loop-block.block (period c.loop-block.block)) grown.0 c.in_err-held.ensures.some
-    (grown.1 ∙ ap (λ (xs : List ℕ). xs ++ grown.0) (text_more c.loop-block.block period)) empty)
-
-pub returns-clause-empty : goal.returns-clause-empty
-returns-clause-empty g c = λ empty.
+pub returns : goal.returns
+returns g c =
     let period : ℕ → Option ℕ = λ b. slice_index_or c.args.periods.now b None in
     let end : c.loop-block.block ≡ length c.args.periods.now = omega arith in
-    let none : solution_text (scheduled c.loop-block.block period) ≡ [] = ap (λ (n : ℕ). solution_text (scheduled n period)) end ∙ empty in
-    let zero_held : c.loop-block.held ≡ 0 = none_held _ _ _ c.loop-block.chunk c.loop-block.held c.loop-block.invariant.gathered none c.loop-block.invariant.within in
-    let given = c.write_text.ensures.empty (ap (λ (n : ℕ). take n c.loop-block.chunk) zero_held) in
-    (given.0, given.1 ∙ (c.loop-block.invariant.untouched zero_held).0)
+    let same : solution_text (scheduled c.loop-block.block period) ≡ solution_text (scheduled (length c.args.periods.now) period) = ap (λ (n : ℕ). solution_text (scheduled n period)) end in
+    last_written _ _ _ c.loop-block.w _ (solution_text (scheduled c.loop-block.block period)) (take c.loop-block.held c.loop-block.chunk) _ c.write_text.result c.loop-block.invariant.gathered c.write_text.ensures same
+    (held_of_some c.loop-block.held c.loop-block.chunk _ _ c.loop-block.invariant.within (λ zero_held. (c.loop-block.invariant.untouched zero_held).1) same)
+    (λ none.
+    let zero_held : c.loop-block.held ≡ 0 = none_held _ _ _ c.loop-block.chunk c.loop-block.held c.loop-block.invariant.gathered (same ∙ none) c.loop-block.invariant.within in
+    (ap (λ (n : ℕ). take n c.loop-block.chunk) zero_held, (c.loop-block.invariant.untouched zero_held).0))

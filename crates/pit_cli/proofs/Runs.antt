@@ -1,0 +1,123 @@
+-- The runs of the engines have one outcome.
+use Rattle.std.proofs.Common.{◌≡◌, ℕ, ℤ, ◌<◌, List, [], ◌∷◌, length, length-append, Option, IsSome, sym, ap, subst, ◌∙◌, arith}
+use Rattle.pit_num.specs.Fitting.{writes_of}
+use Rattle.pit_num.specs.Printed.{fixed_text}
+use Rattle.pit_model.specs.Pit.{Pit}
+use Rattle.pit_plan.specs.Schedule.{Commit, held_period, limit_of, value_of}
+use Rattle.pit_plan.specs.Shortfalls.{shortfalls_of}
+use Rattle.pit_plan.specs.declared.breach.Breach.{Breach}
+use Rattle.pit_plan.specs.declared.short.Short.{Short}
+use Rattle.pit_plan.proofs.OneBreach.{one_first}
+use Rattle.pit_text.specs.Cutting.{cut_of, end_line}
+use Rattle.pit_text.specs.Stands.{StandsFor, FailsFirst, StandsWhole, FailsWhole}
+use Rattle.pit_text.specs.Model.{model_line, model_end, pit_of}
+use Rattle.pit_text.specs.Precedence.{precedence_line, pit_with_preds}
+use Rattle.pit_text.specs.Solution.{solution_line, period_in, scheduled}
+use Rattle.pit_text.proofs.OneResult.{one_result, one_whole_result}
+use Rattle.pit_cli.specs.declared.input.Input.TheVariants.{Model, Precedence, Solution}
+use Rattle.pit_cli.specs.declared.status.Status.{Status}
+use Rattle.pit_cli.specs.declared.status.Status.TheVariants.{Fine}
+use Rattle.pit_cli.specs.CheckText.{value_text, check_text, check_status}
+use Rattle.pit_cli.specs.Steps.{HasOneOutcome}
+use Rattle.pit_cli.specs.Devices.{Reading, Writing}
+use Rattle.pit_cli.specs.Inputs.{IsModel, IsBadModel, IsOrder, IsBadOrder, IsSolutionOf, IsBadSolution, model_step, order_step}
+use Rattle.pit_cli.specs.Value.{IsValued, value_step, fine_step, value_run}
+use Rattle.pit_cli.specs.Check.{Checks, IsChecked, ordered_pit_step, check_step, answer_step, check_run}
+use Rattle.pit_cli.proofs.Determined.{IsDetermined, in_turn-determined, shown_run}
+use Rattle.pit_cli.proofs.DeterminedSteps.{IsOneText, one_text, input-determined, write-determined, write-shown, write-never_both}
+
+-- ---- the inputs
+
+model_text : (bytes : List ℕ) → IsOneText (IsModel bytes) (IsBadModel bytes)
+model_text bytes =
+    one_text (StandsWhole model_line model_end (cut_of bytes)) (FailsWhole model_line model_end (cut_of bytes) (end_line bytes)) pit_of
+    (one_whole_result model_line model_end (cut_of bytes) (end_line bytes))
+
+model-determined : (model : Reading) → IsSome model.before → IsDetermined (model_step model) tt
+model-determined model told = input-determined Model model (λ _. IsModel) (λ _. IsBadModel) tt told model_text
+
+order_text : (given : Pit) (bytes : List ℕ) → IsOneText (IsOrder given bytes) (IsBadOrder given bytes)
+order_text given bytes =
+    one_text (StandsFor (precedence_line given) (cut_of bytes)) (FailsFirst (precedence_line given) (cut_of bytes)) (pit_with_preds given)
+    (one_result (precedence_line given) (cut_of bytes))
+
+order-determined : (precedence : Reading) (given : Pit) → IsSome precedence.before → IsDetermined (order_step precedence) given
+order-determined precedence given told = input-determined Precedence precedence IsOrder IsBadOrder given told (order_text given)
+
+solution_text : (pit : Pit) (bytes : List ℕ) → IsOneText (IsSolutionOf pit bytes) (IsBadSolution pit bytes)
+solution_text pit bytes =
+    one_text (StandsFor (solution_line pit.blocks pit.periods) (cut_of bytes)) (FailsFirst (solution_line pit.blocks pit.periods) (cut_of bytes))
+    (λ facts. scheduled pit.blocks (period_in facts)) (one_result (solution_line pit.blocks pit.periods) (cut_of bytes))
+
+-- ---- `value`
+
+valued_text : (pit : Pit) (bytes : List ℕ) → IsOneText (IsValued pit bytes) (IsBadSolution pit bytes)
+valued_text pit bytes =
+    let one = solution_text pit bytes in record {
+      values = λ text other p q.
+          p.says ∙ ap (λ (schedule : List (ℕ × ℕ)). value_text (value_of pit (held_period (writes_of schedule ∷ [])))) (one.values p.schedule q.schedule p.stands q.stands) ∙ sym q.says;
+      apart = λ text error p q. one.apart p.schedule error p.stands q;
+      errors = one.errors;
+    }
+
+value-determined : (solution : Reading) (pit : Pit) → IsSome solution.before → IsDetermined (value_step solution) pit
+value-determined solution pit told = input-determined Solution solution IsValued IsBadSolution pit told (valued_text pit)
+
+-- a value's text has its line feed at least
+value_some : (z : ℤ) → 0 < length (value_text z)
+value_some z = omega (arith, length-append (fixed_text 18 z) (10 ∷ []))
+
+same_length : (xs ys : List ℕ) → xs ≡ ys → 0 < length ys → 0 < length xs
+same_length xs ys same some = let long : length xs ≡ length ys = ap length same in omega arith
+
+pub value_outcome : (model solution : Reading) (out : Writing) → IsSome model.before → IsSome solution.before → IsSome out.before → HasOneOutcome (value_run model solution out)
+value_outcome model solution out told_model told_solution told_out =
+    shown_run (model_step model) (value_step solution) (fine_step out) (model-determined model told_model) (λ pit. value-determined solution pit told_solution)
+    (λ text. write-determined out (λ (given : List ℕ). given) (λ given. Fine) text)
+    (λ pit text p. write-shown out (λ (given : List ℕ). given) (λ given. Fine) text told_out (same_length text (value_text (value_of pit (held_period (writes_of p.2.schedule ∷ [])))) p.2.says (value_some (value_of pit (held_period (writes_of p.2.schedule ∷ []))))))
+    (λ text. write-never_both out (λ (given : List ℕ). given) (λ given. Fine) text)
+
+-- ---- `check`
+
+same_answer : (answer other : List ℕ × Status) → answer.0 ≡ other.0 → answer.1 ≡ other.1 → answer ≡ other
+same_answer answer other text status =
+    ap (λ (xs : List ℕ). (xs, answer.1)) text ∙ ap (λ (s : Status). (other.0, s)) status
+
+checks_once : (pit : Pit) (commits : List Commit) (answer other : List ℕ × Status) → Checks pit commits answer.0 answer.1 → Checks pit commits other.0 other.1 → answer ≡ other
+checks_once pit commits answer other p q =
+    let same : p.breach ≡ q.breach = one_first pit (held_period commits) (limit_of pit commits) p.breach q.breach p.first q.first in
+    same_answer answer other
+    (p.text_is ∙ ap (λ (breach : Option Breach). check_text (value_of pit (held_period commits)) breach (shortfalls_of pit (held_period commits))) same ∙ sym q.text_is)
+    (p.status_is ∙ ap (λ (breach : Option Breach). check_status breach (shortfalls_of pit (held_period commits))) same ∙ sym q.status_is)
+
+checked_text : (pit : Pit) (bytes : List ℕ) → IsOneText (IsChecked pit bytes) (IsBadSolution pit bytes)
+checked_text pit bytes =
+    let one = solution_text pit bytes in record {
+      values = λ answer other p q.
+          checks_once pit (writes_of q.schedule ∷ []) answer other
+          (subst (λ (schedule : List (ℕ × ℕ)). Checks pit (writes_of schedule ∷ []) answer.0 answer.1) (one.values p.schedule q.schedule p.stands q.stands) p.checks) q.checks;
+      apart = λ answer error p q. one.apart p.schedule error p.stands q;
+      errors = one.errors;
+    }
+
+check-determined : (solution : Reading) (pit : Pit) → IsSome solution.before → IsDetermined (check_step solution) pit
+check-determined solution pit told = input-determined Solution solution IsChecked IsBadSolution pit told (checked_text pit)
+
+ordered_pit-determined : (model precedence : Reading) → IsSome model.before → IsSome precedence.before → IsDetermined (ordered_pit_step model precedence) tt
+ordered_pit-determined model precedence told also =
+    in_turn-determined (model_step model) (order_step precedence) tt (model-determined model told) (λ given. order-determined precedence given also)
+
+-- a check's text has the word `value` at least
+check_some : (value : ℤ) (breach : Option Breach) (shorts : List Short) → 0 < length (check_text value breach shorts)
+check_some value breach shorts = omega arith
+
+pub check_outcome : (model precedence solution : Reading) (out : Writing) → IsSome model.before → IsSome precedence.before → IsSome solution.before → IsSome out.before
+    → HasOneOutcome (check_run model precedence solution out)
+check_outcome model precedence solution out told_model told_precedence told_solution told_out =
+    shown_run (ordered_pit_step model precedence) (check_step solution) (answer_step out) (ordered_pit-determined model precedence told_model told_precedence)
+    (λ pit. check-determined solution pit told_solution)
+    (λ answer. write-determined out (λ (given : List ℕ × Status). given.0) (λ given. given.1) answer)
+    (λ pit answer p. write-shown out (λ (given : List ℕ × Status). given.0) (λ given. given.1) answer told_out
+    (same_length answer.0 (check_text (value_of pit (held_period (writes_of p.2.schedule ∷ []))) p.2.checks.breach (shortfalls_of pit (held_period (writes_of p.2.schedule ∷ [])))) p.2.checks.text_is
+    (check_some (value_of pit (held_period (writes_of p.2.schedule ∷ []))) p.2.checks.breach (shortfalls_of pit (held_period (writes_of p.2.schedule ∷ []))))))
+    (λ answer. write-never_both out (λ (given : List ℕ × Status). given.0) (λ given. given.1) answer)
