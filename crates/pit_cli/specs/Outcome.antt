@@ -8,7 +8,7 @@ use Rattle.pit_text.specs.Stands.{StandsFor, FailsFirst, StandsWhole, FailsWhole
 use Rattle.pit_text.specs.Model.{Fact, model_line, model_end, pit_of}
 use Rattle.pit_model.specs.Pit.{Pit}
 use Rattle.pit_text.specs.Precedence.{precedence_line, pit_with_preds}
-use Rattle.pit_text.specs.Solution.{solution_line, period_in, scheduled}
+use Rattle.pit_text.specs.Solution.{solution_line, period_in, schedule_of}
 use Rattle.pit_plan.specs.Schedule.{Commit, held_period, value_of}
 use Rattle.pit_cli.specs.declared.input.Input.{Input}
 use Rattle.pit_cli.specs.declared.input.Input.TheVariants.{Model, Precedence, Solution}
@@ -72,7 +72,7 @@ IsBadOrder given bytes error = FailsFirst (precedence_line given) (cut_of bytes)
 pub record IsSolutionOf (pit : Pit) (bytes : List ℕ) (solution : List (ℕ × ℕ)) : Type 0 where
   pub facts : List (Option (ℕ × ℕ))
   pub stands : StandsFor (solution_line pit.blocks pit.periods) (cut_of bytes) facts
-  pub says : solution ≡ scheduled pit.blocks (period_in facts)
+  pub says : solution ≡ schedule_of pit.blocks (period_in facts)
 
 abbrev pub IsBadSolution : Pit → List ℕ → TextError → Type 0
 IsBadSolution pit bytes error = FailsFirst (solution_line pit.blocks pit.periods) (cut_of bytes) error.line error.cause

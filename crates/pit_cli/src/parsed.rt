@@ -1,5 +1,5 @@
 ghost use Rattle.std.specs.Prelude.{◌≡◌, IfOk, MatchResult};
-ghost use Rattle.pit_text.specs.Solution.{IsSolution};
+ghost use Rattle.pit_num.specs.Fitting.{IsSchedule};
 ghost use Rattle.pit_cli.specs.Outcome.{reading, IsWhole, IsModel, IsOrder, IsSolutionOf, IsInputFault, IsModelFault, IsOrderFault, IsSolutionFault, ReadsPit, IsPitFault, ReadsSchedule, IsScheduleFault};
 
 use super::fault::CliFault;
@@ -78,7 +78,7 @@ fn schedule_of<A: Allocator + Copy + Drop>(
     instance: &Instance<A>,
 ) -> Result<Vec<(u32, u32), A>, CliFault>
     ensures result { MatchResult result (λ schedule. IsSolutionOf instance.now solution.now schedule.items) (IsSolutionFault instance.now solution.now) }
-    ensures fits { IfOk result (λ schedule. IsSolution instance.now.blocks instance.now.periods schedule.items) }
+    ensures fits { IfOk result (λ schedule. IsSchedule instance.now.blocks instance.now.periods schedule.items) }
 {
     match read_solution(alloc, solution, instance) {
         Ok(schedule) => Ok(schedule),
@@ -110,7 +110,7 @@ pub(crate) fn read_schedule<A: Allocator + Copy + Drop, S: Source>(
 ) -> Result<Vec<(u32, u32), A>, CliFault>
     ensures read { let read = reading (S.remaining solution.old) (S.remaining solution.new) (S.has_failed solution.new) in
         MatchResult result (λ schedule. ReadsSchedule read pit.now schedule.items) (IsScheduleFault read pit.now) }
-    ensures fits { IfOk result (λ schedule. IsSolution pit.now.blocks pit.now.periods schedule.items) }
+    ensures fits { IfOk result (λ schedule. IsSchedule pit.now.blocks pit.now.periods schedule.items) }
 {
     let bytes = bytes_of(alloc, solution, Input::Solution)?;
     schedule_of(alloc, &bytes, pit)

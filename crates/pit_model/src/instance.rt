@@ -1,8 +1,9 @@
-ghost use Rattle.std.specs.Prelude.{◌≡◌, ◌<◌, ◌^◌, pos, ◌≤ℤ◌, MatchOption};
+ghost use Rattle.std.specs.Prelude.{◌≡◌, ◌<◌, ◌*◌, ◌^◌, pos, ◌≤ℤ◌, MatchOption};
 ghost use Rattle.pit_num.specs.Within.{IsWithin};
-ghost use Rattle.pit_model.specs.Pit.{IsSound, profit_of, factor_of, coefs_of, preds_of, succs_of, lower_of, upper_of, place_of, IsFirstUnmeetable, IsMeetable, IsFirstUnmeetableIn, IsMeetableIn, AreCoefs, ArePreds};
+ghost use Rattle.pit_num.specs.declared.limits.TheConstants.{MICRO_LIMIT};
+ghost use Rattle.pit_model.specs.Pit.{IsSound, profit_of, factor_of, coefs_of, preds_of, succs_of, lower_of, upper_of, place_of, cell_of, IsFirstUnmeetable, IsMeetable, IsFirstUnmeetableIn, IsMeetableIn, AreCoefs, ArePreds};
 
-use crate::bounds::{Bounds, bound_place, is_below_zero};
+use crate::bounds::{Bounds, cell_of, is_below_zero};
 use crate::coefficients::Coefficients;
 use crate::places::Places;
 use crate::predecessors::Predecessors;
@@ -66,7 +67,7 @@ impl<A: Allocator + Copy + Drop> Instance<A> {
     pub fn profit(&self, b: u32) -> i64
         requires { b < self.now.blocks }
         ensures value { result ≡ profit_of self.now b }
-        ensures small { IsWithin (10 ^ 18) result }
+        ensures small { IsWithin MICRO_LIMIT result }
     {
         self.profits[b as usize].unwrap_or(0)
     }
@@ -108,13 +109,23 @@ impl<A: Allocator + Copy + Drop> Instance<A> {
         self.succs.row(b)
     }
 
+    /// Where a resource in a period stands in a list by period, and in it by resource.
+    pub fn cell(&self, r: u32, t: u32) -> usize
+        requires resource { r < self.now.resources }
+        requires period { t < self.now.periods }
+        ensures place { result ≡ cell_of self.now r t }
+        ensures inside { result < self.now.periods * self.now.resources }
+    {
+        cell_of(self.resources, r, t)
+    }
+
     /// The greatest lower bound that was given for the load of a resource in a period, in millionths.
     pub fn lower(&self, r: u32, t: u32) -> Option<i64>
         requires resource { r < self.now.resources }
         requires period { t < self.now.periods }
         ensures { result ≡ lower_of self.now r t }
     {
-        self.bounds[bound_place(self.resources, r, t)].0
+        self.bounds[self.cell(r, t)].0
     }
 
     /// The least upper bound that was given for the load of a resource in a period, in millionths.
@@ -123,7 +134,7 @@ impl<A: Allocator + Copy + Drop> Instance<A> {
         requires period { t < self.now.periods }
         ensures { result ≡ upper_of self.now r t }
     {
-        self.bounds[bound_place(self.resources, r, t)].1
+        self.bounds[self.cell(r, t)].1
     }
 
     /// The place of a block, each coordinate in millionths.

@@ -1,7 +1,7 @@
 ghost use Rattle.std.specs.Prelude.{◌≡◌, ◌+◌, ◌<◌, ◌≤◌, ◌++◌, [], None, IsTrue, IsFalse, IsOk, OnErr, OnOk, IfOk, length, take, drop, slice_index_or};
 ghost use Rattle.std.specs.Io.KnownBytes.{Appends};
 ghost use Rattle.pit_num.specs.Printed.{AppendsFront};
-ghost use Rattle.pit_text.specs.Solution.{scheduled};
+ghost use Rattle.pit_text.specs.Solution.{schedule_of};
 ghost use Rattle.pit_text.specs.SolutionText.{line_text, slot_text, solution_text, Gathers};
 
 use itoa::write_digits;
@@ -15,14 +15,14 @@ const CHUNK: usize = 8192;
 
 /// Writes a schedule as a solution: for each block that has a period, by rising block, a line `b t`. Takes no memory.
 pub fn write_solution<W: Sink>(w: &mut W, periods: &[Option<u32>]) -> Result<(), WriteFault>
-    ensures ok { let text = solution_text (scheduled (length periods.now) (λ b. slice_index_or periods.now b None)) in
+    ensures ok { let text = solution_text (schedule_of (length periods.now) (λ b. slice_index_or periods.now b None)) in
         OnOk result (Appends (W.contents w.old) (W.contents w.new) text) }
-    ensures err { let text = solution_text (scheduled (length periods.now) (λ b. slice_index_or periods.now b None)) in
+    ensures err { let text = solution_text (schedule_of (length periods.now) (λ b. slice_index_or periods.now b None)) in
         OnErr result (AppendsFront (W.contents w.old) (W.contents w.new) text) }
     ensures fault { OnErr result (IsTrue (W.has_failed w.new)) }
-    ensures sound { let text = solution_text (scheduled (length periods.now) (λ b. slice_index_or periods.now b None)) in
+    ensures sound { let text = solution_text (schedule_of (length periods.now) (λ b. slice_index_or periods.now b None)) in
         OnOk result (0 < length text → IsFalse (W.has_failed w.new)) }
-    ensures empty { let text = solution_text (scheduled (length periods.now) (λ b. slice_index_or periods.now b None)) in
+    ensures empty { let text = solution_text (schedule_of (length periods.now) (λ b. slice_index_or periods.now b None)) in
         text ≡ [] → IsOk result × (w.new ≡ w.old) }
 {
     let mut chunk = [0; CHUNK];
@@ -36,14 +36,14 @@ fn write_lines<W: Sink>(
     periods: &[Option<u32>],
 ) -> Result<(), WriteFault>
     requires { LINE_MAX ≤ length chunk.old }
-    ensures ok { let text = solution_text (scheduled (length periods.now) (λ b. slice_index_or periods.now b None)) in
+    ensures ok { let text = solution_text (schedule_of (length periods.now) (λ b. slice_index_or periods.now b None)) in
         OnOk result (Appends (W.contents w.old) (W.contents w.new) text) }
-    ensures err { let text = solution_text (scheduled (length periods.now) (λ b. slice_index_or periods.now b None)) in
+    ensures err { let text = solution_text (schedule_of (length periods.now) (λ b. slice_index_or periods.now b None)) in
         OnErr result (AppendsFront (W.contents w.old) (W.contents w.new) text) }
     ensures fault { OnErr result (IsTrue (W.has_failed w.new)) }
-    ensures sound { let text = solution_text (scheduled (length periods.now) (λ b. slice_index_or periods.now b None)) in
+    ensures sound { let text = solution_text (schedule_of (length periods.now) (λ b. slice_index_or periods.now b None)) in
         OnOk result (0 < length text → IsFalse (W.has_failed w.new)) }
-    ensures empty { let text = solution_text (scheduled (length periods.now) (λ b. slice_index_or periods.now b None)) in
+    ensures empty { let text = solution_text (schedule_of (length periods.now) (λ b. slice_index_or periods.now b None)) in
         text ≡ [] → IsOk result × (w.new ≡ w.old) }
 {
     let mut held = 0;

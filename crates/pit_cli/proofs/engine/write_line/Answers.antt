@@ -3,7 +3,7 @@ use Rattle.std.specs.Int.{w128}
 use Rattle.std.specs.Io.KnownBytes.{Appends}
 use Rattle.std.proofs.lemmas.Int.{to_z-of_z}
 use Rattle.pit_num.specs.Printed.{fixed_text, AppendsFront}
-use Rattle.pit_num.proofs.Written.{on_err, map_err, front_more, front_after}
+use Rattle.pit_num.proofs.CallerLemmas.{on_err, map_err, front_more, front_after}
 use Rattle.pit_cli.proofs.engine.write_line.Goals as goal
 
 pub returns-in_err-write_value-clause-err : goal.returns-in_err-write_value-clause-err
