@@ -6,7 +6,8 @@ use Rattle.pit_text.specs.Cutting.{cut_of, end_line}
 use Rattle.pit_text.specs.Stands.{StandsFor, FailsFirst, StandsWhole, FailsWhole}
 use Rattle.pit_text.specs.Model.{model_line, model_end, pit_of}
 use Rattle.pit_text.specs.Precedence.{precedence_line, pit_with_preds}
-use Rattle.pit_text.specs.Solution.{solution_line, period_in, scheduled, IsSolution}
+use Rattle.pit_num.specs.Fitting.{IsSchedule}
+use Rattle.pit_text.specs.Solution.{solution_line, period_in, schedule_of}
 use Rattle.pit_cli.specs.declared.input.Input.{Input}
 use Rattle.pit_cli.specs.declared.input.Input.TheVariants.{Model, Precedence, Solution}
 use Rattle.pit_cli.specs.Steps.{Step}
@@ -39,14 +40,14 @@ IsBadOrder given bytes error = FailsFirst (precedence_line given) (cut_of bytes)
 
 -- a solution of a pit, its blocks with their periods by rising block, and one with its first error
 abbrev pub IsSolutionOf : Pit → List ℕ → List (ℕ × ℕ) → Type 0
-IsSolutionOf pit bytes = StandsAs (StandsFor (solution_line pit.blocks pit.periods) (cut_of bytes)) (λ facts. scheduled pit.blocks (period_in facts))
+IsSolutionOf pit bytes = StandsAs (StandsFor (solution_line pit.blocks pit.periods) (cut_of bytes)) (λ facts. schedule_of pit.blocks (period_in facts))
 
 abbrev pub IsBadSolution : Pit → List ℕ → TextError → Type 0
 IsBadSolution pit bytes error = FailsFirst (solution_line pit.blocks pit.periods) (cut_of bytes) error.line error.cause
 
 -- the blocks of a schedule rise, and blocks and periods are those of the pit
 abbrev pub IsScheduleOf : Pit → List (ℕ × ℕ) → Type 0
-IsScheduleOf pit schedule = IsSolution pit.blocks pit.periods schedule
+IsScheduleOf pit schedule = IsSchedule pit.blocks pit.periods schedule
 
 -- ---- the steps
 

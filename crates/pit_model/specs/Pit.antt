@@ -1,11 +1,12 @@
 -- An instance of MineLib's problem CPIT (2013): what is known of a pit.
-use Rattle.std.specs.Prelude.{◌≡◌, ◌≢◌, ℕ, ℤ, pos, ◌<◌, ◌≤◌, ◌+◌, ◌*◌, ◌^◌, ◌==◌, ◌&&◌, not, nat_lt, Bool, true, false, List, [], ◌∷◌, map, length, replicate, slice_set, slice_index_or, Option, Some, None, unwrap_or, if◌then◌else◌, int_lt}
+use Rattle.std.specs.Prelude.{◌≡◌, ◌≢◌, ℕ, ℤ, pos, ◌<◌, ◌≤◌, ◌+◌, ◌*◌, ◌==◌, ◌&&◌, not, nat_lt, Bool, true, false, List, [], ◌∷◌, map, length, replicate, slice_set, slice_index_or, Option, Some, None, unwrap_or, if◌then◌else◌, int_lt}
 use Rattle.std.specs.Int.{int_min, int_max}
 use Rattle.std.specs.List.{All, filter, list_any, range_with_len}
 use Rattle.std.specs.List.Sorted.{IsStrictlyIncreasing}
 use Rattle.pit_num.specs.Factor.{factor}
 use Rattle.pit_num.specs.Least.{ComesBefore, IsLeastOf}
 use Rattle.pit_num.specs.Within.{IsWithin}
+use Rattle.pit_num.specs.declared.limits.TheConstants.{BLOCKS_MAX, PERIODS_MAX, RESOURCES_MAX, RATE_MAX, MICRO_LIMIT}
 
 -- the facts of a pit; each list that is by block has one item for each block
 pub record Pit : Type 0 where
@@ -130,12 +131,12 @@ tighter pick (Some bound) None = Some bound
 tighter pick (Some bound) (Some other) = Some (pick bound other)
 
 -- the greater of the lower bounds, and the lesser of the upper bounds
-abbrev pub narrowed : Option ℤ × Option ℤ → Option ℤ → Option ℤ → Option ℤ × Option ℤ
-narrowed bounds lo hi = (tighter int_max bounds.0 lo, tighter int_min bounds.1 hi)
+abbrev pub tighter_bounds : Option ℤ × Option ℤ → Option ℤ → Option ℤ → Option ℤ × Option ℤ
+tighter_bounds bounds lo hi = (tighter int_max bounds.0 lo, tighter int_min bounds.1 hi)
 
 abbrev pub with_limit : Pit → ℕ → ℕ → Option ℤ → Option ℤ → Pit
 with_limit pit resource period lo hi =
-    record pit { bounds = slice_set pit.bounds (cell_of pit resource period) (narrowed (bounds_of pit resource period) lo hi) }
+    record pit { bounds = slice_set pit.bounds (cell_of pit resource period) (tighter_bounds (bounds_of pit resource period) lo hi) }
 
 abbrev pub with_place : Pit → ℕ → ℤ × ℤ × ℤ → Pit
 with_place pit block place = record pit { places = slice_set pit.places block (Some place) }
@@ -146,7 +147,7 @@ with_place pit block place = record pit { places = slice_set pit.places block (S
 pub record AreCoefs (resources : ℕ) (pairs : List (ℕ × ℤ)) : Type 0 where
   pub rising : IsStrictlyIncreasing (map (λ pair. pair.0) pairs)
   pub in_range : All (λ pair. pair.0 < resources) pairs
-  pub small : All (λ pair. IsWithin (10 ^ 18) pair.1) pairs
+  pub small : All (λ pair. IsWithin MICRO_LIMIT pair.1) pairs
 
 -- rising, each in range, and not the block itself
 pub record ArePreds (blocks block : ℕ) (preds : List ℕ) : Type 0 where
@@ -157,16 +158,16 @@ pub record ArePreds (blocks block : ℕ) (preds : List ℕ) : Type 0 where
 -- the limits that the numbers of a pit keep
 pub record IsSound (pit : Pit) : Type 0 where
   pub some_block : 1 ≤ pit.blocks
-  pub few_blocks : pit.blocks ≤ 4194304
+  pub few_blocks : pit.blocks ≤ BLOCKS_MAX
   pub some_period : 1 ≤ pit.periods
-  pub few_periods : pit.periods ≤ 1000
-  pub few_resources : pit.resources ≤ 64
-  pub low_rate : pit.rate ≤ 10 ^ 9
+  pub few_periods : pit.periods ≤ PERIODS_MAX
+  pub few_resources : pit.resources ≤ RESOURCES_MAX
+  pub low_rate : pit.rate ≤ RATE_MAX
   pub each_profit : length pit.profits ≡ pit.blocks
   pub each_coefs : length pit.coefs ≡ pit.blocks
   pub each_preds : length pit.preds ≡ pit.blocks
   pub each_bound : length pit.bounds ≡ pit.periods * pit.resources
   pub each_place : length pit.places ≡ pit.blocks
-  pub profits : (block : ℕ) → IsWithin (10 ^ 18) (profit_of pit block)
+  pub profits : (block : ℕ) → IsWithin MICRO_LIMIT (profit_of pit block)
   pub coefs : (block : ℕ) → AreCoefs pit.resources (coefs_of pit block)
   pub preds : (block : ℕ) → ArePreds pit.blocks block (preds_of pit block)

@@ -7,6 +7,6 @@ places_in blocks [] = replicate blocks None
 places_in blocks (place ∷ more) = place ∷ more
 
 -- a list that isn't empty has one item for each block
-abbrev pub AreKept : ℕ → List (Option (ℤ × ℤ × ℤ)) → Type 0
-AreKept blocks [] = Unit {0}
-AreKept blocks (place ∷ more) = length (place ∷ more) ≡ blocks
+abbrev pub IsPlaceList : ℕ → List (Option (ℤ × ℤ × ℤ)) → Type 0
+IsPlaceList blocks [] = Unit {0}
+IsPlaceList blocks (place ∷ more) = length (place ∷ more) ≡ blocks

@@ -8,16 +8,16 @@ cells_of cells None = None
 cells_of cells (Some row) = Some (slice_range cells row.start row.end)
 
 -- a row for each block
-abbrev pub padded : ℕ → List (Option Row) → List (Option Row)
-padded blocks rows = rows ++ replicate (blocks - length rows) None
+abbrev pub rows_by_block : ℕ → List (Option Row) → List (Option Row)
+rows_by_block blocks rows = rows ++ replicate (blocks - length rows) None
 
 abbrev pub rows_of : ℕ → List ℕ → List (Option Row) → List (Option (List ℕ))
-rows_of blocks cells rows = map (cells_of cells) (padded blocks rows)
+rows_of blocks cells rows = map (cells_of cells) (rows_by_block blocks rows)
 
 pub record IsWithinCells (cells : ℕ) (row : Row) : Type 0 where
   pub rising : row.start ≤ row.end
   pub within : row.end ≤ cells
 
-pub record AreRows (blocks : ℕ) (cells : List ℕ) (rows : List (Option Row)) : Type 0 where
+pub record ArePredecessorRows (blocks : ℕ) (cells : List ℕ) (rows : List (Option Row)) : Type 0 where
   pub few : length rows ≤ blocks
   pub each : All (λ row. IfSome row (λ r. IsWithinCells (length cells) r)) rows

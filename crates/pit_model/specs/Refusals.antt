@@ -1,9 +1,9 @@
 -- Which refusal is due to a fact, by what is known of the pit: the first that applies.
-use Rattle.std.specs.Prelude.{◌≡◌, ℕ, ℤ, ◌==◌, Bool, false, nat_le, List, Option, Some, None, is_some, slice_index_or, if◌then◌else◌, int_lt, Result, IfErr, IsErrOf}
+use Rattle.std.specs.Prelude.{ℕ, ℤ, ◌==◌, Bool, false, nat_le, List, Option, Some, None, is_some, slice_index_or, if◌then◌else◌, int_lt}
 use Rattle.std.specs.List.{list_any}
 use Rattle.pit_model.specs.Pit.{Pit, coefs_of}
 use Rattle.pit_model.specs.declared.error.BuildError.{BuildError}
-use Rattle.pit_model.specs.declared.error.BuildError.TheVariants.{BlockRange, ResourceRange, PeriodRange, Repeated, Interval, NoMemory}
+use Rattle.pit_model.specs.declared.error.BuildError.TheVariants.{BlockRange, ResourceRange, PeriodRange, Repeated, Interval}
 
 abbrev pub profit_refusal : Pit → ℕ → Option BuildError
 profit_refusal pit block =
@@ -43,8 +43,3 @@ place_refusal pit block =
     if nat_le pit.blocks block then Some BlockRange
     else if is_some (slice_index_or pit.places block None) then Some Repeated
     else None
-
--- the result is the refusal, and where there is none, nothing but want of memory is answered
-abbrev pub IsDue : {T : Type 0} → Result T BuildError → Option BuildError → Type 0
-IsDue result None = IfErr result (λ e. e ≡ NoMemory)
-IsDue result (Some e) = IsErrOf result e

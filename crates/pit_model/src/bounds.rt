@@ -3,18 +3,19 @@ ghost use Rattle.std.specs.Prelude.{◌≡◌, ℕ, ℤ, ◌<◌, ◌≤◌, ◌
 ghost use Rattle.std.specs.List.{fold};
 ghost use Rattle.pit_model.specs.Tightest.{IsTightest};
 ghost use Rattle.std.specs.Int.{int_max, int_min};
+ghost use Rattle.pit_num.specs.declared.limits.TheConstants.{PERIODS_MAX, RESOURCES_MAX};
 ghost use Rattle.pit_model.specs.Pit.{is_below_zero, tighter};
-ghost use Rattle.pit_model.specs.Pit.{narrowed as narrowed_of};
+ghost use Rattle.pit_model.specs.Pit.{tighter_bounds as tighter_bounds_of};
 ghost use Rattle.pit_model.specs.Refusals.{is_empty_interval as is_empty};
 
 /// A lower and an upper bound, in millionths, each where one was given.
 pub(crate) type Bounds = (Option<i64>, Option<i64>);
 
-/// Where the bounds of a resource in a period stand: by period, and in it by resource.
-pub(crate) fn bound_place(resources: u32, r: u32, t: u32) -> usize
+/// Where a resource in a period stands in a list by period, and in it by resource.
+pub(crate) fn cell_of(resources: u32, r: u32, t: u32) -> usize
     requires resource { r < resources }
-    requires resources { resources ≤ 64 }
-    requires period { t < 1000 }
+    requires resources { resources ≤ RESOURCES_MAX }
+    requires period { t < PERIODS_MAX }
     ensures place { result ≡ t * resources + r }
     ensures inside { (periods : ℕ) → t < periods → result < periods * resources }
 {
@@ -42,8 +43,8 @@ pub(crate) fn is_empty_interval(lo: Option<i64>, hi: Option<i64>) -> bool
 }
 
 /// The bounds that meet both these and the given ones.
-pub(crate) fn narrowed(bounds: Bounds, lo: Option<i64>, hi: Option<i64>) -> Bounds
-    ensures { result ≡ narrowed_of bounds lo hi }
+pub(crate) fn tighter_bounds(bounds: Bounds, lo: Option<i64>, hi: Option<i64>) -> Bounds
+    ensures { result ≡ tighter_bounds_of bounds lo hi }
 {
     (greater(bounds.0, lo), lesser(bounds.1, hi))
 }

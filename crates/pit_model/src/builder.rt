@@ -1,10 +1,12 @@
 ghost use Rattle.std.specs.Prelude.{◌≡◌, ◌≤◌, ◌^◌, ◌<◌, false, nat_le, All, IfOk, IfErr, OnOk, OnErr, IsOk, MatchOption, IsErrOf};
 ghost use Rattle.std.specs.List.{list_any};
 ghost use Rattle.pit_num.specs.Within.{IsWithin};
+ghost use Rattle.pit_num.specs.declared.limits.TheConstants.{BLOCKS_MAX, PERIODS_MAX, RESOURCES_MAX, RATE_MAX, MICRO_LIMIT};
 ghost use Rattle.pit_model.specs.Pit.{empty_pit, with_profit, with_coef, with_preds, with_limit, with_place};
-ghost use Rattle.pit_model.specs.Refusals.{profit_refusal, coef_refusal, preds_refusal, limit_refusal, place_refusal, IsDue};
+ghost use Rattle.pit_model.specs.Refusals.{profit_refusal, coef_refusal, preds_refusal, limit_refusal, place_refusal};
+ghost use Rattle.pit_num.specs.Refused.{IsRefusedBy};
 
-use crate::bounds::{Bounds, bound_place, is_empty_interval, narrowed};
+use crate::bounds::{Bounds, cell_of, is_empty_interval, tighter_bounds};
 use crate::coefficients::Coefficients;
 use crate::error::BuildError;
 use crate::instance::Instance;
@@ -50,10 +52,10 @@ impl<A: Allocator + Copy + Drop> Builder<A> {
         resources: u32,
         rate: u32,
     ) -> Result<Builder<A>, NoMemory>
-        requires blocks { (1 ≤ blocks) × (blocks ≤ 4194304) }
-        requires periods { (1 ≤ periods) × (periods ≤ 1000) }
-        requires resources { resources ≤ 64 }
-        requires rate { rate ≤ 10 ^ 9 }
+        requires blocks { (1 ≤ blocks) × (blocks ≤ BLOCKS_MAX) }
+        requires periods { (1 ≤ periods) × (periods ≤ PERIODS_MAX) }
+        requires resources { resources ≤ RESOURCES_MAX }
+        requires rate { rate ≤ RATE_MAX }
         ensures { IfOk result (λ builder. builder ≡ empty_pit blocks periods resources rate) }
     {
         let profits = vec![in alloc; None; blocks as usize]?;
@@ -97,7 +99,7 @@ impl<A: Allocator + Copy + Drop> Builder<A> {
 
     /// Sets the profit of a block, in millionths. Takes no memory.
     pub fn set_profit(&mut self, b: u32, v: i64) -> Result<(), BuildError>
-        requires { IsWithin (10 ^ 18) v }
+        requires { IsWithin MICRO_LIMIT v }
         ensures ok { OnOk result (self.new ≡ with_profit self.old b v) }
         ensures err { OnErr result (self.new ≡ self.old) }
         ensures cause { MatchOption (profit_refusal self.old b) (IsOk result) (IsErrOf result) }
@@ -114,10 +116,10 @@ impl<A: Allocator + Copy + Drop> Builder<A> {
 
     /// Sets how much of a resource the mining of a block takes, in millionths.
     pub fn set_coef(&mut self, b: u32, r: u32, v: i64) -> Result<(), BuildError>
-        requires { IsWithin (10 ^ 18) v }
+        requires { IsWithin MICRO_LIMIT v }
         ensures ok { OnOk result (self.new ≡ with_coef self.old b r v) }
         ensures err { OnErr result (self.new ≡ self.old) }
-        ensures cause { IsDue result (coef_refusal self.old b r) }
+        ensures cause { IsRefusedBy BuildError.NoMemory result (coef_refusal self.old b r) }
     {
         if b >= self.blocks {
             return Err(BuildError::BlockRange);
@@ -125,7 +127,7 @@ impl<A: Allocator + Copy + Drop> Builder<A> {
         if r >= self.resources {
             return Err(BuildError::ResourceRange);
         }
-        if self.coefs.has(b, r) {
+        if self.coefs.is_set(b, r) {
             return Err(BuildError::Repeated);
         }
         self.coefs.add(b, r, v)?;
@@ -137,9 +139,9 @@ impl<A: Allocator + Copy + Drop> Builder<A> {
     pub fn set_preds(&mut self, b: u32, listed: &[u32]) -> Result<(), BuildError>
         ensures ok { OnOk result (self.new ≡ with_preds self.old b listed.now) }
         ensures err { OnErr result (self.new ≡ self.old) }
-        ensures cause { IsDue result (preds_refusal self.old b listed.now) }
+        ensures cause { IsRefusedBy BuildError.NoMemory result (preds_refusal self.old b listed.now) }
     {
-        if b >= self.blocks || reaches(listed, self.blocks) {
+        if b >= self.blocks || is_out_of_range(listed, self.blocks) {
             return Err(BuildError::BlockRange);
         }
         if self.preds.is_set(b) {
@@ -171,8 +173,8 @@ impl<A: Allocator + Copy + Drop> Builder<A> {
         if is_empty_interval(lo, hi) {
             return Err(BuildError::Interval);
         }
-        let place = bound_place(self.resources, r, t);
-        self.bounds[place] = narrowed(self.bounds[place], lo, hi);
+        let place = cell_of(self.resources, r, t);
+        self.bounds[place] = tighter_bounds(self.bounds[place], lo, hi);
         Ok(())
     }
 
@@ -180,7 +182,7 @@ impl<A: Allocator + Copy + Drop> Builder<A> {
     pub fn set_place(&mut self, b: u32, x: i64, y: i64, z: i64) -> Result<(), BuildError>
         ensures ok { OnOk result (self.new ≡ with_place self.old b (x, y, z)) }
         ensures err { OnErr result (self.new ≡ self.old) }
-        ensures cause { IsDue result (place_refusal self.old b) }
+        ensures cause { IsRefusedBy BuildError.NoMemory result (place_refusal self.old b) }
     {
         if b >= self.blocks {
             return Err(BuildError::BlockRange);
@@ -222,7 +224,7 @@ impl<A: Allocator + Copy + Drop> Builder<A> {
 }
 
 /// Whether a block is listed that is not below the number of blocks.
-fn reaches(listed: &[u32], blocks: u32) -> bool
+fn is_out_of_range(listed: &[u32], blocks: u32) -> bool
     ensures value { result ≡ list_any (λ a. nat_le blocks a) listed.now }
     ensures none { result ≡ false → All (λ a. a < blocks) listed.now }
 {

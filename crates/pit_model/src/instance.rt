@@ -1,9 +1,10 @@
 ghost use Rattle.std.specs.Prelude.{◌≡◌, ◌<◌, ◌*◌, ◌^◌, pos, ◌≤ℤ◌, MatchOption};
 ghost use Rattle.pit_num.specs.Least.{IsLeast};
 ghost use Rattle.pit_num.specs.Within.{IsWithin};
+ghost use Rattle.pit_num.specs.declared.limits.TheConstants.{MICRO_LIMIT};
 ghost use Rattle.pit_model.specs.Pit.{IsSound, profit_of, factor_of, coefs_of, preds_of, succs_of, lower_of, upper_of, cell_of, place_of, IsUnmeetable, IsFirstUnmeetable, IsMeetable, AreCoefs, ArePreds};
 
-use crate::bounds::{Bounds, bound_place, is_below_zero};
+use crate::bounds::{Bounds, is_below_zero};
 use crate::coefficients::Coefficients;
 use crate::places::Places;
 use crate::predecessors::Predecessors;
@@ -67,7 +68,7 @@ impl<A: Allocator + Copy + Drop> Instance<A> {
     pub fn profit(&self, b: u32) -> i64
         requires { b < self.now.blocks }
         ensures value { result ≡ profit_of self.now b }
-        ensures small { IsWithin (10 ^ 18) result }
+        ensures small { IsWithin MICRO_LIMIT result }
     {
         self.profits[b as usize].unwrap_or(0)
     }
@@ -125,7 +126,7 @@ impl<A: Allocator + Copy + Drop> Instance<A> {
         requires period { t < self.now.periods }
         ensures { result ≡ lower_of self.now r t }
     {
-        self.bounds[bound_place(self.resources, r, t)].0
+        self.bounds[self.cell(r, t) as usize].0
     }
 
     /// The least upper bound that was given for the load of a resource in a period, in millionths.
@@ -134,7 +135,7 @@ impl<A: Allocator + Copy + Drop> Instance<A> {
         requires period { t < self.now.periods }
         ensures { result ≡ upper_of self.now r t }
     {
-        self.bounds[bound_place(self.resources, r, t)].1
+        self.bounds[self.cell(r, t) as usize].1
     }
 
     /// The place of a block, each coordinate in millionths.

@@ -14,13 +14,13 @@ pub(crate) struct Places<A: Allocator + Drop> {
 
 impl<A: Allocator + Drop> Model for Places<A> {
     ghost use Rattle.std.specs.Prelude.{ℤ, List, Option};
-    ghost use Rattle.pit_model.specs.Places.{places_in, AreKept};
+    ghost use Rattle.pit_model.specs.Places.{places_in, IsPlaceList};
 
     ghost Value = { List (Option (ℤ × ℤ × ℤ)) };
 
     ghost view = { λ p. places_in p.blocks p.places.items };
 
-    ghost invariant = { λ p. AreKept p.blocks p.places.items };
+    ghost invariant = { λ p. IsPlaceList p.blocks p.places.items };
 }
 
 impl<A: Allocator + Copy + Drop> Places<A> {

@@ -28,11 +28,11 @@ impl<A: Allocator + Drop> Model for Predecessors<A> {
 
     ghost Value = { List (Option (List ℕ)) };
 
-    ghost use Rattle.pit_model.specs.PredecessorRows.{rows_of, AreRows};
+    ghost use Rattle.pit_model.specs.PredecessorRows.{rows_of, ArePredecessorRows};
 
     ghost view = { λ preds. rows_of preds.blocks preds.cells.items preds.rows.items };
 
-    ghost invariant = { λ preds. AreRows preds.blocks preds.cells.items preds.rows.items };
+    ghost invariant = { λ preds. ArePredecessorRows preds.blocks preds.cells.items preds.rows.items };
 }
 
 impl<A: Allocator + Copy + Drop> Predecessors<A> {

@@ -1,5 +1,5 @@
 -- What a draft keeps as the facts grow.
-use Rattle.std.proofs.Common.{◌≡◌, ◌≢◌, ℕ, ℤ, zero, suc, ◌≤◌, ◌<◌, ◌^◌, nat_eq, Bool, true, false, ◌||◌, ◌⊎◌, inl, inr, List, [], ◌∷◌, ◌++◌, length, set, Option, Some, None, is_none, unwrap_or, Result, Ok, Err, pos, negsuc, ap, sym, ◌∙◌, refl, arith, subst, slice_index_or, find}
+use Rattle.std.proofs.Common.{◌≡◌, ◌≢◌, ℕ, ℤ, zero, suc, ◌≤◌, ◌<◌, nat_eq, Bool, true, false, ◌||◌, ◌⊎◌, inl, inr, List, [], ◌∷◌, ◌++◌, length, set, Option, Some, None, is_none, unwrap_or, Result, Ok, Err, pos, negsuc, ap, sym, ◌∙◌, refl, arith, subst, slice_index_or, find}
 use Rattle.std.specs.List.{cons_option, list_any}
 use Rattle.std.proofs.lemmas.List.{append-nil, get_or-set_same, get_or-set_other}
 use Rattle.std.proofs.lemmas.List.Folds.{list_any-append}
@@ -7,21 +7,22 @@ use Rattle.std.proofs.Math.ListN.{length-set}
 use Rattle.std.proofs.Math.Bool.{or-false}
 use Rattle.std.proofs.lemmas.Bool.{cases_eq}
 use Rattle.std.proofs.lemmas.Bool.Decides.{nat_tests}
+use Rattle.pit_num.specs.declared.limits.TheConstants.{BLOCKS_MAX, PERIODS_MAX, RESOURCES_MAX, RATE_MAX}
 use Rattle.pit_text.specs.declared.error.Cause.{Cause}
-use Rattle.pit_text.specs.declared.error.Key.{Key}
-use Rattle.pit_text.specs.declared.error.Key.TheVariants.{Kind, Blocks, Periods, Resources, Rate, Destinations, Generals}
+use Rattle.pit_text.specs.declared.key.Key.{Key}
+use Rattle.pit_text.specs.declared.key.Key.TheVariants.{Kind, Blocks, Periods, Resources, Rate, Destinations, Generals}
 use Rattle.pit_text.specs.declared.section.Section.{Section}
 use Rattle.pit_text.specs.declared.section.Section.TheVariants.{Objective, Coefficients, Limits}
 use Rattle.pit_text.specs.declared.draft.Draft.{Draft}
 use Rattle.pit_text.specs.Numbers.{whole_field, decimal_field}
 use Rattle.pit_text.specs.Header.{value_of_key, within, only, kind_of, rate_of}
 use Rattle.pit_text.specs.Keys.{key_number, section_number, same_section}
-use Rattle.pit_text.specs.Model.{Fact, header, section, header_value, value_in_fact, sections, section_in_fact, last_of, missing}
-use Rattle.pit_text.specs.Draft.{IsNumberOf, IsDraft, HasHeader, number_at, missing_in}
+use Rattle.pit_text.specs.Model.{Fact, header, section, header_value, value_in_fact, sections, section_in_fact, last_of, missing_key}
+use Rattle.pit_text.specs.Draft.{IsNumberOf, IsDraft, HasHeader, number_at, missing_key_in}
 use Rattle.pit_text.proofs.Facts.{header_value-more, same_value, sections-more, last_of-push}
 
-pub missing-draft : (facts : List Fact) (draft : Draft) → IsDraft facts draft → missing facts ≡ missing_in draft
-missing-draft facts draft is = simp is.values
+pub missing_key-draft : (facts : List Fact) (draft : Draft) → IsDraft facts draft → missing_key facts ≡ missing_key_in draft
+missing_key-draft facts draft is = simp is.values
 
 -- ---- numbers of keys
 
@@ -72,7 +73,7 @@ only-one : (wanted : ℕ) (key : Key) (r : Result ℕ Cause) (n : ℕ) → only 
 only-one wanted key (Ok m) n is = grind (arith, nat_tests)
 only-one wanted key (Err e) n is = cc
 
-rate-small : (r : Result ℤ Cause) (n : ℕ) → rate_of r ≡ Ok n → n ≤ 10 ^ 9
+rate-small : (r : Result ℤ Cause) (n : ℕ) → rate_of r ≡ Ok n → n ≤ RATE_MAX
 rate-small (Ok (pos m)) n is = grind (arith, nat_tests)
 rate-small (Ok (negsuc m)) n is = cc
 rate-small (Err e) n is = cc
@@ -83,9 +84,9 @@ kind-zero value n is = grind (arith, nat_tests)
 pub value-range : (key : Key) (value : List ℕ) (n : ℕ) → value_of_key key value ≡ Ok n → IsNumberOf key n
 unfolding value_of_key
 value-range Kind value n is = kind-zero value n is
-value-range Blocks value n is = within-range 1 4194304 Blocks (whole_field value) n is
-value-range Periods value n is = within-range 1 1000 Periods (whole_field value) n is
-value-range Resources value n is = (within-range 0 64 Resources (whole_field value) n is).1
+value-range Blocks value n is = within-range 1 BLOCKS_MAX Blocks (whole_field value) n is
+value-range Periods value n is = within-range 1 PERIODS_MAX Periods (whole_field value) n is
+value-range Resources value n is = (within-range 0 RESOURCES_MAX Resources (whole_field value) n is).1
 value-range Rate value n is = rate-small (decimal_field value) n is
 value-range Destinations value n is = only-one 1 Destinations (whole_field value) n is
 value-range Generals value n is = only-one 0 Generals (whole_field value) n is
@@ -191,10 +192,10 @@ found_none : {X : Type 0} (p : X → Bool) (x : X) (xs : List X) (b : Bool) → 
 found_none p x xs true e none = let found : find p (x ∷ xs) ≡ Some x = simp e in let clash : Some x ≡ None = sym found ∙ none in cc
 found_none p x xs false e none = let rest : find p (x ∷ xs) ≡ find p xs = simp e in (e, sym rest ∙ none)
 
-pub header-whole : (facts : List Fact) (draft : Draft) → IsDraft facts draft → missing facts ≡ None → HasHeader draft
+pub header-whole : (facts : List Fact) (draft : Draft) → IsDraft facts draft → missing_key facts ≡ None → HasHeader draft
 header-whole facts draft is whole =
     let p : Key → Bool = λ (key : Key). is_none (slice_index_or draft.values (key_number key) None) in
-    let none : find p (Kind ∷ Blocks ∷ Periods ∷ Resources ∷ Rate ∷ []) ≡ None = sym (missing-draft facts draft is) ∙ whole in
+    let none : find p (Kind ∷ Blocks ∷ Periods ∷ Resources ∷ Rate ∷ []) ≡ None = sym (missing_key-draft facts draft is) ∙ whole in
     let kind = found_none p Kind (Blocks ∷ Periods ∷ Resources ∷ Rate ∷ []) (p Kind) refl none in
     let blocks = found_none p Blocks (Periods ∷ Resources ∷ Rate ∷ []) (p Blocks) refl kind.1 in
     let periods = found_none p Periods (Resources ∷ Rate ∷ []) (p Periods) refl blocks.1 in

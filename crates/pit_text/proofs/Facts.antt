@@ -5,28 +5,28 @@ use Rattle.std.proofs.lemmas.List.{append-nil}
 use Rattle.std.proofs.lemmas.List.Elements.{filter_map-append}
 use Rattle.std.proofs.lemmas.List.Sums.{fold-append}
 use Rattle.pit_model.specs.Pit.{Pit}
-use Rattle.pit_text.specs.declared.error.Key.{Key}
-use Rattle.pit_text.specs.declared.error.Key.TheVariants.{Blocks, Periods, Resources, Rate}
-use Rattle.pit_text.specs.declared.entry.Entry.{Entry}
-use Rattle.pit_text.specs.Entries.{with_entry}
-use Rattle.pit_text.proofs.Firsts.{or_else, or_else-none, first_said-more}
-use Rattle.pit_text.specs.Model.{Fact, entry, last_of, header_value, value_in_fact, sections, section_in_fact, entries, entry_in_fact, number_of, missing, header_pit, pit_of}
+use Rattle.pit_text.specs.declared.key.Key.{Key}
+use Rattle.pit_text.specs.declared.key.Key.TheVariants.{Blocks, Periods, Resources, Rate}
+use Rattle.pit_text.specs.declared.section_fact.SectionFact.{SectionFact}
+use Rattle.pit_text.specs.SectionFacts.{with_section_fact}
+use Rattle.pit_text.proofs.Firsts.{or_else, or_else-none, first_value-more}
+use Rattle.pit_text.specs.Model.{Fact, in_section, last_of, header_value, value_in_fact, sections, section_in_fact, section_facts, section_fact_in, number_of, missing_key, header_pit, pit_of}
 
 pub header_value-more : (facts : List Fact) (fact : Fact) (key : Key) → header_value (facts ++ fact ∷ []) key ≡ or_else (header_value facts key) (value_in_fact key fact)
-header_value-more facts fact key = first_said-more (value_in_fact key) facts fact
+header_value-more facts fact key = first_value-more (value_in_fact key) facts fact
 
 pub sections-more : (facts : List Fact) (fact : Fact) → sections (facts ++ fact ∷ []) ≡ sections facts ++ cons_option (section_in_fact fact) []
 sections-more facts fact = filter_map-append section_in_fact facts (fact ∷ [])
 
-pub entries-more : (facts : List Fact) (fact : Fact) → entries (facts ++ fact ∷ []) ≡ entries facts ++ cons_option (entry_in_fact fact) []
-entries-more facts fact = filter_map-append entry_in_fact facts (fact ∷ [])
+pub section_facts-more : (facts : List Fact) (fact : Fact) → section_facts (facts ++ fact ∷ []) ≡ section_facts facts ++ cons_option (section_fact_in fact) []
+section_facts-more facts fact = filter_map-append section_fact_in facts (fact ∷ [])
 
 -- a fact that says nothing of a key, or of the pit
 pub same_value : (facts : List Fact) (fact : Fact) (key : Key) → value_in_fact key fact ≡ None → header_value (facts ++ fact ∷ []) key ≡ header_value facts key
 same_value facts fact key none = header_value-more facts fact key ∙ ap (λ o. or_else (header_value facts key) o) none ∙ or_else-none (header_value facts key)
 
-pub same_entries : (facts : List Fact) (fact : Fact) → entry_in_fact fact ≡ None → entries (facts ++ fact ∷ []) ≡ entries facts
-same_entries facts fact none = entries-more facts fact ∙ ap (λ o. entries facts ++ cons_option o []) none ∙ append-nil (entries facts)
+pub same_section_facts : (facts : List Fact) (fact : Fact) → section_fact_in fact ≡ None → section_facts (facts ++ fact ∷ []) ≡ section_facts facts
+same_section_facts facts fact none = section_facts-more facts fact ∙ ap (λ o. section_facts facts ++ cons_option o []) none ∙ append-nil (section_facts facts)
 
 pub last_of-push : {X : Type 0} (xs : List X) (x : X) → last_of (xs ++ x ∷ []) ≡ Some x
 last_of-push [] x = refl
@@ -34,8 +34,8 @@ last_of-push (y ∷ []) x = refl
 last_of-push (y ∷ z ∷ more) x = last_of-push (z ∷ more) x
 
 -- what is missing goes by the values alone
-pub missing-same : (facts others : List Fact) → ((key : Key) → header_value others key ≡ header_value facts key) → missing others ≡ missing facts
-missing-same facts others same = simp same
+pub missing_key-same : (facts others : List Fact) → ((key : Key) → header_value others key ≡ header_value facts key) → missing_key others ≡ missing_key facts
+missing_key-same facts others same = simp same
 
 -- ---- the pit of the facts
 
@@ -50,20 +50,20 @@ header_pit-same facts others same =
     let rate : number_of others Rate ≡ number_of facts Rate = number_of-same facts others Rate (same Rate) in
     cc
 
-pub pit_of-same : (facts others : List Fact) → ((key : Key) → header_value others key ≡ header_value facts key) → entries others ≡ entries facts → pit_of others ≡ pit_of facts
+pub pit_of-same : (facts others : List Fact) → ((key : Key) → header_value others key ≡ header_value facts key) → section_facts others ≡ section_facts facts → pit_of others ≡ pit_of facts
 unfolding pit_of
 pit_of-same facts others same said =
-    ap (λ (pit : Pit). fold with_entry pit (entries others)) (header_pit-same facts others same) ∙ ap (λ (es : List Entry). fold with_entry (header_pit facts) es) said
+    ap (λ (pit : Pit). fold with_section_fact pit (section_facts others)) (header_pit-same facts others same) ∙ ap (λ (es : List SectionFact). fold with_section_fact (header_pit facts) es) said
 
--- one more entry
-pub pit_of-entry : (facts : List Fact) (e : Entry) → pit_of (facts ++ entry e ∷ []) ≡ with_entry (pit_of facts) e
+-- one more fact of a section
+pub pit_of-section_fact : (facts : List Fact) (e : SectionFact) → pit_of (facts ++ in_section e ∷ []) ≡ with_section_fact (pit_of facts) e
 unfolding pit_of
-pit_of-entry facts e =
-    ap (λ (pit : Pit). fold with_entry pit (entries (facts ++ entry e ∷ []))) (header_pit-same facts (facts ++ entry e ∷ []) (λ key. same_value facts (entry e) key refl))
-    ∙ ap (λ (es : List Entry). fold with_entry (header_pit facts) es) (entries-more facts (entry e))
-    ∙ fold-append with_entry (header_pit facts) (entries facts) (e ∷ [])
+pit_of-section_fact facts e =
+    ap (λ (pit : Pit). fold with_section_fact pit (section_facts (facts ++ in_section e ∷ []))) (header_pit-same facts (facts ++ in_section e ∷ []) (λ key. same_value facts (in_section e) key refl))
+    ∙ ap (λ (es : List SectionFact). fold with_section_fact (header_pit facts) es) (section_facts-more facts (in_section e))
+    ∙ fold-append with_section_fact (header_pit facts) (section_facts facts) (e ∷ [])
 
--- no entry yet
-pub pit_of-header : (facts : List Fact) → entries facts ≡ [] → pit_of facts ≡ header_pit facts
+-- no fact of a section yet
+pub pit_of-header : (facts : List Fact) → section_facts facts ≡ [] → pit_of facts ≡ header_pit facts
 unfolding pit_of
-pit_of-header facts none = ap (λ (es : List Entry). fold with_entry (header_pit facts) es) none
+pit_of-header facts none = ap (λ (es : List SectionFact). fold with_section_fact (header_pit facts) es) none

@@ -2,7 +2,7 @@
 use Rattle.std.proofs.Common.{◌≡◌, List, [], ◌∷◌, ◌++◌, Option, Some, None, ap, ◌∙◌, refl}
 use Rattle.std.specs.List.{filter_map, cons_option}
 use Rattle.std.proofs.lemmas.List.Elements.{filter_map-append}
-use Rattle.pit_text.specs.Earlier.{first_of, first_said}
+use Rattle.pit_text.specs.Earlier.{first_of, first_value}
 
 abbrev pub or_else : {X : Type 0} → Option X → Option X → Option X
 or_else None other = other
@@ -21,8 +21,8 @@ first_of-one None = refl
 first_of-one (Some x) = refl
 
 -- what is looked for first stands in the earlier facts, or in the last
-pub first_said-more : {F X : Type 0} (h : F → Option X) (xs : List F) (x : F) → first_said h (xs ++ x ∷ []) ≡ or_else (first_said h xs) (h x)
-first_said-more h xs x =
+pub first_value-more : {F X : Type 0} (h : F → Option X) (xs : List F) (x : F) → first_value h (xs ++ x ∷ []) ≡ or_else (first_value h xs) (h x)
+first_value-more h xs x =
     ap (λ ys. first_of ys) (filter_map-append h xs (x ∷ []))
     ∙ first_of-append (filter_map h xs) (filter_map h (x ∷ []))
     ∙ ap (λ o. or_else (first_of (filter_map h xs)) o) (first_of-one (h x))

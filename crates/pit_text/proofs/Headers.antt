@@ -3,20 +3,20 @@ use Rattle.std.proofs.Common.{◌≡◌, true, false, List, [], ◌∷◌, ◌++
 use Rattle.std.specs.Option.{option_map}
 use Rattle.pit_model.specs.Pit.{Pit, empty_pit}
 use Rattle.pit_text.specs.declared.error.Cause.TheVariants.{MissingHeader}
-use Rattle.pit_text.specs.declared.error.Key.{Key}
-use Rattle.pit_text.specs.declared.error.Key.TheVariants.{Blocks, Periods, Resources, Rate}
+use Rattle.pit_text.specs.declared.key.Key.{Key}
+use Rattle.pit_text.specs.declared.key.Key.TheVariants.{Blocks, Periods, Resources, Rate}
 use Rattle.pit_text.specs.declared.section.Section.{Section}
 use Rattle.pit_text.specs.declared.draft.Draft.{Draft}
 use Rattle.pit_text.specs.Cutting.{Cut}
 use Rattle.pit_text.specs.Stands.{IsReadTo}
-use Rattle.pit_text.specs.Model.{Fact, skipped, header, section, entry, entries, missing, model_line, model_end, number_of, header_pit}
+use Rattle.pit_text.specs.Model.{Fact, skipped, header, section, in_section, section_facts, missing_key, model_line, model_end, number_of, header_pit}
 use Rattle.pit_text.specs.Draft.{IsDraft, IsHeaderFact, IsHeader, HasHeader, number_at, IsBody}
 use Rattle.pit_text.proofs.Reading.{read_more}
-use Rattle.pit_text.proofs.Facts.{same_value, same_entries, missing-same, pit_of-header}
+use Rattle.pit_text.proofs.Facts.{same_value, same_section_facts, missing_key-same, pit_of-header}
 use Rattle.pit_text.proofs.Drafts.{header-whole}
 use Rattle.pit_text.proofs.Bodies.{not_none}
 
-pub end_is : (facts : List Fact) (o : Option Key) → missing facts ≡ o → model_end facts ≡ option_map MissingHeader o
+pub end_is : (facts : List Fact) (o : Option Key) → missing_key facts ≡ o → model_end facts ≡ option_map MissingHeader o
 unfolding model_end
 end_is facts o is = ap (λ (k : Option Key). option_map MissingHeader k) is
 
@@ -30,30 +30,30 @@ some_section draft s is none = let clash : true ≡ false = ap (λ (o : Option S
 
 -- at the first section line
 pub header_ends : (lines left after : List Cut) (line : Cut) (facts : List Fact) (fact : Fact) (draft : Draft) → IsReadTo model_line lines left facts → left ≡ line ∷ after
-    → entries facts ≡ [] → model_line facts line.fields ≡ Ok fact → IsDraft (facts ++ fact ∷ []) draft → IsHeaderFact facts fact draft → is_some draft.section ≡ true
+    → section_facts facts ≡ [] → model_line facts line.fields ≡ Ok fact → IsDraft (facts ++ fact ∷ []) draft → IsHeaderFact facts fact draft → is_some draft.section ≡ true
     → (all : List Fact) × IsReadTo model_line lines after all × IsHeader all draft × HasHeader draft × (draft.section ≡ None → after ≡ [])
 header_ends lines left after line facts skipped draft read next none is keeps kind some = absurd (no_section draft kind some)
 header_ends lines left after line facts (header key n) draft read next none is keeps kind some = absurd (no_section draft kind some)
 header_ends lines left after line facts (section s) draft read next none is keeps kind some =
-    let whole : missing (facts ++ section s ∷ []) ≡ None = missing-same facts (facts ++ section s ∷ []) (λ key. same_value facts (section s) key refl) ∙ kind.1 in (
+    let whole : missing_key (facts ++ section s ∷ []) ≡ None = missing_key-same facts (facts ++ section s ∷ []) (λ key. same_value facts (section s) key refl) ∙ kind.1 in (
       facts ++ section s ∷ [],
       read_more model_line lines left after line facts (section s) read next is,
-      record { keeps = keeps; whole = whole; none = same_entries facts (section s) refl ∙ none },
+      record { keeps = keeps; whole = whole; none = same_section_facts facts (section s) refl ∙ none },
       header-whole (facts ++ section s ∷ []) draft keeps whole,
       λ empty. absurd (not_none draft.section s kind.0 empty),
     )
-header_ends lines left after line facts (entry e) draft read next none is keeps kind some = absurd kind
+header_ends lines left after line facts (in_section e) draft read next none is keeps kind some = absurd kind
 
 -- before it
 pub header_goes_on : (lines left after : List Cut) (line : Cut) (facts : List Fact) (fact : Fact) (draft : Draft) → IsReadTo model_line lines left facts → left ≡ line ∷ after
-    → entries facts ≡ [] → model_line facts line.fields ≡ Ok fact → IsDraft (facts ++ fact ∷ []) draft → IsHeaderFact facts fact draft → is_some draft.section ≡ false
-    → (draft.section ≡ None) × ((all : List Fact) × IsReadTo model_line lines after all × IsDraft all draft × (entries all ≡ []))
+    → section_facts facts ≡ [] → model_line facts line.fields ≡ Ok fact → IsDraft (facts ++ fact ∷ []) draft → IsHeaderFact facts fact draft → is_some draft.section ≡ false
+    → (draft.section ≡ None) × ((all : List Fact) × IsReadTo model_line lines after all × IsDraft all draft × (section_facts all ≡ []))
 header_goes_on lines left after line facts skipped draft read next none is keeps kind empty =
-    (kind, (facts ++ skipped ∷ [], read_more model_line lines left after line facts skipped read next is, keeps, same_entries facts skipped refl ∙ none))
+    (kind, (facts ++ skipped ∷ [], read_more model_line lines left after line facts skipped read next is, keeps, same_section_facts facts skipped refl ∙ none))
 header_goes_on lines left after line facts (header key n) draft read next none is keeps kind empty =
-    (kind, (facts ++ header key n ∷ [], read_more model_line lines left after line facts (header key n) read next is, keeps, same_entries facts (header key n) refl ∙ none))
+    (kind, (facts ++ header key n ∷ [], read_more model_line lines left after line facts (header key n) read next is, keeps, same_section_facts facts (header key n) refl ∙ none))
 header_goes_on lines left after line facts (section s) draft read next none is keeps kind empty = absurd (some_section draft s kind.0 empty)
-header_goes_on lines left after line facts (entry e) draft read next none is keeps kind empty = absurd kind
+header_goes_on lines left after line facts (in_section e) draft read next none is keeps kind empty = absurd kind
 
 -- ---- the pit that the sections begin with
 

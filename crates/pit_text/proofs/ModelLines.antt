@@ -2,11 +2,12 @@
 use Rattle.std.proofs.Common.{◌≡◌, ◌⊎◌, inl, inr, ℕ, List, [], ◌∷◌, cond, Option, Some, None, is_some, Result, Ok, Err, MatchResult, ap, ◌∙◌, refl}
 use Rattle.pit_text.specs.declared.error.Cause.{Cause}
 use Rattle.pit_text.specs.declared.error.Cause.TheVariants.{BadHeader}
-use Rattle.pit_text.specs.declared.error.Key.{Key}
+use Rattle.pit_text.specs.declared.key.Key.{Key}
 use Rattle.pit_text.specs.declared.section.Section.{Section}
 use Rattle.pit_text.specs.Stands.{◌>>=◌}
-use Rattle.pit_text.specs.Header.{key_of, value_of_key}
-use Rattle.pit_text.specs.Model.{Fact, skipped, header, header_value, section_of, sections, last_of, section_line, key_line, header_line, section_entry, body_line, line_by, model_line}
+use Rattle.pit_text.specs.Keys.{key_of}
+use Rattle.pit_text.specs.Header.{value_of_key}
+use Rattle.pit_text.specs.Model.{Fact, skipped, header, header_value, section_of, sections, last_of, section_line, key_line, header_line, section_fact_line, body_line, line_by, model_line}
 
 pub line_empty : (facts : List Fact) → model_line facts [] ≡ Ok skipped
 unfolding model_line
@@ -26,8 +27,8 @@ line_key facts first values key none before is = line_inside facts first values 
 pub line_unlisted : (facts : List Fact) (first : List ℕ) (values : List (List ℕ)) → section_of first ≡ None → last_of (sections facts) ≡ None → key_of first ≡ None → model_line facts (first ∷ values) ≡ Ok skipped
 line_unlisted facts first values none before is = line_inside facts first values None none before ∙ ap (λ k. header_line facts k values) is
 
-pub line_entry : (facts : List Fact) (first : List ℕ) (values : List (List ℕ)) (s : Section) → section_of first ≡ None → last_of (sections facts) ≡ Some s → model_line facts (first ∷ values) ≡ section_entry facts s (first ∷ values)
-line_entry facts first values s none is = line_inside facts first values (Some s) none is
+pub line_section_fact : (facts : List Fact) (first : List ℕ) (values : List (List ℕ)) (s : Section) → section_of first ≡ None → last_of (sections facts) ≡ Some s → model_line facts (first ∷ values) ≡ section_fact_line facts s (first ∷ values)
+line_section_fact facts first values s none is = line_inside facts first values (Some s) none is
 
 -- the line of a new key
 pub new_key : (facts : List Fact) (key : Key) (value : List ℕ) (n : ℕ) → header_value facts key ≡ None → value_of_key key value ≡ Ok n → key_line facts key (value ∷ []) ≡ Ok (header key n)

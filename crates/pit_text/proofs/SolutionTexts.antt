@@ -7,10 +7,10 @@ use Rattle.std.specs.Option.{option_to_list, option_map}
 use Rattle.std.specs.List.{flat_map}
 use Rattle.std.specs.Io.KnownBytes.{Appends}
 use Rattle.pit_num.specs.Printed.{AppendsFront, WritesIfAny}
-use Rattle.pit_num.proofs.Written.{appends_nothing, appends_more, front_more, front_after, map_ok, map_err}
-use Rattle.pit_text.specs.Solution.{scheduled, paired}
+use Rattle.pit_num.proofs.CallerLemmas.{appends_nothing, appends_more, front_more, front_after, map_ok, map_err}
+use Rattle.pit_text.specs.Solution.{schedule_of, pair_of}
 use Rattle.pit_text.specs.SolutionText.{line_text, solution_text, slot_text, Gathers}
-use Rattle.pit_text.proofs.Standing.{scheduled_none, scheduled_more}
+use Rattle.pit_text.proofs.Standing.{schedule_of-none, schedule_of-more}
 
 pub ten_digits : (n : ℕ) → n < 2 ^ 32 → length (decimal n) ≤ 10
 ten_digits n h =
@@ -32,39 +32,39 @@ set_before xs at byte some within =
 pub set_last : (xs : List ℕ) (at byte : ℕ) → at + 1 ≡ length xs → drop at (set xs at byte) ≡ byte ∷ []
 set_last xs at byte end = drop-set xs at byte (omega arith) ∙ ap (λ (ys : List ℕ). byte ∷ ys) (drop_all (at + 1) xs (omega arith))
 
-pub text_none : (period : ℕ → Option ℕ) → solution_text (scheduled 0 period) ≡ []
+pub text_none : (period : ℕ → Option ℕ) → solution_text (schedule_of 0 period) ≡ []
 unfolding solution_text
-text_none period = ap (λ (ps : List (ℕ × ℕ)). flat_map line_text ps) (scheduled_none period)
+text_none period = ap (λ (ps : List (ℕ × ℕ)). flat_map line_text ps) (schedule_of-none period)
 
 slot_lines : (block : ℕ) (slot : Option ℕ) → flat_map line_text (option_to_list (option_map (λ t. (block, t)) slot)) ≡ slot_text block slot
 slot_lines block None = refl
 slot_lines block (Some t) = append-nil (line_text (block, t))
 
-pub text_more : (n : ℕ) (period : ℕ → Option ℕ) → solution_text (scheduled (n + 1) period) ≡ solution_text (scheduled n period) ++ slot_text n (period n)
+pub text_more : (n : ℕ) (period : ℕ → Option ℕ) → solution_text (schedule_of (n + 1) period) ≡ solution_text (schedule_of n period) ++ slot_text n (period n)
 unfolding solution_text
 text_more n period =
-    ap (λ (ps : List (ℕ × ℕ)). flat_map line_text ps) (scheduled_more n period)
-    ∙ flat_map-append line_text (scheduled n period) (option_to_list (paired period n))
-    ∙ ap (λ (xs : List ℕ). flat_map line_text (scheduled n period) ++ xs) (slot_lines n (period n))
+    ap (λ (ps : List (ℕ × ℕ)). flat_map line_text ps) (schedule_of-more n period)
+    ∙ flat_map-append line_text (schedule_of n period) (option_to_list (pair_of period n))
+    ∙ ap (λ (xs : List ℕ). flat_map line_text (schedule_of n period) ++ xs) (slot_lines n (period n))
 
 -- a text of fewer blocks stands at the front
-text_grows_by : (d n : ℕ) (period : ℕ → Option ℕ) → (rest : List ℕ) × (solution_text (scheduled (n + d) period) ≡ solution_text (scheduled n period) ++ rest)
-text_grows_by zero n period = ([], ap (λ (k : ℕ). solution_text (scheduled k period)) (add-zero n) ∙ sym (append-nil (solution_text (scheduled n period))))
+text_grows_by : (d n : ℕ) (period : ℕ → Option ℕ) → (rest : List ℕ) × (solution_text (schedule_of (n + d) period) ≡ solution_text (schedule_of n period) ++ rest)
+text_grows_by zero n period = ([], ap (λ (k : ℕ). solution_text (schedule_of k period)) (add-zero n) ∙ sym (append-nil (solution_text (schedule_of n period))))
 text_grows_by (suc d) n period =
     let before = text_grows_by d n period in
     let next : n + suc d ≡ n + d + 1 = omega arith in (
       before.0 ++ slot_text (n + d) (period (n + d)),
-      ap (λ (k : ℕ). solution_text (scheduled k period)) next
+      ap (λ (k : ℕ). solution_text (schedule_of k period)) next
           ∙ text_more (n + d) period
           ∙ ap (λ (xs : List ℕ). xs ++ slot_text (n + d) (period (n + d))) before.1
-          ∙ append_assoc (solution_text (scheduled n period)) before.0 (slot_text (n + d) (period (n + d))),
+          ∙ append_assoc (solution_text (schedule_of n period)) before.0 (slot_text (n + d) (period (n + d))),
     )
 
-pub text_grows : (n m : ℕ) (period : ℕ → Option ℕ) → n ≤ m → (rest : List ℕ) × (solution_text (scheduled m period) ≡ solution_text (scheduled n period) ++ rest)
+pub text_grows : (n m : ℕ) (period : ℕ → Option ℕ) → n ≤ m → (rest : List ℕ) × (solution_text (schedule_of m period) ≡ solution_text (schedule_of n period) ++ rest)
 text_grows n m period h =
     let grown = text_grows_by (m - n) n period in
     let sum : n + (m - n) ≡ m = omega arith in
-    (grown.0, ap (λ (k : ℕ). solution_text (scheduled k period)) (sym sum) ∙ grown.1)
+    (grown.0, ap (λ (k : ℕ). solution_text (schedule_of k period)) (sym sum) ∙ grown.1)
 
 -- ---- what was gathered
 

@@ -11,21 +11,21 @@ use Rattle.pit_model.specs.declared.error.BuildError.TheVariants.{Repeated}
 use Rattle.pit_text.specs.Stands.{◌>>=◌}
 use Rattle.std.proofs.lemmas.Bool.Decides.{nat_tests}
 use Rattle.std.proofs.lemmas.List.{get_or-set_same, get_or-set_other, get_or_default}
-use Rattle.pit_text.specs.Solution.{AreSlots, period_in, period_in_fact, mined_of, new_to, solution_line, paired, scheduled}
-use Rattle.pit_text.proofs.Firsts.{or_else, or_else-none, first_said-more}
+use Rattle.pit_text.specs.Solution.{AreSlots, period_in, period_in_fact, scheduled_pair, new_to, solution_line, pair_of, schedule_of}
+use Rattle.pit_text.proofs.Firsts.{or_else, or_else-none, first_value-more}
 
 -- ---- solutions
 
 period_here : (facts : List (Option (ℕ × ℕ))) (b t : ℕ) → period_in facts b ≡ None → period_in (facts ++ Some (b, t) ∷ []) b ≡ Some t
 period_here facts b t none =
     let same : nat_eq b b ≡ true = grind (arith, nat_tests) in
-    first_said-more (period_in_fact b) facts (Some (b, t)) ∙ ap (λ o. or_else o (period_in_fact b (Some (b, t)))) none ∙ simp same
+    first_value-more (period_in_fact b) facts (Some (b, t)) ∙ ap (λ o. or_else o (period_in_fact b (Some (b, t)))) none ∙ simp same
 
 period_elsewhere : (facts : List (Option (ℕ × ℕ))) (b t k : ℕ) → k ≢ b → period_in (facts ++ Some (b, t) ∷ []) k ≡ period_in facts k
 period_elsewhere facts b t k other =
     let differs : nat_eq b k ≡ false = grind (arith, nat_tests) in
     let none : period_in_fact k (Some (b, t)) ≡ None = simp differs in
-    first_said-more (period_in_fact k) facts (Some (b, t)) ∙ ap (λ o. or_else (period_in facts k) o) none ∙ or_else-none (period_in facts k)
+    first_value-more (period_in_fact k) facts (Some (b, t)) ∙ ap (λ o. or_else (period_in facts k) o) none ∙ or_else-none (period_in facts k)
 
 -- a slot that is filled
 pub slots_more : (blocks : ℕ) (facts : List (Option (ℕ × ℕ))) (slots : List (Option ℕ)) (b t : ℕ) → AreSlots blocks facts slots → b < blocks → slice_index_or slots b None ≡ None
@@ -58,27 +58,27 @@ slots_none blocks slots made count = record {
 pub slots_same : (blocks : ℕ) (facts : List (Option (ℕ × ℕ))) (slots : List (Option ℕ)) → AreSlots blocks facts slots → AreSlots blocks (facts ++ None ∷ []) slots
 slots_same blocks facts slots are = record {
   count = are.count;
-  each = λ k h. are.each k h ∙ sym (first_said-more (period_in_fact k) facts None ∙ or_else-none (period_in facts k));
+  each = λ k h. are.each k h ∙ sym (first_value-more (period_in_fact k) facts None ∙ or_else-none (period_in facts k));
 }
 
 -- the judgement of a line, by what it schedules
-pub line_none : (blocks periods : ℕ) (facts : List (Option (ℕ × ℕ))) (fields : List (List ℕ)) → mined_of blocks periods fields ≡ Ok None → solution_line blocks periods facts fields ≡ Ok None
+pub line_none : (blocks periods : ℕ) (facts : List (Option (ℕ × ℕ))) (fields : List (List ℕ)) → scheduled_pair blocks periods fields ≡ Ok None → solution_line blocks periods facts fields ≡ Ok None
 unfolding solution_line
 line_none blocks periods facts fields is = ap (λ r. r >>= new_to facts) is
 
-pub line_new : (blocks periods : ℕ) (facts : List (Option (ℕ × ℕ))) (fields : List (List ℕ)) (b t : ℕ) → mined_of blocks periods fields ≡ Ok (Some (b, t)) → period_in facts b ≡ None
+pub line_new : (blocks periods : ℕ) (facts : List (Option (ℕ × ℕ))) (fields : List (List ℕ)) (b t : ℕ) → scheduled_pair blocks periods fields ≡ Ok (Some (b, t)) → period_in facts b ≡ None
     → solution_line blocks periods facts fields ≡ Ok (Some (b, t))
 unfolding solution_line
 line_new blocks periods facts fields b t is none =
     ap (λ r. r >>= new_to facts) is ∙ ap (λ (c : Bool). cond c (Err (Build Repeated)) (Ok (Some (b, t)))) (ap (λ (o : Option ℕ). is_some o) none)
 
-pub line_again : (blocks periods : ℕ) (facts : List (Option (ℕ × ℕ))) (fields : List (List ℕ)) (b t : ℕ) → mined_of blocks periods fields ≡ Ok (Some (b, t)) → is_some (period_in facts b) ≡ true
+pub line_again : (blocks periods : ℕ) (facts : List (Option (ℕ × ℕ))) (fields : List (List ℕ)) (b t : ℕ) → scheduled_pair blocks periods fields ≡ Ok (Some (b, t)) → is_some (period_in facts b) ≡ true
     → solution_line blocks periods facts fields ≡ Err (Build Repeated)
 unfolding solution_line
 line_again blocks periods facts fields b t is some =
     ap (λ r. r >>= new_to facts) is ∙ ap (λ (c : Bool). cond c (Err (Build Repeated)) (Ok (Some (b, t)))) some
 
-pub line_bad : (blocks periods : ℕ) (facts : List (Option (ℕ × ℕ))) (fields : List (List ℕ)) (e : Cause) → mined_of blocks periods fields ≡ Err e → solution_line blocks periods facts fields ≡ Err e
+pub line_bad : (blocks periods : ℕ) (facts : List (Option (ℕ × ℕ))) (fields : List (List ℕ)) (e : Cause) → scheduled_pair blocks periods fields ≡ Err e → solution_line blocks periods facts fields ≡ Err e
 unfolding solution_line
 line_bad blocks periods facts fields e is = ap (λ r. r >>= new_to facts) is
 
@@ -108,25 +108,25 @@ one_kept : {X : Type 0} (o : Option X) → cons_option o [] ≡ option_to_list o
 one_kept None = refl
 one_kept (Some x) = refl
 
-pub scheduled_none : (period : ℕ → Option ℕ) → scheduled 0 period ≡ []
-unfolding scheduled
-scheduled_none period = refl
+pub schedule_of-none : (period : ℕ → Option ℕ) → schedule_of 0 period ≡ []
+unfolding schedule_of
+schedule_of-none period = refl
 
-pub scheduled_more : (n : ℕ) (period : ℕ → Option ℕ) → scheduled (n + 1) period ≡ scheduled n period ++ option_to_list (paired period n)
-unfolding scheduled
-scheduled_more n period =
-    ap (λ (k : ℕ). filter_map (paired period) (range_with_len 0 k)) (add-one n)
-    ∙ ap (λ (ks : List ℕ). filter_map (paired period) ks) (range_push 0 n ∙ ap (λ (k : ℕ). range_with_len 0 n ++ k ∷ []) (zero-add n))
-    ∙ filter_map-append (paired period) (range_with_len 0 n) (n ∷ [])
-    ∙ ap (λ (ps : List (ℕ × ℕ)). filter_map (paired period) (range_with_len 0 n) ++ ps) (one_kept (paired period n))
+pub schedule_of-more : (n : ℕ) (period : ℕ → Option ℕ) → schedule_of (n + 1) period ≡ schedule_of n period ++ option_to_list (pair_of period n)
+unfolding schedule_of
+schedule_of-more n period =
+    ap (λ (k : ℕ). filter_map (pair_of period) (range_with_len 0 k)) (add-one n)
+    ∙ ap (λ (ks : List ℕ). filter_map (pair_of period) ks) (range_push 0 n ∙ ap (λ (k : ℕ). range_with_len 0 n ++ k ∷ []) (zero-add n))
+    ∙ filter_map-append (pair_of period) (range_with_len 0 n) (n ∷ [])
+    ∙ ap (λ (ps : List (ℕ × ℕ)). filter_map (pair_of period) (range_with_len 0 n) ++ ps) (one_kept (pair_of period n))
 
 -- periods that agree
-agree_from : (a n : ℕ) (f g : ℕ → Option ℕ) → ((b : ℕ) → b < a + n → f b ≡ g b) → filter_map (paired f) (range_with_len a n) ≡ filter_map (paired g) (range_with_len a n)
+agree_from : (a n : ℕ) (f g : ℕ → Option ℕ) → ((b : ℕ) → b < a + n → f b ≡ g b) → filter_map (pair_of f) (range_with_len a n) ≡ filter_map (pair_of g) (range_with_len a n)
 agree_from a zero f g h = refl
 agree_from a (suc n) f g h =
-    ap (λ (o : Option ℕ). cons_option (option_map (λ t. (a, t)) o) (filter_map (paired f) (range_with_len (a + 1) n))) (h a (omega arith))
-    ∙ ap (λ (ps : List (ℕ × ℕ)). cons_option (paired g a) ps) (agree_from (a + 1) n f g (λ b below. h b (omega arith)))
+    ap (λ (o : Option ℕ). cons_option (option_map (λ t. (a, t)) o) (filter_map (pair_of f) (range_with_len (a + 1) n))) (h a (omega arith))
+    ∙ ap (λ (ps : List (ℕ × ℕ)). cons_option (pair_of g a) ps) (agree_from (a + 1) n f g (λ b below. h b (omega arith)))
 
-pub scheduled_same : (n : ℕ) (f g : ℕ → Option ℕ) → ((b : ℕ) → b < n → f b ≡ g b) → scheduled n f ≡ scheduled n g
-unfolding scheduled
-scheduled_same n f g h = agree_from 0 n f g (λ b below. h b (omega arith))
+pub schedule_of-same : (n : ℕ) (f g : ℕ → Option ℕ) → ((b : ℕ) → b < n → f b ≡ g b) → schedule_of n f ≡ schedule_of n g
+unfolding schedule_of
+schedule_of-same n f g h = agree_from 0 n f g (λ b below. h b (omega arith))

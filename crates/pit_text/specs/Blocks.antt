@@ -7,7 +7,7 @@ use Rattle.pit_text.specs.declared.error.Cause.{Cause}
 use Rattle.pit_text.specs.declared.error.Cause.TheVariants.{FieldCount}
 use Rattle.pit_text.specs.Stands.{◌>>=◌}
 use Rattle.pit_text.specs.Numbers.{whole_field, decimal_field}
-use Rattle.pit_text.specs.Judged.{judged}
+use Rattle.pit_text.specs.Causes.{fact_unless}
 
 -- a block and its place; further fields aren't read
 unfoldable pub place_line : List (List ℕ) → Result (ℕ × (ℤ × ℤ × ℤ)) Cause
@@ -18,19 +18,19 @@ place_line (b ∷ x ∷ y ∷ []) = Err FieldCount
 place_line (b ∷ x ∷ y ∷ z ∷ fields) =
     whole_field b >>= (λ block. decimal_field x >>= (λ east. decimal_field y >>= (λ north. decimal_field z >>= (λ height. Ok (block, (east, north, height))))))
 
-abbrev pub with_line : Pit → ℕ × (ℤ × ℤ × ℤ) → Pit
-with_line pit fact = with_place pit fact.0 fact.1
+abbrev pub with_place_fact : Pit → ℕ × (ℤ × ℤ × ℤ) → Pit
+with_place_fact pit fact = with_place pit fact.0 fact.1
 
 -- the pit that was given, with what the lines say
 unfoldable pub pit_with_places : Pit → List (ℕ × (ℤ × ℤ × ℤ)) → Pit
-pit_with_places given facts = fold with_line given facts
+pit_with_places given facts = fold with_place_fact given facts
 
 -- a line stands, unless the pit so far refuses it
 abbrev pub new_place : Pit → ℕ × (ℤ × ℤ × ℤ) → Result (ℕ × (ℤ × ℤ × ℤ)) Cause
-new_place pit fact = judged (place_refusal pit fact.0) fact
+new_place pit fact = fact_unless (place_refusal pit fact.0) fact
 
-abbrev pub place_in : Pit → List (List ℕ) → Result (ℕ × (ℤ × ℤ × ℤ)) Cause
-place_in pit fields = place_line fields >>= new_place pit
+abbrev pub place_fact : Pit → List (List ℕ) → Result (ℕ × (ℤ × ℤ × ℤ)) Cause
+place_fact pit fields = place_line fields >>= new_place pit
 
 unfoldable pub block_line : Pit → List (ℕ × (ℤ × ℤ × ℤ)) → List (List ℕ) → Result (ℕ × (ℤ × ℤ × ℤ)) Cause
-block_line given earlier fields = place_in (pit_with_places given earlier) fields
+block_line given earlier fields = place_fact (pit_with_places given earlier) fields

@@ -6,15 +6,15 @@ use Rattle.pit_text.specs.declared.error.Cause.{Cause}
 use Rattle.pit_text.specs.declared.error.Cause.TheVariants.{Build, NoMemory as WantsMemory}
 
 -- the cause of a refusal; want of memory has one of its own
-abbrev pub named : BuildError → Cause
-named BlockRange = Build BlockRange
-named ResourceRange = Build ResourceRange
-named PeriodRange = Build PeriodRange
-named Repeated = Build Repeated
-named Interval = Build Interval
-named NoMemory = WantsMemory
+abbrev pub cause_of : BuildError → Cause
+cause_of BlockRange = Build BlockRange
+cause_of ResourceRange = Build ResourceRange
+cause_of PeriodRange = Build PeriodRange
+cause_of Repeated = Build Repeated
+cause_of Interval = Build Interval
+cause_of NoMemory = WantsMemory
 
 -- the fact of a line stands, unless the pit refuses it
-abbrev pub judged : {F : Type 0} → Option BuildError → F → Result F Cause
-judged None fact = Ok fact
-judged (Some refusal) fact = Err (named refusal)
+abbrev pub fact_unless : {F : Type 0} → Option BuildError → F → Result F Cause
+fact_unless None fact = Ok fact
+fact_unless (Some refusal) fact = Err (cause_of refusal)

@@ -1,21 +1,22 @@
 -- What a reader keeps of the lines of a model so far.
-use Rattle.std.specs.Prelude.{◌≡◌, ℕ, ◌≤◌, ◌^◌, List, [], length, Option, is_none, find, Some, None, false, slice_index_or, unwrap_or}
+use Rattle.std.specs.Prelude.{◌≡◌, ℕ, ◌≤◌, List, [], length, Option, is_none, find, Some, None, false, slice_index_or, unwrap_or}
 use Rattle.std.specs.List.{list_any}
+use Rattle.pit_num.specs.declared.limits.TheConstants.{BLOCKS_MAX, PERIODS_MAX, RESOURCES_MAX, RATE_MAX}
 use Rattle.pit_model.specs.Pit.{Pit}
-use Rattle.pit_text.specs.declared.error.Key.{Key}
-use Rattle.pit_text.specs.declared.error.Key.TheVariants.{Kind, Blocks, Periods, Resources, Rate, Destinations, Generals}
+use Rattle.pit_text.specs.declared.key.Key.{Key}
+use Rattle.pit_text.specs.declared.key.Key.TheVariants.{Kind, Blocks, Periods, Resources, Rate, Destinations, Generals}
 use Rattle.pit_text.specs.declared.section.Section.{Section}
 use Rattle.pit_text.specs.declared.draft.Draft.{Draft}
 use Rattle.pit_text.specs.Keys.{key_number, section_number, same_section}
-use Rattle.pit_text.specs.Model.{Fact, skipped, header, section, entry, header_value, sections, entries, last_of, needed, missing, pit_of}
+use Rattle.pit_text.specs.Model.{Fact, skipped, header, section, in_section, header_value, sections, section_facts, last_of, needed_keys, missing_key, pit_of}
 
 -- the numbers that a key may have
 abbrev pub IsNumberOf : Key → ℕ → Type 0
 IsNumberOf Kind n = n ≡ 0
-IsNumberOf Blocks n = (1 ≤ n) × (n ≤ 4194304)
-IsNumberOf Periods n = (1 ≤ n) × (n ≤ 1000)
-IsNumberOf Resources n = n ≤ 64
-IsNumberOf Rate n = n ≤ 10 ^ 9
+IsNumberOf Blocks n = (1 ≤ n) × (n ≤ BLOCKS_MAX)
+IsNumberOf Periods n = (1 ≤ n) × (n ≤ PERIODS_MAX)
+IsNumberOf Resources n = n ≤ RESOURCES_MAX
+IsNumberOf Rate n = n ≤ RATE_MAX
 IsNumberOf Destinations n = n ≡ 1
 IsNumberOf Generals n = n ≡ 0
 
@@ -32,8 +33,8 @@ abbrev pub number_at : Draft → Key → ℕ
 number_at draft key = unwrap_or (slice_index_or draft.values (key_number key) None) 0
 
 -- the first needed key that the draft has no value for
-abbrev pub missing_in : Draft → Option Key
-missing_in draft = find (λ key. is_none (slice_index_or draft.values (key_number key) None)) needed
+abbrev pub missing_key_in : Draft → Option Key
+missing_key_in draft = find (λ key. is_none (slice_index_or draft.values (key_number key) None)) needed_keys
 
 -- the needed numbers are there
 pub record HasHeader (draft : Draft) : Type 0 where
@@ -46,17 +47,17 @@ pub record HasHeader (draft : Draft) : Type 0 where
 abbrev pub IsHeaderFact : List Fact → Fact → Draft → Type 0
 IsHeaderFact facts skipped draft = draft.section ≡ None
 IsHeaderFact facts (header key n) draft = draft.section ≡ None
-IsHeaderFact facts (section s) draft = (draft.section ≡ Some s) × (missing facts ≡ None)
-IsHeaderFact facts (entry e) draft = ⊥
+IsHeaderFact facts (section s) draft = (draft.section ≡ Some s) × (missing_key facts ≡ None)
+IsHeaderFact facts (in_section e) draft = ⊥
 
 -- the header is whole, and no line of a section was read
 pub record IsHeader (facts : List Fact) (draft : Draft) : Type 0 where
   pub keeps : IsDraft facts draft
-  pub whole : missing facts ≡ None
-  pub none : entries facts ≡ []
+  pub whole : missing_key facts ≡ None
+  pub none : section_facts facts ≡ []
 
 -- the pit has what the lines of the sections said
 pub record IsBody (facts : List Fact) (draft : Draft) (pit : Pit) : Type 0 where
   pub keeps : IsDraft facts draft
-  pub whole : missing facts ≡ None
+  pub whole : missing_key facts ≡ None
   pub says : pit ≡ pit_of facts

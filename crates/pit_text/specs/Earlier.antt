@@ -7,5 +7,5 @@ first_of [] = None
 first_of (x ∷ xs) = Some x
 
 -- what the first fact says that says anything of it
-abbrev pub first_said : {F X : Type 0} → (F → Option X) → List F → Option X
-first_said says facts = first_of (filter_map says facts)
+abbrev pub first_value : {F X : Type 0} → (F → Option X) → List F → Option X
+first_value says facts = first_of (filter_map says facts)

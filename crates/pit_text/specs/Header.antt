@@ -1,22 +1,12 @@
--- The keys of a model's header, and the values that they take.
-use Rattle.std.specs.Prelude.{ℕ, ℤ, pos, negsuc, ◌==◌, ◌&&◌, ◌^◌, nat_le, if◌then◌else◌, List, Result, Ok, Err, Option, Some, None, codes, Bool}
+-- The values of the keys of a model's header.
+use Rattle.std.specs.Prelude.{ℕ, ℤ, pos, negsuc, ◌==◌, ◌&&◌, nat_le, if◌then◌else◌, List, Result, Ok, Err, codes, Bool}
 use Rattle.std.specs.Str.{bytes_eq, str_to_ascii_lowercase}
+use Rattle.pit_num.specs.declared.limits.TheConstants.{BLOCKS_MAX, PERIODS_MAX, RESOURCES_MAX, RATE_MAX}
 use Rattle.pit_text.specs.declared.error.Cause.{Cause}
 use Rattle.pit_text.specs.declared.error.Cause.TheVariants.{BadHeader, NotCpit, Unsupported}
-use Rattle.pit_text.specs.declared.error.Key.{Key}
-use Rattle.pit_text.specs.declared.error.Key.TheVariants.{Kind, Blocks, Periods, Resources, Rate, Destinations, Generals}
+use Rattle.pit_text.specs.declared.key.Key.{Key}
+use Rattle.pit_text.specs.declared.key.Key.TheVariants.{Kind, Blocks, Periods, Resources, Rate, Destinations, Generals}
 use Rattle.pit_text.specs.Numbers.{is_ascii, whole_field, decimal_field}
-
-unfoldable pub key_of : List ℕ → Option Key
-key_of field =
-    if bytes_eq field (codes "TYPE") then Some Kind
-    else if bytes_eq field (codes "NBLOCKS") then Some Blocks
-    else if bytes_eq field (codes "NPERIODS") then Some Periods
-    else if bytes_eq field (codes "NRESOURCE_SIDE_CONSTRAINTS") then Some Resources
-    else if bytes_eq field (codes "DISCOUNT_RATE") then Some Rate
-    else if bytes_eq field (codes "NDESTINATIONS") then Some Destinations
-    else if bytes_eq field (codes "NGENERAL_SIDE_CONSTRAINTS") then Some Generals
-    else None
 
 -- a number in a range
 abbrev pub within : ℕ → ℕ → Key → Result ℕ Cause → Result ℕ Cause
@@ -37,18 +27,18 @@ kind_of value =
     if is_ascii value then (if is_cpit value then Ok 0 else Err NotCpit)
     else Err (BadHeader Kind)
 
--- a rate from 0 to 1,000, in millionths
+-- a rate from 0 to its limit, in millionths
 abbrev pub rate_of : Result ℤ Cause → Result ℕ Cause
-rate_of (Ok (pos n)) = if nat_le n (10 ^ 9) then Ok n else Err (BadHeader Rate)
+rate_of (Ok (pos n)) = if nat_le n RATE_MAX then Ok n else Err (BadHeader Rate)
 rate_of (Ok (negsuc n)) = Err (BadHeader Rate)
 rate_of (Err e) = Err (BadHeader Rate)
 
 -- the number that a value gives a key; a kind has none, so 0 stands for it
 unfoldable pub value_of_key : Key → List ℕ → Result ℕ Cause
 value_of_key Kind value = kind_of value
-value_of_key Blocks value = within 1 4194304 Blocks (whole_field value)
-value_of_key Periods value = within 1 1000 Periods (whole_field value)
-value_of_key Resources value = within 0 64 Resources (whole_field value)
+value_of_key Blocks value = within 1 BLOCKS_MAX Blocks (whole_field value)
+value_of_key Periods value = within 1 PERIODS_MAX Periods (whole_field value)
+value_of_key Resources value = within 0 RESOURCES_MAX Resources (whole_field value)
 value_of_key Rate value = rate_of (decimal_field value)
 value_of_key Destinations value = only 1 Destinations (whole_field value)
 value_of_key Generals value = only 0 Generals (whole_field value)

@@ -1,7 +1,9 @@
 -- The keys of a header and the sections, numbered as a model lists them.
-use Rattle.std.specs.Prelude.{ℕ, Bool, ◌==◌, List, codes}
-use Rattle.pit_text.specs.declared.error.Key.{Key}
-use Rattle.pit_text.specs.declared.error.Key.TheVariants.{Kind, Blocks, Periods, Resources, Rate, Destinations, Generals}
+use Rattle.std.specs.Prelude.{ℕ, Bool, ◌==◌, List, [], ◌∷◌, Option, slice_index_or, codes}
+use Rattle.std.specs.Map.{lookup}
+use Rattle.std.specs.Str.{bytes_eq}
+use Rattle.pit_text.specs.declared.key.Key.{Key}
+use Rattle.pit_text.specs.declared.key.Key.TheVariants.{Kind, Blocks, Periods, Resources, Rate, Destinations, Generals}
 use Rattle.pit_text.specs.declared.section.Section.{Section}
 use Rattle.pit_text.specs.declared.section.Section.TheVariants.{Objective, Coefficients, Limits}
 
@@ -14,15 +16,23 @@ key_number Rate = 4
 key_number Destinations = 5
 key_number Generals = 6
 
--- the text of a key in a model
+-- the keys with their texts in a model, each at its number
+abbrev pub keys : List (List ℕ × Key)
+keys =
+    (codes "TYPE", Kind)
+    ∷ (codes "NBLOCKS", Blocks)
+    ∷ (codes "NPERIODS", Periods)
+    ∷ (codes "NRESOURCE_SIDE_CONSTRAINTS", Resources)
+    ∷ (codes "DISCOUNT_RATE", Rate)
+    ∷ (codes "NDESTINATIONS", Destinations)
+    ∷ (codes "NGENERAL_SIDE_CONSTRAINTS", Generals)
+    ∷ []
+
 abbrev pub key_text : Key → List ℕ
-key_text Kind = codes "TYPE"
-key_text Blocks = codes "NBLOCKS"
-key_text Periods = codes "NPERIODS"
-key_text Resources = codes "NRESOURCE_SIDE_CONSTRAINTS"
-key_text Rate = codes "DISCOUNT_RATE"
-key_text Destinations = codes "NDESTINATIONS"
-key_text Generals = codes "NGENERAL_SIDE_CONSTRAINTS"
+key_text key = (slice_index_or keys (key_number key) ([], Kind)).0
+
+unfoldable pub key_of : List ℕ → Option Key
+key_of field = lookup (bytes_eq field) keys
 
 abbrev pub section_number : Section → ℕ
 section_number Objective = 0

@@ -6,8 +6,8 @@ pub mod Numbers
 pub mod Bounds
 pub mod Keys
 pub mod Header
-pub mod Judged
-pub mod Entries
+pub mod Causes
+pub mod SectionFacts
 pub mod Precedence
 pub mod Blocks
 pub mod Solution

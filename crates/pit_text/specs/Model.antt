@@ -6,24 +6,24 @@ use Rattle.std.specs.Str.{bytes_eq}
 use Rattle.pit_model.specs.Pit.{Pit, empty_pit}
 use Rattle.pit_text.specs.declared.error.Cause.{Cause}
 use Rattle.pit_text.specs.declared.error.Cause.TheVariants.{MissingHeader, BadHeader, SectionTwice}
-use Rattle.pit_text.specs.declared.error.Key.{Key}
-use Rattle.pit_text.specs.declared.error.Key.TheVariants.{Kind, Blocks, Periods, Resources, Rate}
+use Rattle.pit_text.specs.declared.key.Key.{Key}
+use Rattle.pit_text.specs.declared.key.Key.TheVariants.{Kind, Blocks, Periods, Resources, Rate}
 use Rattle.pit_text.specs.declared.section.Section.{Section}
 use Rattle.pit_text.specs.declared.section.Section.TheVariants.{Objective, Coefficients, Limits}
-use Rattle.pit_text.specs.declared.entry.Entry.{Entry}
+use Rattle.pit_text.specs.declared.section_fact.SectionFact.{SectionFact}
 use Rattle.pit_text.specs.Stands.{◌>>=◌}
-use Rattle.pit_text.specs.Earlier.{first_said}
-use Rattle.pit_text.specs.Header.{key_of, value_of_key}
-use Rattle.pit_text.specs.Keys.{key_number, same_section}
-use Rattle.pit_text.specs.Judged.{judged}
-use Rattle.pit_text.specs.Entries.{entry_line, with_entry, entry_refusal}
+use Rattle.pit_text.specs.Earlier.{first_value}
+use Rattle.pit_text.specs.Header.{value_of_key}
+use Rattle.pit_text.specs.Keys.{key_of, key_number, same_section}
+use Rattle.pit_text.specs.Causes.{fact_unless}
+use Rattle.pit_text.specs.SectionFacts.{section_fact_of, with_section_fact, section_fact_refusal}
 
 -- what one line states
 pub data Fact : Type 0 where
   skipped : Fact
   header : Key → ℕ → Fact
   section : Section → Fact
-  entry : Entry → Fact
+  in_section : SectionFact → Fact
 
 -- ---- what the earlier lines said
 
@@ -38,7 +38,7 @@ value_in_fact key fact = None
 
 -- the value of a key
 abbrev pub header_value : List Fact → Key → Option ℕ
-header_value facts key = first_said (value_in_fact key) facts
+header_value facts key = first_value (value_in_fact key) facts
 
 abbrev pub section_in_fact : Fact → Option Section
 section_in_fact (section s) = Some s
@@ -48,13 +48,13 @@ section_in_fact fact = None
 abbrev pub sections : List Fact → List Section
 sections facts = filter_map section_in_fact facts
 
-abbrev pub entry_in_fact : Fact → Option Entry
-entry_in_fact (entry e) = Some e
-entry_in_fact fact = None
+abbrev pub section_fact_in : Fact → Option SectionFact
+section_fact_in (in_section e) = Some e
+section_fact_in fact = None
 
 -- what the lines of sections said so far
-abbrev pub entries : List Fact → List Entry
-entries facts = filter_map entry_in_fact facts
+abbrev pub section_facts : List Fact → List SectionFact
+section_facts facts = filter_map section_fact_in facts
 
 -- ---- the header
 
@@ -72,12 +72,12 @@ abbrev pub header_line : List Fact → Option Key → List (List ℕ) → Result
 header_line earlier None values = Ok skipped
 header_line earlier (Some key) values = key_line earlier key values
 
-abbrev pub needed : List Key
-needed = Kind ∷ Blocks ∷ Periods ∷ Resources ∷ Rate ∷ []
+abbrev pub needed_keys : List Key
+needed_keys = Kind ∷ Blocks ∷ Periods ∷ Resources ∷ Rate ∷ []
 
 -- the first needed key that hasn't come
-abbrev pub missing : List Fact → Option Key
-missing facts = find (λ key. is_none (header_value facts key)) needed
+abbrev pub missing_key : List Fact → Option Key
+missing_key facts = find (λ key. is_none (header_value facts key)) needed_keys
 
 -- ---- sections
 
@@ -97,7 +97,7 @@ section_after earlier s (Some key) = Err (MissingHeader key)
 section_after earlier s None = new_section earlier s
 
 abbrev pub section_line : List Fact → Section → Result Fact Cause
-section_line earlier s = section_after earlier s (missing earlier)
+section_line earlier s = section_after earlier s (missing_key earlier)
 
 -- ---- the pit
 
@@ -108,22 +108,22 @@ number_of facts key = unwrap_or (header_value facts key) 0
 abbrev pub header_pit : List Fact → Pit
 header_pit facts = empty_pit (number_of facts Blocks) (number_of facts Periods) (number_of facts Resources) (number_of facts Rate)
 
--- what the facts of a model say of a pit: that of the header, and then each entry in turn
+-- what the facts of a model say of a pit: that of the header, and then what each line of a section says
 unfoldable pub pit_of : List Fact → Pit
-pit_of facts = fold with_entry (header_pit facts) (entries facts)
+pit_of facts = fold with_section_fact (header_pit facts) (section_facts facts)
 
--- an entry stands, unless the pit so far refuses it
-abbrev pub new_entry : List Fact → Entry → Result Fact Cause
-new_entry earlier e = judged (entry_refusal (pit_of earlier) e) (entry e)
+-- a fact of a section stands, unless the pit so far refuses it
+abbrev pub new_section_fact : List Fact → SectionFact → Result Fact Cause
+new_section_fact earlier e = fact_unless (section_fact_refusal (pit_of earlier) e) (in_section e)
 
-abbrev pub section_entry : List Fact → Section → List (List ℕ) → Result Fact Cause
-section_entry earlier s fields = entry_line s fields >>= new_entry earlier
+abbrev pub section_fact_line : List Fact → Section → List (List ℕ) → Result Fact Cause
+section_fact_line earlier s fields = section_fact_of s fields >>= new_section_fact earlier
 
 -- ---- any line
 
 -- by the section that the line stands in
 abbrev pub body_line : List Fact → Option Section → List ℕ → List (List ℕ) → Result Fact Cause
-body_line earlier (Some s) first values = section_entry earlier s (first ∷ values)
+body_line earlier (Some s) first values = section_fact_line earlier s (first ∷ values)
 body_line earlier None first values = header_line earlier (key_of first) values
 
 -- by the section that the line begins
@@ -137,4 +137,4 @@ model_line earlier (first ∷ values) = line_by earlier (section_of first) first
 
 -- where no section line has seen to it, the end does
 unfoldable pub model_end : List Fact → Option Cause
-model_end facts = option_map MissingHeader (missing facts)
+model_end facts = option_map MissingHeader (missing_key facts)

@@ -7,7 +7,7 @@ use Rattle.pit_text.specs.declared.error.Cause.{Cause}
 use Rattle.pit_text.specs.declared.error.Cause.TheVariants.{FieldCount, CountWrong}
 use Rattle.pit_text.specs.Stands.{◌>>=◌}
 use Rattle.pit_text.specs.Numbers.{whole_field}
-use Rattle.pit_text.specs.Judged.{judged}
+use Rattle.pit_text.specs.Causes.{fact_unless}
 
 -- whole numbers, from left to right
 abbrev pub wholes_of : List (List ℕ) → Result (List ℕ) Cause
@@ -15,28 +15,28 @@ wholes_of [] = Ok []
 wholes_of (field ∷ fields) = whole_field field >>= (λ n. wholes_of fields >>= (λ more. Ok (n ∷ more)))
 
 -- the predecessors, as many as were said
-abbrev pub listed_by : ℕ → List (List ℕ) → Result (List ℕ) Cause
-listed_by count fields = if count == length fields then wholes_of fields else Err CountWrong
+abbrev pub listed_blocks : ℕ → List (List ℕ) → Result (List ℕ) Cause
+listed_blocks count fields = if count == length fields then wholes_of fields else Err CountWrong
 
 -- a block, the number of its predecessors, and these
 unfoldable pub preds_line : List (List ℕ) → Result (ℕ × List ℕ) Cause
 preds_line [] = Err FieldCount
 preds_line (b ∷ []) = Err FieldCount
-preds_line (b ∷ k ∷ fields) = whole_field b >>= (λ block. whole_field k >>= (λ count. listed_by count fields >>= (λ listed. Ok (block, listed))))
+preds_line (b ∷ k ∷ fields) = whole_field b >>= (λ block. whole_field k >>= (λ count. listed_blocks count fields >>= (λ listed. Ok (block, listed))))
 
-abbrev pub with_line : Pit → ℕ × List ℕ → Pit
-with_line pit fact = with_preds pit fact.0 fact.1
+abbrev pub with_preds_fact : Pit → ℕ × List ℕ → Pit
+with_preds_fact pit fact = with_preds pit fact.0 fact.1
 
 -- the pit that was given, with what the lines say
 unfoldable pub pit_with_preds : Pit → List (ℕ × List ℕ) → Pit
-pit_with_preds given facts = fold with_line given facts
+pit_with_preds given facts = fold with_preds_fact given facts
 
 -- a line stands, unless the pit so far refuses it
 abbrev pub new_preds : Pit → ℕ × List ℕ → Result (ℕ × List ℕ) Cause
-new_preds pit fact = judged (preds_refusal pit fact.0 fact.1) fact
+new_preds pit fact = fact_unless (preds_refusal pit fact.0 fact.1) fact
 
-abbrev pub preds_in : Pit → List (List ℕ) → Result (ℕ × List ℕ) Cause
-preds_in pit fields = preds_line fields >>= new_preds pit
+abbrev pub preds_fact : Pit → List (List ℕ) → Result (ℕ × List ℕ) Cause
+preds_fact pit fields = preds_line fields >>= new_preds pit
 
 unfoldable pub precedence_line : Pit → List (ℕ × List ℕ) → List (List ℕ) → Result (ℕ × List ℕ) Cause
-precedence_line given earlier fields = preds_in (pit_with_preds given earlier) fields
+precedence_line given earlier fields = preds_fact (pit_with_preds given earlier) fields

@@ -1,7 +1,8 @@
 -- What a line of a section says by itself, and what it makes of a pit.
-use Rattle.std.specs.Prelude.{ℕ, ℤ, ◌^◌, if◌then◌else◌, List, [], ◌∷◌, Result, Ok, Err, Option, None, codes, ⊤}
+use Rattle.std.specs.Prelude.{ℕ, ℤ, if◌then◌else◌, List, [], ◌∷◌, Result, Ok, Err, Option, None, codes, ⊤}
 use Rattle.std.specs.Str.{bytes_eq}
 use Rattle.pit_num.specs.Within.{IsWithin}
+use Rattle.pit_num.specs.declared.limits.TheConstants.{MICRO_LIMIT}
 use Rattle.pit_model.specs.Pit.{Pit, with_profit, with_coef, with_limit}
 use Rattle.pit_model.specs.Refusals.{profit_refusal, coef_refusal, limit_refusal}
 use Rattle.pit_model.specs.declared.error.BuildError.{BuildError}
@@ -9,10 +10,10 @@ use Rattle.pit_text.specs.declared.error.Cause.{Cause}
 use Rattle.pit_text.specs.declared.error.Cause.TheVariants.{NotAscii, FieldCount, BadKind}
 use Rattle.pit_text.specs.declared.section.Section.{Section}
 use Rattle.pit_text.specs.declared.section.Section.TheVariants.{Objective, Coefficients, Limits}
-use Rattle.pit_text.specs.declared.entry.Entry.{Entry}
-use Rattle.pit_text.specs.declared.entry.Entry.TheVariants.{Profit, Coefficient, Limit}
-use Rattle.pit_text.specs.declared.entry.LimitKind.{LimitKind}
-use Rattle.pit_text.specs.declared.entry.LimitKind.TheVariants.{AtMost, AtLeast, Between}
+use Rattle.pit_text.specs.declared.section_fact.SectionFact.{SectionFact}
+use Rattle.pit_text.specs.declared.section_fact.SectionFact.TheVariants.{Profit, Coefficient, Limit}
+use Rattle.pit_text.specs.declared.section_fact.LimitKind.{LimitKind}
+use Rattle.pit_text.specs.declared.section_fact.LimitKind.TheVariants.{AtMost, AtLeast, Between}
 use Rattle.pit_text.specs.Stands.{◌>>=◌}
 use Rattle.pit_text.specs.Numbers.{is_ascii, whole_field, decimal_field}
 use Rattle.pit_text.specs.Bounds.{lower_field, upper_field}
@@ -20,14 +21,14 @@ use Rattle.pit_text.specs.Bounds.{lower_field, upper_field}
 -- ---- by section
 
 -- a block and its profit
-unfoldable pub profit_line : List (List ℕ) → Result Entry Cause
+unfoldable pub profit_line : List (List ℕ) → Result SectionFact Cause
 profit_line [] = Err FieldCount
 profit_line (b ∷ []) = Err FieldCount
 profit_line (b ∷ v ∷ []) = whole_field b >>= (λ block. decimal_field v >>= (λ value. Ok (Profit block value)))
 profit_line (b ∷ v ∷ more ∷ fields) = Err FieldCount
 
 -- a block, a resource, and how much of it the block takes
-unfoldable pub coefficient_line : List (List ℕ) → Result Entry Cause
+unfoldable pub coefficient_line : List (List ℕ) → Result SectionFact Cause
 coefficient_line [] = Err FieldCount
 coefficient_line (b ∷ []) = Err FieldCount
 coefficient_line (b ∷ r ∷ []) = Err FieldCount
@@ -56,7 +57,7 @@ bounds_by Between lo (hi ∷ []) = lower_field lo >>= (λ lower. upper_field hi 
 bounds_by Between lo (hi ∷ more ∷ fields) = Err FieldCount
 
 -- a resource, a period, a kind, and one bound or two
-unfoldable pub limit_line : List (List ℕ) → Result Entry Cause
+unfoldable pub limit_line : List (List ℕ) → Result SectionFact Cause
 limit_line [] = Err FieldCount
 limit_line (r ∷ []) = Err FieldCount
 limit_line (r ∷ t ∷ []) = Err FieldCount
@@ -65,25 +66,25 @@ limit_line (r ∷ t ∷ kind ∷ bound ∷ more) =
     whole_field r >>= (λ resource. whole_field t >>= (λ period. kind_field kind >>= (λ k.
     bounds_by k bound more >>= (λ bounds. Ok (Limit resource period bounds.0 bounds.1)))))
 
-abbrev pub entry_line : Section → List (List ℕ) → Result Entry Cause
-entry_line Objective fields = profit_line fields
-entry_line Coefficients fields = coefficient_line fields
-entry_line Limits fields = limit_line fields
+abbrev pub section_fact_of : Section → List (List ℕ) → Result SectionFact Cause
+section_fact_of Objective fields = profit_line fields
+section_fact_of Coefficients fields = coefficient_line fields
+section_fact_of Limits fields = limit_line fields
 
 -- ---- in a pit
 
-abbrev pub with_entry : Pit → Entry → Pit
-with_entry pit (Profit block value) = with_profit pit block value
-with_entry pit (Coefficient block resource value) = with_coef pit block resource value
-with_entry pit (Limit resource period lo hi) = with_limit pit resource period lo hi
+abbrev pub with_section_fact : Pit → SectionFact → Pit
+with_section_fact pit (Profit block value) = with_profit pit block value
+with_section_fact pit (Coefficient block resource value) = with_coef pit block resource value
+with_section_fact pit (Limit resource period lo hi) = with_limit pit resource period lo hi
 
-abbrev pub entry_refusal : Pit → Entry → Option BuildError
-entry_refusal pit (Profit block value) = profit_refusal pit block
-entry_refusal pit (Coefficient block resource value) = coef_refusal pit block resource
-entry_refusal pit (Limit resource period lo hi) = limit_refusal pit resource period lo hi
+abbrev pub section_fact_refusal : Pit → SectionFact → Option BuildError
+section_fact_refusal pit (Profit block value) = profit_refusal pit block
+section_fact_refusal pit (Coefficient block resource value) = coef_refusal pit block resource
+section_fact_refusal pit (Limit resource period lo hi) = limit_refusal pit resource period lo hi
 
 -- a profit and a coefficient are below 10^12, in millionths
-abbrev pub IsSmall : Entry → Type 0
-IsSmall (Profit block value) = IsWithin (10 ^ 18) value
-IsSmall (Coefficient block resource value) = IsWithin (10 ^ 18) value
+abbrev pub IsSmall : SectionFact → Type 0
+IsSmall (Profit block value) = IsWithin MICRO_LIMIT value
+IsSmall (Coefficient block resource value) = IsWithin MICRO_LIMIT value
 IsSmall (Limit resource period lo hi) = ⊤

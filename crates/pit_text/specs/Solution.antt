@@ -1,18 +1,18 @@
 -- What the lines of a solution say.
-use Rattle.std.specs.Prelude.{◌≡◌, ℕ, ℤ, pos, negsuc, ◌+◌, ◌≤◌, ◌==◌, ◌^◌, nat_le, if◌then◌else◌, List, [], ◌∷◌, length, Result, Ok, Err, Option, Some, None, is_some, slice_index_or, ◌<◌}
+use Rattle.std.specs.Prelude.{◌≡◌, ℕ, ℤ, pos, negsuc, ◌==◌, ◌^◌, nat_le, if◌then◌else◌, List, [], ◌∷◌, length, Result, Ok, Err, Option, Some, None, is_some, slice_index_or, ◌<◌}
 use Rattle.std.specs.List.{filter_map, range_with_len}
 use Rattle.std.specs.Option.{option_map}
 use Rattle.pit_model.specs.declared.error.BuildError.TheVariants.{BlockRange, PeriodRange, Repeated}
 use Rattle.pit_text.specs.declared.error.Cause.{Cause}
 use Rattle.pit_text.specs.declared.error.Cause.TheVariants.{FieldCount, Unsupported, PartBlock, Build}
-use Rattle.pit_text.specs.declared.error.Key.TheVariants.{Destinations}
+use Rattle.pit_text.specs.declared.key.Key.TheVariants.{Destinations}
 use Rattle.pit_text.specs.Numbers.{whole_field, decimal_field}
 use Rattle.pit_text.specs.Stands.{◌>>=◌}
-use Rattle.pit_text.specs.Earlier.{first_said}
+use Rattle.pit_text.specs.Earlier.{first_value}
 
 -- a block and a period
-abbrev pub in_range : ℕ → ℕ → ℕ → ℕ → Result (ℕ × ℕ) Cause
-in_range blocks periods b t =
+abbrev pub pair_in_range : ℕ → ℕ → ℕ → ℕ → Result (ℕ × ℕ) Cause
+pair_in_range blocks periods b t =
     if nat_le blocks b then Err (Build BlockRange)
     else if nat_le periods t then Err (Build PeriodRange)
     else Ok (b, t)
@@ -25,20 +25,20 @@ whole_or_none (pos millionths) pair =
     else Err PartBlock
 whole_or_none (negsuc n) pair = Err PartBlock
 
-abbrev pub destined : ℕ → ℤ → ℕ × ℕ → Result (Option (ℕ × ℕ)) Cause
-destined destination part pair = if destination == 0 then whole_or_none part pair else Err (Unsupported Destinations)
+abbrev pub mined_pair : ℕ → ℤ → ℕ × ℕ → Result (Option (ℕ × ℕ)) Cause
+mined_pair destination part pair = if destination == 0 then whole_or_none part pair else Err (Unsupported Destinations)
 
 -- a line `b t` or `b d t y`, apart from the lines before it: the block and the period that it schedules, if any
-unfoldable pub mined_of : ℕ → ℕ → List (List ℕ) → Result (Option (ℕ × ℕ)) Cause
-mined_of blocks periods [] = Err FieldCount
-mined_of blocks periods (b ∷ []) = Err FieldCount
-mined_of blocks periods (b ∷ t ∷ []) =
-    whole_field b >>= (λ block. whole_field t >>= (λ period. in_range blocks periods block period >>= (λ pair. Ok (Some pair))))
-mined_of blocks periods (b ∷ d ∷ t ∷ []) = Err FieldCount
-mined_of blocks periods (b ∷ d ∷ t ∷ y ∷ []) =
+unfoldable pub scheduled_pair : ℕ → ℕ → List (List ℕ) → Result (Option (ℕ × ℕ)) Cause
+scheduled_pair blocks periods [] = Err FieldCount
+scheduled_pair blocks periods (b ∷ []) = Err FieldCount
+scheduled_pair blocks periods (b ∷ t ∷ []) =
+    whole_field b >>= (λ block. whole_field t >>= (λ period. pair_in_range blocks periods block period >>= (λ pair. Ok (Some pair))))
+scheduled_pair blocks periods (b ∷ d ∷ t ∷ []) = Err FieldCount
+scheduled_pair blocks periods (b ∷ d ∷ t ∷ y ∷ []) =
     whole_field b >>= (λ block. whole_field d >>= (λ destination. whole_field t >>= (λ period. decimal_field y >>= (λ part.
-    in_range blocks periods block period >>= destined destination part))))
-mined_of blocks periods (b ∷ d ∷ t ∷ y ∷ more ∷ fields) = Err FieldCount
+    pair_in_range blocks periods block period >>= mined_pair destination part))))
+scheduled_pair blocks periods (b ∷ d ∷ t ∷ y ∷ more ∷ fields) = Err FieldCount
 
 abbrev pub period_in_fact : ℕ → Option (ℕ × ℕ) → Option ℕ
 period_in_fact block None = None
@@ -46,7 +46,7 @@ period_in_fact block (Some pair) = if pair.0 == block then Some pair.1 else None
 
 -- the period that the lines give a block
 abbrev pub period_in : List (Option (ℕ × ℕ)) → ℕ → Option ℕ
-period_in facts block = first_said (period_in_fact block) facts
+period_in facts block = first_value (period_in_fact block) facts
 
 -- no earlier line gave this block
 abbrev pub new_to : List (Option (ℕ × ℕ)) → Option (ℕ × ℕ) → Result (Option (ℕ × ℕ)) Cause
@@ -54,7 +54,7 @@ new_to earlier None = Ok None
 new_to earlier (Some pair) = if is_some (period_in earlier pair.0) then Err (Build Repeated) else Ok (Some pair)
 
 unfoldable pub solution_line : ℕ → ℕ → List (Option (ℕ × ℕ)) → List (List ℕ) → Result (Option (ℕ × ℕ)) Cause
-solution_line blocks periods earlier fields = mined_of blocks periods fields >>= new_to earlier
+solution_line blocks periods earlier fields = scheduled_pair blocks periods fields >>= new_to earlier
 
 -- one period or none for each block, as the lines say
 pub record AreSlots (blocks : ℕ) (facts : List (Option (ℕ × ℕ))) (slots : List (Option ℕ)) : Type 0 where
@@ -62,17 +62,8 @@ pub record AreSlots (blocks : ℕ) (facts : List (Option (ℕ × ℕ))) (slots :
   pub each : (b : ℕ) → b < blocks → slice_index_or slots b None ≡ period_in facts b
 
 -- each block that has a period, beside it, by rising block
-abbrev pub paired : (ℕ → Option ℕ) → ℕ → Option (ℕ × ℕ)
-paired period block = option_map (λ t. (block, t)) (period block)
+abbrev pub pair_of : (ℕ → Option ℕ) → ℕ → Option (ℕ × ℕ)
+pair_of period block = option_map (λ t. (block, t)) (period block)
 
-unfoldable pub scheduled : ℕ → (ℕ → Option ℕ) → List (ℕ × ℕ)
-scheduled blocks period = filter_map (paired period) (range_with_len 0 blocks)
-
--- from a least block on, the blocks rise, and blocks and periods are in range
-abbrev pub RisesFrom : ℕ → ℕ → ℕ → List (ℕ × ℕ) → Type 0
-RisesFrom least blocks periods [] = Unit {0}
-RisesFrom least blocks periods (pair ∷ more) =
-    (least ≤ pair.0) × (pair.0 < blocks) × (pair.1 < periods) × RisesFrom (pair.0 + 1) blocks periods more
-
-abbrev pub IsSolution : ℕ → ℕ → List (ℕ × ℕ) → Type 0
-IsSolution blocks periods solution = RisesFrom 0 blocks periods solution
+unfoldable pub schedule_of : ℕ → (ℕ → Option ℕ) → List (ℕ × ℕ)
+schedule_of blocks period = filter_map (pair_of period) (range_with_len 0 blocks)

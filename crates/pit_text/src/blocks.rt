@@ -1,9 +1,10 @@
 ghost use Rattle.std.specs.Prelude.{◌≡◌, ◌^◌, ℕ, ℤ, List, Ok, Err, IfOk, MatchResult, ◌⊎◌};
 ghost use Rattle.pit_num.specs.Within.{IsWithin};
+ghost use Rattle.pit_num.specs.declared.limits.TheConstants.{MICRO_LIMIT};
 ghost use Rattle.pit_text.specs.Cutting.{cut_of};
 ghost use Rattle.pit_text.specs.Left.{fields_left};
 ghost use Rattle.pit_text.specs.Stands.{StandsFor, FailsFirst};
-ghost use Rattle.pit_text.specs.Blocks.{place_line, with_line, place_in, pit_with_places, block_line};
+ghost use Rattle.pit_text.specs.Blocks.{place_line, with_place_fact, place_fact, pit_with_places, block_line};
 
 use super::error::{Cause, TextError};
 use super::fields::Fields;
@@ -38,8 +39,8 @@ fn read_line<A: Allocator + Copy + Drop>(
     fields: Fields<'_>,
 ) -> Result<(), Cause>
     ensures { MatchResult result
-        (λ _. (fact : ℕ × (ℤ × ℤ × ℤ)) × (place_in builder.old (fields_left fields.entry) ≡ Ok fact) × (builder.new ≡ with_line builder.old fact))
-        (λ cause. (cause ≡ Cause.NoMemory) ⊎ (place_in builder.old (fields_left fields.entry) ≡ Err cause)) }
+        (λ _. (fact : ℕ × (ℤ × ℤ × ℤ)) × (place_fact builder.old (fields_left fields.entry) ≡ Ok fact) × (builder.new ≡ with_place_fact builder.old fact))
+        (λ cause. (cause ≡ Cause.NoMemory) ⊎ (place_fact builder.old (fields_left fields.entry) ≡ Err cause)) }
 {
     let (block, (x, y, z)) = place(fields)?;
     builder.set_place(block, x, y, z)?;
@@ -50,7 +51,7 @@ fn read_line<A: Allocator + Copy + Drop>(
 #[tactic(auto, unfolding(crate::specs::Blocks::place_line))]
 fn place(mut fields: Fields<'_>) -> Result<(u32, (i64, i64, i64)), Cause>
     ensures value { result ≡ place_line (fields_left fields.entry) }
-    ensures small { IfOk result (λ read. IsWithin (10 ^ 18) read.1.0 × IsWithin (10 ^ 18) read.1.1 × IsWithin (10 ^ 18) read.1.2) }
+    ensures small { IfOk result (λ read. IsWithin MICRO_LIMIT read.1.0 × IsWithin MICRO_LIMIT read.1.1 × IsWithin MICRO_LIMIT read.1.2) }
 {
     let (Some(first), Some(x), Some(y), Some(z)) = (
         fields.next(),

@@ -1,12 +1,13 @@
 ghost use Rattle.std.specs.Prelude.{◌≡◌, ℕ, ◌∷◌, ◌++◌, [], List, Ok, Err, IfOk, MatchResult, slice_index_or, None};
 ghost use Rattle.pit_text.specs.Left.{fields_left};
 ghost use Rattle.pit_text.specs.Keys.{key_number};
-ghost use Rattle.pit_text.specs.Model.{Fact, header, section, key_line, section_line, missing};
+ghost use Rattle.pit_text.specs.Model.{Fact, header, section, key_line, section_line, missing_key};
 ghost use Rattle.pit_model.specs.Pit.{empty_pit};
 
-use super::error::{Cause, Key};
+use super::error::Cause;
 use super::fields::Fields;
 use super::header::value_of_key;
+use super::key::Key;
 use super::section::Section;
 use pit_model::Builder;
 use pit_num::NoMemory;
@@ -21,7 +22,7 @@ pub(crate) struct Draft {
 }
 
 impl Draft {
-    ghost use Rattle.pit_text.specs.Draft.{IsDraft, HasHeader, number_at, missing_in};
+    ghost use Rattle.pit_text.specs.Draft.{IsDraft, HasHeader, number_at, missing_key_in};
 
     pub(crate) fn new() -> Draft
         ensures { IsDraft [] result }
@@ -55,8 +56,8 @@ impl Draft {
     }
 
     /// The first needed key that hasn't come.
-    pub(crate) fn missing(&self) -> Option<Key>
-        ensures { result ≡ missing_in self.now }
+    pub(crate) fn missing_key(&self) -> Option<Key>
+        ensures { result ≡ missing_key_in self.now }
     {
         if self.value(Key::Kind).is_none() {
             return Some(Key::Kind);
@@ -115,10 +116,10 @@ impl Draft {
     /// A line that begins a section.
     pub(crate) fn start(&mut self, begun: Section) -> Result<(), Cause>
         ensures { (facts : List Fact) → IsDraft facts self.old → MatchResult result
-            (λ _. (section_line facts begun ≡ Ok (section begun)) × IsDraft (facts ++ section begun ∷ []) self.new × (missing facts ≡ None))
+            (λ _. (section_line facts begun ≡ Ok (section begun)) × IsDraft (facts ++ section begun ∷ []) self.new × (missing_key facts ≡ None))
             (λ cause. section_line facts begun ≡ Err cause) }
     {
-        if let Some(key) = self.missing() {
+        if let Some(key) = self.missing_key() {
             return Err(Cause::MissingHeader(key));
         }
         if self.seen[begun.number()] {

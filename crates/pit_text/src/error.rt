@@ -1,58 +1,10 @@
 ghost use Rattle.std.specs.Prelude.{◌≡◌};
 
+use super::key::Key;
 use pit_model::BuildError;
 use pit_num::NumError;
 use std::alloc::AllocFailed;
-use std::fmt;
 use thiserror::Error;
-
-/// A key of a model's header.
-#[derive(Clone, Copy, Debug, PartialEq, Eq)]
-pub enum Key {
-    /// `TYPE`
-    Kind,
-    /// `NBLOCKS`
-    Blocks,
-    /// `NPERIODS`
-    Periods,
-    /// `NRESOURCE_SIDE_CONSTRAINTS`
-    Resources,
-    /// `DISCOUNT_RATE`
-    Rate,
-    /// `NDESTINATIONS`
-    Destinations,
-    /// `NGENERAL_SIDE_CONSTRAINTS`
-    Generals,
-}
-
-impl Key {
-    ghost use Rattle.pit_text.specs.Keys.{key_number};
-
-    pub(crate) fn number(self) -> usize
-        ensures { result ≡ key_number self }
-    {
-        self as usize
-    }
-}
-
-impl fmt::Display for Key {
-    ghost use Rattle.std.specs.Prelude.{Some};
-    ghost use Rattle.pit_text.specs.Keys.{key_text};
-
-    ghost output = { λ key. Some (key_text key) };
-
-    fn fmt<W: fmt::Write>(&self, f: &mut fmt::Formatter<W>) -> fmt::Result {
-        match self {
-            Key::Kind => f.write_str("TYPE"),
-            Key::Blocks => f.write_str("NBLOCKS"),
-            Key::Periods => f.write_str("NPERIODS"),
-            Key::Resources => f.write_str("NRESOURCE_SIDE_CONSTRAINTS"),
-            Key::Rate => f.write_str("DISCOUNT_RATE"),
-            Key::Destinations => f.write_str("NDESTINATIONS"),
-            Key::Generals => f.write_str("NGENERAL_SIDE_CONSTRAINTS"),
-        }
-    }
-}
 
 /// What is wrong with a line, or with the end of a text.
 #[derive(Clone, Copy, Debug, PartialEq, Eq, Error)]
@@ -94,9 +46,9 @@ pub enum Cause {
 }
 
 impl From<BuildError> for Cause {
-    ghost use Rattle.pit_text.specs.Judged.{named};
+    ghost use Rattle.pit_text.specs.Causes.{cause_of};
 
-    ghost from_gives = { λ error cause. cause ≡ named error };
+    ghost from_gives = { λ error cause. cause ≡ cause_of error };
 
     fn from(error: BuildError) -> Cause {
         match error {

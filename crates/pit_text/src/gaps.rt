@@ -2,7 +2,7 @@ ghost use Rattle.std.specs.Prelude.{◌≡◌, ◌≤◌, length, take};
 ghost use Rattle.std.specs.List.{position, position_or_len};
 ghost use Rattle.pit_text.specs.Cutting.{is_gap};
 
-use super::cut::gap;
+use super::cut::is_gap;
 use std::simd::prelude::*;
 
 /// How many bytes are looked at in one go.
@@ -59,5 +59,5 @@ fn first_gap(text: &[u8]) -> usize
 pub(crate) fn gap_place(text: &[u8]) -> Option<usize>
     ensures { result ≡ position is_gap text.now }
 {
-    text.iter().position(|b| gap(*b))
+    text.iter().position(|b| is_gap(*b))
 }

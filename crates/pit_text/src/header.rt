@@ -1,34 +1,11 @@
 ghost use Rattle.std.specs.Prelude.{◌≡◌, Result};
-ghost use Rattle.pit_text.specs.Header.{key_of, value_of_key, within, only, is_cpit, kind_of, rate_of};
+ghost use Rattle.pit_text.specs.Header.{value_of_key, within, only, is_cpit, kind_of, rate_of};
 ghost use Rattle.pit_text.specs.Numbers.{decimal_field};
 
-use super::error::{Cause, Key};
+use super::error::Cause;
+use super::key::Key;
 use super::number::{decimal, is_ascii, whole};
 use pit_num::{BLOCKS_MAX, PERIODS_MAX, RATE_MAX, RESOURCES_MAX};
-
-/// The key that a header line begins with.
-#[tactic(auto, unfolding(crate::specs::Header::key_of))]
-pub(crate) fn key_of(field: &[u8]) -> Option<Key>
-    ensures { result ≡ key_of field.now }
-{
-    if field == b"TYPE".as_slice() {
-        Some(Key::Kind)
-    } else if field == b"NBLOCKS".as_slice() {
-        Some(Key::Blocks)
-    } else if field == b"NPERIODS".as_slice() {
-        Some(Key::Periods)
-    } else if field == b"NRESOURCE_SIDE_CONSTRAINTS".as_slice() {
-        Some(Key::Resources)
-    } else if field == b"DISCOUNT_RATE".as_slice() {
-        Some(Key::Rate)
-    } else if field == b"NDESTINATIONS".as_slice() {
-        Some(Key::Destinations)
-    } else if field == b"NGENERAL_SIDE_CONSTRAINTS".as_slice() {
-        Some(Key::Generals)
-    } else {
-        None
-    }
-}
 
 /// The number that a value gives a key.
 #[tactic(auto, unfolding(crate::specs::Header::value_of_key))]

@@ -2,17 +2,17 @@ ghost use Rattle.std.specs.Prelude.{◌≡◌, ◌≢◌, ◌∷◌, ◌++◌, [
 ghost use Rattle.pit_text.specs.Cutting.{cut_of, end_line};
 ghost use Rattle.pit_text.specs.Left.{fields_left, lines_left, end_left};
 ghost use Rattle.pit_text.specs.Stands.{StandsWhole, FailsWhole, IsReadTo};
-ghost use Rattle.pit_text.specs.Entries.{with_entry};
-ghost use Rattle.pit_text.specs.Model.{Fact, entry, section_entry, model_line, model_end, pit_of};
+ghost use Rattle.pit_text.specs.SectionFacts.{with_section_fact};
+ghost use Rattle.pit_text.specs.Model.{Fact, in_section, section_fact_line, model_line, model_end, pit_of};
 ghost use Rattle.pit_text.specs.Draft.{IsDraft, IsHeader, IsHeaderFact, IsBody, HasHeader};
 
 use super::draft::Draft;
-use super::entry::{Entry, add, entry_of};
 use super::error::{Cause, TextError};
 use super::fields::Fields;
-use super::header::key_of;
+use super::key::key_of;
 use super::lines::Lines;
 use super::section::{Section, section_of};
+use super::section_fact::{SectionFact, add, section_fact_of};
 use pit_model::Builder;
 use std::alloc::Allocator;
 
@@ -63,7 +63,7 @@ fn read_header(lines: &mut Lines<'_>) -> Result<Draft, TextError>
             return Ok(draft);
         }
     }
-    match draft.missing() {
+    match draft.missing_key() {
         Some(key) => Err(TextError {
             line: lines.end_line(),
             cause: Cause::MissingHeader(key),
@@ -111,21 +111,21 @@ fn read_line<A: Allocator + Copy + Drop>(
     let Some(section) = draft.section() else {
         return Ok(());
     };
-    read_entry(builder, section, first, fields)
+    read_section_fact(builder, section, first, fields)
 }
 
 /// A line of a section, by its first field and what follows it.
-fn read_entry<A: Allocator + Copy + Drop>(
+fn read_section_fact<A: Allocator + Copy + Drop>(
     builder: &mut Builder<A>,
     section: Section,
     first: &[u8],
     fields: Fields<'_>,
 ) -> Result<(), Cause>
     ensures { (facts : List Fact) → builder.old ≡ pit_of facts → MatchResult result
-        (λ _. (said : Entry) × (section_entry facts section (first.now ∷ fields_left fields.entry) ≡ Ok (entry said)) × (builder.new ≡ with_entry builder.old said))
-        (λ cause. (cause ≡ Cause.NoMemory) ⊎ (section_entry facts section (first.now ∷ fields_left fields.entry) ≡ Err cause)) }
+        (λ _. (said : SectionFact) × (section_fact_line facts section (first.now ∷ fields_left fields.entry) ≡ Ok (in_section said)) × (builder.new ≡ with_section_fact builder.old said))
+        (λ cause. (cause ≡ Cause.NoMemory) ⊎ (section_fact_line facts section (first.now ∷ fields_left fields.entry) ≡ Err cause)) }
 {
-    let said = entry_of(section, first, fields)?;
+    let said = section_fact_of(section, first, fields)?;
     add(builder, said)?;
     Ok(())
 }

@@ -2,7 +2,7 @@ ghost use Rattle.std.specs.Prelude.{◌≡◌, ◌==◌, ℕ, List, length, Ok, 
 ghost use Rattle.pit_text.specs.Cutting.{cut_of};
 ghost use Rattle.pit_text.specs.Left.{fields_left};
 ghost use Rattle.pit_text.specs.Stands.{StandsFor, FailsFirst};
-ghost use Rattle.pit_text.specs.Precedence.{wholes_of, preds_line, with_line, preds_in, pit_with_preds, precedence_line};
+ghost use Rattle.pit_text.specs.Precedence.{wholes_of, preds_line, with_preds_fact, preds_fact, pit_with_preds, precedence_line};
 
 use super::error::{Cause, TextError};
 use super::fields::Fields;
@@ -41,8 +41,8 @@ fn read_line<A: Allocator + Copy + Drop, B: Allocator + Drop>(
     fields: Fields<'_>,
 ) -> Result<(), Cause>
     ensures { MatchResult result
-        (λ _. (fact : ℕ × List ℕ) × (preds_in builder.old (fields_left fields.entry) ≡ Ok fact) × (builder.new ≡ with_line builder.old fact))
-        (λ cause. (cause ≡ Cause.NoMemory) ⊎ (preds_in builder.old (fields_left fields.entry) ≡ Err cause)) }
+        (λ _. (fact : ℕ × List ℕ) × (preds_fact builder.old (fields_left fields.entry) ≡ Ok fact) × (builder.new ≡ with_preds_fact builder.old fact))
+        (λ cause. (cause ≡ Cause.NoMemory) ⊎ (preds_fact builder.old (fields_left fields.entry) ≡ Err cause)) }
 {
     let block = preds(listed, fields)?;
     builder.set_preds(block, listed.as_slice())?;
@@ -64,15 +64,15 @@ fn preds<B: Allocator + Drop>(
     };
     let block = whole(first)?;
     let count = whole(second)?;
-    if !are(count, fields) {
+    if !is_count(count, fields) {
         return Err(Cause::CountWrong);
     }
     wholes(listed, fields)?;
     Ok(block)
 }
 
-/// Whether there are so many fields.
-fn are(count: u32, mut fields: Fields<'_>) -> bool
+/// Whether this is the number of the fields.
+fn is_count(count: u32, mut fields: Fields<'_>) -> bool
     ensures { result ≡ (count == length (fields_left fields.entry)) }
 {
     let mut left = count;

@@ -1,7 +1,7 @@
 ghost use Rattle.std.specs.Prelude.{◌≡◌, ◌∷◌, IfOk, OnOk, OnErr};
-ghost use Rattle.pit_model.specs.Refusals.{IsDue};
+ghost use Rattle.pit_num.specs.Refused.{IsRefusedBy};
 ghost use Rattle.pit_text.specs.Left.{fields_left};
-ghost use Rattle.pit_text.specs.Entries.{profit_line, coefficient_line, limit_line, kind_by, kind_field, bounds_by, entry_line, with_entry, entry_refusal, IsSmall};
+ghost use Rattle.pit_text.specs.SectionFacts.{profit_line, coefficient_line, limit_line, kind_by, kind_field, bounds_by, section_fact_of, with_section_fact, section_fact_refusal, IsSmall};
 
 use super::bound::{lower, upper};
 use super::error::Cause;
@@ -13,7 +13,7 @@ use std::alloc::Allocator;
 
 /// What a line of a section says of the pit.
 #[derive(Clone, Copy)]
-pub enum Entry {
+pub enum SectionFact {
     /// The profit of a block, in millionths.
     Profit(u32, i64),
     /// How much of a resource the mining of a block takes, in millionths.
@@ -34,8 +34,12 @@ pub(crate) enum LimitKind {
 }
 
 /// What a line says by itself, by its section, its first field and what follows it.
-pub(crate) fn entry_of(section: Section, first: &[u8], fields: Fields<'_>) -> Result<Entry, Cause>
-    ensures value { result ≡ entry_line section (first.now ∷ fields_left fields.entry) }
+pub(crate) fn section_fact_of(
+    section: Section,
+    first: &[u8],
+    fields: Fields<'_>,
+) -> Result<SectionFact, Cause>
+    ensures value { result ≡ section_fact_of section (first.now ∷ fields_left fields.entry) }
     ensures small { IfOk result IsSmall }
 {
     match section {
@@ -45,8 +49,8 @@ pub(crate) fn entry_of(section: Section, first: &[u8], fields: Fields<'_>) -> Re
     }
 }
 
-#[tactic(auto, unfolding(crate::specs::Entries::profit_line))]
-fn profit(first: &[u8], mut fields: Fields<'_>) -> Result<Entry, Cause>
+#[tactic(auto, unfolding(crate::specs::SectionFacts::profit_line))]
+fn profit(first: &[u8], mut fields: Fields<'_>) -> Result<SectionFact, Cause>
     ensures value { result ≡ profit_line (first.now ∷ fields_left fields.entry) }
     ensures small { IfOk result IsSmall }
 {
@@ -55,11 +59,11 @@ fn profit(first: &[u8], mut fields: Fields<'_>) -> Result<Entry, Cause>
     };
     let block = whole(first)?;
     let value = decimal(second)?;
-    Ok(Entry::Profit(block, value))
+    Ok(SectionFact::Profit(block, value))
 }
 
-#[tactic(auto, unfolding(crate::specs::Entries::coefficient_line))]
-fn coefficient(first: &[u8], mut fields: Fields<'_>) -> Result<Entry, Cause>
+#[tactic(auto, unfolding(crate::specs::SectionFacts::coefficient_line))]
+fn coefficient(first: &[u8], mut fields: Fields<'_>) -> Result<SectionFact, Cause>
     ensures value { result ≡ coefficient_line (first.now ∷ fields_left fields.entry) }
     ensures small { IfOk result IsSmall }
 {
@@ -69,11 +73,11 @@ fn coefficient(first: &[u8], mut fields: Fields<'_>) -> Result<Entry, Cause>
     let block = whole(first)?;
     let resource = whole(second)?;
     let value = decimal(third)?;
-    Ok(Entry::Coefficient(block, resource, value))
+    Ok(SectionFact::Coefficient(block, resource, value))
 }
 
-#[tactic(auto, unfolding(crate::specs::Entries::limit_line))]
-fn limit(first: &[u8], mut fields: Fields<'_>) -> Result<Entry, Cause>
+#[tactic(auto, unfolding(crate::specs::SectionFacts::limit_line))]
+fn limit(first: &[u8], mut fields: Fields<'_>) -> Result<SectionFact, Cause>
     ensures value { result ≡ limit_line (first.now ∷ fields_left fields.entry) }
     ensures small { IfOk result IsSmall }
 {
@@ -85,10 +89,10 @@ fn limit(first: &[u8], mut fields: Fields<'_>) -> Result<Entry, Cause>
     let period = whole(second)?;
     let kind = limit_kind(third)?;
     let (lo, hi) = bounds(kind, bound, fields)?;
-    Ok(Entry::Limit(resource, period, lo, hi))
+    Ok(SectionFact::Limit(resource, period, lo, hi))
 }
 
-#[tactic(auto, unfolding(crate::specs::Entries::kind_by, crate::specs::Entries::kind_field))]
+#[tactic(auto, unfolding(crate::specs::SectionFacts::kind_by, crate::specs::SectionFacts::kind_field))]
 fn limit_kind(field: &[u8]) -> Result<LimitKind, Cause>
     ensures { result ≡ kind_field field.now }
 {
@@ -107,7 +111,7 @@ fn limit_kind(field: &[u8]) -> Result<LimitKind, Cause>
 }
 
 /// The bounds behind a kind.
-#[tactic(auto, unfolding(crate::specs::Entries::bounds_by))]
+#[tactic(auto, unfolding(crate::specs::SectionFacts::bounds_by))]
 fn bounds(
     kind: LimitKind,
     bound: &[u8],
@@ -139,16 +143,18 @@ fn bounds(
 /// Adds to a pit what a line says.
 pub(crate) fn add<A: Allocator + Copy + Drop>(
     builder: &mut Builder<A>,
-    entry: Entry,
+    fact: SectionFact,
 ) -> Result<(), BuildError>
-    requires { IsSmall entry }
-    ensures ok { OnOk result (builder.new ≡ with_entry builder.old entry) }
+    requires { IsSmall fact }
+    ensures ok { OnOk result (builder.new ≡ with_section_fact builder.old fact) }
     ensures err { OnErr result (builder.new ≡ builder.old) }
-    ensures cause { IsDue result (entry_refusal builder.old entry) }
+    ensures cause { IsRefusedBy BuildError.NoMemory result (section_fact_refusal builder.old fact) }
 {
-    match entry {
-        Entry::Profit(block, value) => builder.set_profit(block, value),
-        Entry::Coefficient(block, resource, value) => builder.set_coef(block, resource, value),
-        Entry::Limit(resource, period, lo, hi) => builder.add_limit(resource, period, lo, hi),
+    match fact {
+        SectionFact::Profit(block, value) => builder.set_profit(block, value),
+        SectionFact::Coefficient(block, resource, value) => builder.set_coef(
+            block, resource, value,
+        ),
+        SectionFact::Limit(resource, period, lo, hi) => builder.add_limit(resource, period, lo, hi),
     }
 }

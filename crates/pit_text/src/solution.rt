@@ -1,11 +1,13 @@
 ghost use Rattle.std.specs.Prelude.{◌≡◌, ℕ, ◌<◌, ◌^◌, ◌∷◌, ◌++◌, [], List, Option, None, Ok, Err, MatchResult, IfOk, IfSome, ◌⊎◌, length, slice_index_or};
+ghost use Rattle.pit_num.specs.Fitting.{IsSchedule};
 ghost use Rattle.pit_text.specs.Cutting.{cut_of};
 ghost use Rattle.pit_text.specs.Left.{fields_left};
 ghost use Rattle.pit_text.specs.Stands.{StandsFor, FailsFirst};
-ghost use Rattle.pit_text.specs.Solution.{in_range, destined, mined_of, solution_line, AreSlots, period_in, scheduled, IsSolution};
+ghost use Rattle.pit_text.specs.Solution.{pair_in_range, mined_pair, scheduled_pair, solution_line, AreSlots, period_in, schedule_of};
 
-use super::error::{Cause, Key, TextError};
+use super::error::{Cause, TextError};
 use super::fields::Fields;
+use super::key::Key;
 use super::lines::Lines;
 use super::number::{decimal, whole};
 use pit_model::{BuildError, Instance};
@@ -20,12 +22,12 @@ pub fn read_solution<A: Allocator + Copy + Drop>(
 ) -> Result<Vec<(u32, u32), A>, TextError>
     ensures result { let judge = solution_line instance.now.blocks instance.now.periods in MatchResult result
         (λ solution. (facts : List (Option (ℕ × ℕ))) × StandsFor judge (cut_of text.now) facts
-        × (solution.items ≡ scheduled instance.now.blocks (period_in facts)))
+        × (solution.items ≡ schedule_of instance.now.blocks (period_in facts)))
         (λ fault. (fault.cause ≡ Cause.NoMemory) ⊎ FailsFirst judge (cut_of text.now) fault.line fault.cause) }
-    ensures fits { IfOk result (λ solution. IsSolution instance.now.blocks instance.now.periods solution.items) }
+    ensures fits { IfOk result (λ solution. IsSchedule instance.now.blocks instance.now.periods solution.items) }
 {
     let slots = read_slots(alloc, text, instance.blocks(), instance.periods())?;
-    match rising(alloc, &slots) {
+    match schedule_of(alloc, &slots) {
         Ok(solution) => Ok(solution),
         Err(_) => Err(TextError {
             line: 1,
@@ -34,9 +36,12 @@ pub fn read_solution<A: Allocator + Copy + Drop>(
     }
 }
 
-fn rising<A: Allocator>(alloc: A, slots: &[Option<u32>]) -> Result<Vec<(u32, u32), A>, NoMemory>
+fn schedule_of<A: Allocator>(
+    alloc: A,
+    slots: &[Option<u32>],
+) -> Result<Vec<(u32, u32), A>, NoMemory>
     requires { length slots.now < 2 ^ 32 }
-    ensures { IfOk result (λ solution. solution.items ≡ scheduled (length slots.now) (λ b. slice_index_or slots.now b None)) }
+    ensures { IfOk result (λ solution. solution.items ≡ schedule_of (length slots.now) (λ b. slice_index_or slots.now b None)) }
 {
     let mut solution = Vec::new(alloc);
     for (block, slot) in slots.iter().enumerate() {
@@ -87,7 +92,7 @@ fn read_line<A: Allocator + Drop>(
         (λ _. (fact : Option (ℕ × ℕ)) × (solution_line blocks periods facts (fields_left fields.entry) ≡ Ok fact) × AreSlots blocks (facts ++ fact ∷ []) slots.new.items)
         (λ cause. solution_line blocks periods facts (fields_left fields.entry) ≡ Err cause) }
 {
-    let (block, period) = match mined(fields, blocks, periods) {
+    let (block, period) = match scheduled_pair(fields, blocks, periods) {
         Ok(Some(pair)) => pair,
         Ok(None) => return Ok(()),
         Err(cause) => return Err(cause),
@@ -100,9 +105,13 @@ fn read_line<A: Allocator + Drop>(
 }
 
 /// The block and the period that a line schedules, both in range, if it does.
-#[tactic(auto, unfolding(crate::specs::Solution::mined_of))]
-fn mined(mut fields: Fields<'_>, blocks: u32, periods: u32) -> Result<Option<(u32, u32)>, Cause>
-    ensures value { result ≡ mined_of blocks periods (fields_left fields.entry) }
+#[tactic(auto, unfolding(crate::specs::Solution::scheduled_pair))]
+fn scheduled_pair(
+    mut fields: Fields<'_>,
+    blocks: u32,
+    periods: u32,
+) -> Result<Option<(u32, u32)>, Cause>
+    ensures value { result ≡ scheduled_pair blocks periods (fields_left fields.entry) }
     ensures in_range { IfOk result (λ fact. IfSome fact (λ pair. (pair.0 < blocks) × (pair.1 < periods))) }
 {
     let (Some(first), Some(second)) = (fields.next(), fields.next()) else {
@@ -111,7 +120,7 @@ fn mined(mut fields: Fields<'_>, blocks: u32, periods: u32) -> Result<Option<(u3
     let Some(third) = fields.next() else {
         let block = whole(first)?;
         let period = whole(second)?;
-        let pair = in_range(blocks, periods, block, period)?;
+        let pair = pair_in_range(blocks, periods, block, period)?;
         return Ok(Some(pair));
     };
     let (Some(fourth), None) = (fields.next(), fields.next()) else {
@@ -121,12 +130,12 @@ fn mined(mut fields: Fields<'_>, blocks: u32, periods: u32) -> Result<Option<(u3
     let destination = whole(second)?;
     let period = whole(third)?;
     let part = decimal(fourth)?;
-    let pair = in_range(blocks, periods, block, period)?;
-    destined(destination, part, pair)
+    let pair = pair_in_range(blocks, periods, block, period)?;
+    mined_pair(destination, part, pair)
 }
 
-fn in_range(blocks: u32, periods: u32, block: u32, period: u32) -> Result<(u32, u32), Cause>
-    ensures value { result ≡ in_range blocks periods block period }
+fn pair_in_range(blocks: u32, periods: u32, block: u32, period: u32) -> Result<(u32, u32), Cause>
+    ensures value { result ≡ pair_in_range blocks periods block period }
     ensures in_range { IfOk result (λ pair. (pair.0 < blocks) × (pair.1 < periods)) }
 {
     if block >= blocks {
@@ -138,8 +147,8 @@ fn in_range(blocks: u32, periods: u32, block: u32, period: u32) -> Result<(u32, 
     Ok((block, period))
 }
 
-fn destined(destination: u32, part: i64, pair: (u32, u32)) -> Result<Option<(u32, u32)>, Cause>
-    ensures value { result ≡ destined destination part pair }
+fn mined_pair(destination: u32, part: i64, pair: (u32, u32)) -> Result<Option<(u32, u32)>, Cause>
+    ensures value { result ≡ mined_pair destination part pair }
     ensures same { IfOk result (λ fact. IfSome fact (λ kept. kept ≡ pair)) }
 {
     if destination != 0 {

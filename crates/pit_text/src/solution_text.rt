@@ -1,6 +1,6 @@
 ghost use Rattle.std.specs.Prelude.{◌≡◌, ◌+◌, ◌<◌, ◌≤◌, ◌++◌, None, IsTrue, OnErr, IfOk, length, take, drop, slice_index_or};
 ghost use Rattle.pit_num.specs.Printed.{AppendsFront, WritesIfAny};
-ghost use Rattle.pit_text.specs.Solution.{scheduled};
+ghost use Rattle.pit_text.specs.Solution.{schedule_of};
 ghost use Rattle.pit_text.specs.SolutionText.{line_text, slot_text, solution_text, Gathers};
 
 use itoa::write_digits;
@@ -14,7 +14,7 @@ const CHUNK: usize = 8192;
 
 /// Writes a schedule as a solution: for each block that has a period, by rising block, a line `b t`. Takes no memory.
 pub fn write_solution<W: Sink>(w: &mut W, periods: &[Option<u32>]) -> Result<(), WriteFault>
-    ensures { let text = solution_text (scheduled (length periods.now) (λ b. slice_index_or periods.now b None)) in
+    ensures { let text = solution_text (schedule_of (length periods.now) (λ b. slice_index_or periods.now b None)) in
         WritesIfAny W.contents W.has_failed w.old w.new text result }
 {
     let mut chunk = [0; CHUNK];
@@ -28,7 +28,7 @@ fn write_lines<W: Sink>(
     periods: &[Option<u32>],
 ) -> Result<(), WriteFault>
     requires { LINE_MAX ≤ length chunk.old }
-    ensures { let text = solution_text (scheduled (length periods.now) (λ b. slice_index_or periods.now b None)) in
+    ensures { let text = solution_text (schedule_of (length periods.now) (λ b. slice_index_or periods.now b None)) in
         WritesIfAny W.contents W.has_failed w.old w.new text result }
 {
     let mut held = 0;

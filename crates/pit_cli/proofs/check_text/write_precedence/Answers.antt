@@ -1,5 +1,5 @@
 use Rattle.std.specs.Prelude.{codes}
-use Rattle.pit_num.proofs.Written.{appends_more, map_ok}
+use Rattle.pit_num.proofs.CallerLemmas.{appends_more, map_ok}
 use Rattle.pit_cli.specs.CheckText.{pair_text}
 use Rattle.pit_cli.proofs.check_text.write_precedence.Goals as goal
 

@@ -1,6 +1,6 @@
 use Rattle.std.proofs.Common.{ℕ, List, sym, subst}
 use Rattle.std.specs.Io.KnownBytes.{Appends}
-use Rattle.pit_num.proofs.Written.{appends_nothing, appends_more}
+use Rattle.pit_num.proofs.CallerLemmas.{appends_nothing, appends_more}
 use Rattle.pit_cli.proofs.Shorts.{shorts_none, shorts_more}
 use Rattle.pit_cli.proofs.check_text.write_shorts.Goals as goal
 

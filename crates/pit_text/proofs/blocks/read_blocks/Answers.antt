@@ -2,9 +2,9 @@ use Rattle.std.proofs.Common.{◌++◌, [], Err, refl, ap, sym, ◌∙◌}
 use Rattle.pit_model.specs.Pit.{Pit}
 use Rattle.pit_text.specs.Cutting.{cut_of}
 use Rattle.pit_text.specs.Left.{cut_seen, fields_left, lines_left}
-use Rattle.pit_text.specs.Blocks.{block_line, with_line}
+use Rattle.pit_text.specs.Blocks.{block_line, with_place_fact}
 use Rattle.pit_text.proofs.ModelLines.{either_map}
-use Rattle.pit_text.proofs.Pits.{places_none, places_more, place_judged}
+use Rattle.pit_text.proofs.Pits.{places_none, places_more, block_line-is}
 use Rattle.pit_text.proofs.Reading.{read_more}
 use Rattle.pit_text.proofs.blocks.read_blocks.Goals as goal
 
@@ -18,8 +18,8 @@ loop-line-preserved g c =
     let given : Pit = c.args.builder in (
       _,
       read_more (block_line given) (cut_of c.args.text.now) (lines_left c.loop-line.lines) (lines_left c.next.new.self) (cut_seen c.in-Some.line) was.0 read.0 was.1 c.in-Some.ensures.steps.0
-          (place_judged given c.loop-line.builder was.0 (fields_left c.in-Some.line.fields) _ was.2 read.1),
-      read.2 ∙ ap (λ (p : Pit). with_line p read.0) was.2 ∙ sym (places_more given was.0 read.0),
+          (block_line-is given c.loop-line.builder was.0 (fields_left c.in-Some.line.fields) _ was.2 read.1),
+      read.2 ∙ ap (λ (p : Pit). with_place_fact p read.0) was.2 ∙ sym (places_more given was.0 read.0),
     )
 
 pub returns-in-Err : goal.returns-in-Err
@@ -34,5 +34,5 @@ returns-in-Err g c =
       cut = was.1.cut ∙ ap (λ ls. was.1.done ++ ls) c.in-Some.ensures.steps.0;
       stands = was.1.stands;
       number = refl;
-      fails = place_judged given c.loop-line.builder was.0 (fields_left c.in-Some.line.fields) (Err c.in-Err.cause) was.2 wrong;
+      fails = block_line-is given c.loop-line.builder was.0 (fields_left c.in-Some.line.fields) (Err c.in-Err.cause) was.2 wrong;
     }) c.in-Err.ensures

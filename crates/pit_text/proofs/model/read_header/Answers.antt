@@ -1,7 +1,7 @@
 use Rattle.std.proofs.Common.{◌≡◌, None, Some, inr, ap, sym, ◌∙◌, is_some}
 use Rattle.pit_text.specs.Left.{cut_seen, lines_left}
-use Rattle.pit_text.specs.Model.{missing, model_line}
-use Rattle.pit_text.proofs.Drafts.{missing-draft, header-whole}
+use Rattle.pit_text.specs.Model.{missing_key, model_line}
+use Rattle.pit_text.proofs.Drafts.{missing_key-draft, header-whole}
 use Rattle.pit_text.proofs.Reading.{read_all, read_left}
 use Rattle.pit_text.proofs.Headers.{end_is, header_ends, header_goes_on}
 use Rattle.pit_text.proofs.model.read_header.Goals as goal
@@ -25,20 +25,20 @@ loop-line-preserved c =
       facts = on.1;
     }
 
-pub returns-in-Some-missing : goal.returns-in-Some-missing
-returns-in-Some-missing c =
+pub returns-in-Some-missing_key : goal.returns-in-Some-missing_key
+returns-in-Some-missing_key c =
     let was = c.loop-line.invariant.facts in
     inr (record {
       facts = was.0;
       stands = read_all model_line (lines_left c.args.lines.now) (lines_left c.loop-line.lines) was.0 was.1 c.in_default.ensures.steps.0.0;
       number = c.end_line.ensures ∙ c.in_default.ensures.steps.1 ∙ c.loop-line.invariant.end;
-      wanting = end_is was.0 (Some c.in-Some-missing.key) (missing-draft was.0 c.loop-line.draft was.2 ∙ sym c.missing.ensures ∙ c.in-Some-missing.is);
+      wanting = end_is was.0 (Some c.in-Some-missing_key.key) (missing_key-draft was.0 c.loop-line.draft was.2 ∙ sym c.missing_key.ensures ∙ c.in-Some-missing_key.is);
     })
 
 pub returns-in-None : goal.returns-in-None
 returns-in-None c =
     let was = c.loop-line.invariant.facts in
-    let whole : missing was.0 ≡ None = missing-draft was.0 c.loop-line.draft was.2 ∙ sym c.missing.ensures ∙ c.in-None.is in (
+    let whole : missing_key was.0 ≡ None = missing_key-draft was.0 c.loop-line.draft was.2 ∙ sym c.missing_key.ensures ∙ c.in-None.is in (
       was.0,
       read_left model_line (lines_left c.args.lines.now) (lines_left c.loop-line.lines) (lines_left c.next.new.self) was.0 (c.in_default.ensures.steps.0.0 ∙ sym c.in_default.ensures.steps.0.1) was.1,
       record { keeps = was.2; whole = whole; none = was.3 },

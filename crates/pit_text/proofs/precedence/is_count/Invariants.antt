@@ -1,6 +1,6 @@
 use Rattle.std.proofs.Common.{◌≡◌, nat_eq, length}
 use Rattle.pit_text.specs.Left.{fields_left}
-use Rattle.pit_text.proofs.precedence.are.Given as goal
+use Rattle.pit_text.proofs.precedence.is_count.Given as goal
 
 abbrev pub invariant-loop-left : goal.invariant-loop-left
 invariant-loop-left l = nat_eq l.count (length (fields_left l.fn.fields)) ≡ nat_eq l.left (length (fields_left l.fields))

@@ -7,12 +7,12 @@ use Rattle.pit_text.proofs.solution.read_line.Goals as goal
 pub returns-in-Ok-None : goal.returns-in-Ok-None
 returns-in-Ok-None g c = λ facts are. (
   None,
-  line_none c.args.blocks c.args.periods facts (fields_left c.args.fields) (sym c.mined.ensures.value ∙ c.in-Ok-None.is ∙ ap (λ o. Ok o) c.in-Ok-None.field-0-is),
+  line_none c.args.blocks c.args.periods facts (fields_left c.args.fields) (sym c.scheduled_pair.ensures.value ∙ c.in-Ok-None.is ∙ ap (λ o. Ok o) c.in-Ok-None.field-0-is),
   slots_same c.args.blocks facts c.args.slots.now.items are,
 )
 
 pub returns-in-Err : goal.returns-in-Err
-returns-in-Err g c = λ facts are. line_bad c.args.blocks c.args.periods facts (fields_left c.args.fields) c.in-Err.cause (sym c.mined.ensures.value ∙ c.in-Err.is)
+returns-in-Err g c = λ facts are. line_bad c.args.blocks c.args.periods facts (fields_left c.args.fields) c.in-Err.cause (sym c.scheduled_pair.ensures.value ∙ c.in-Err.is)
 
 pub returns-then-is_some : goal.returns-then-is_some
 returns-then-is_some g c = λ facts are.
@@ -20,7 +20,7 @@ returns-then-is_some g c = λ facts are.
     let within : b < c.args.blocks = (some_of c.in-Ok-Some.field-0 c.in-Ok-Some.pair (λ pair. (pair.0 < c.args.blocks) × (pair.1 < c.args.periods)) c.in-Ok-Some.field-0-is c.in-Ok-Some.ensures.in_range).0 in
     let period : c.index.result.now ≡ period_in facts b = slot_is c.args.blocks facts c.args.slots.now.items b c.index.result.now are within c.index.ensures in
     let some : is_some (period_in facts b) ≡ true = ap (λ (o : Option ℕ). is_some o) (sym period) ∙ sym c.if-is_some.ensures in
-    line_again c.args.blocks c.args.periods facts (fields_left c.args.fields) b c.in-Ok-Some.pair.1 (sym c.mined.ensures.value ∙ c.in-Ok-Some.is ∙ ap (λ o. Ok o) c.in-Ok-Some.field-0-is) some
+    line_again c.args.blocks c.args.periods facts (fields_left c.args.fields) b c.in-Ok-Some.pair.1 (sym c.scheduled_pair.ensures.value ∙ c.in-Ok-Some.is ∙ ap (λ o. Ok o) c.in-Ok-Some.field-0-is) some
 
 pub returns : goal.returns
 returns g c = λ facts are.
@@ -31,6 +31,6 @@ returns g c = λ facts are.
     let none : period_in facts b ≡ None = sym period ∙ is_none c.index.result.now (sym c.if-is_some.ensures) in
     let empty : slice_index_or c.args.slots.now.items b None ≡ None = are.each b within ∙ none in (
       Some (b, t),
-      line_new c.args.blocks c.args.periods facts (fields_left c.args.fields) b t (sym c.mined.ensures.value ∙ c.in-Ok-Some.is ∙ ap (λ o. Ok o) c.in-Ok-Some.field-0-is) none,
+      line_new c.args.blocks c.args.periods facts (fields_left c.args.fields) b t (sym c.scheduled_pair.ensures.value ∙ c.in-Ok-Some.is ∙ ap (λ o. Ok o) c.in-Ok-Some.field-0-is) none,
       slots_more c.args.blocks facts c.args.slots.now.items b t are within empty,
     )

@@ -1,19 +1,19 @@
 use Rattle.std.proofs.Common.{◌≡◌, ◌+◌, ◌++◌, ◌∷◌, [], ℕ, List, Option, None, ap, sym, ◌∙◌, slice_index_or}
 use Rattle.std.specs.Option.{option_to_list, option_map}
 use Rattle.std.proofs.lemmas.List.{append-nil}
-use Rattle.pit_text.specs.Solution.{scheduled, paired}
-use Rattle.pit_text.proofs.Standing.{scheduled_none, scheduled_more}
-use Rattle.pit_text.proofs.solution.rising.Goals as goal
-use Rattle.pit_text.proofs.solution.rising.Goals.{in-Some+in_ok-push, in_default}
+use Rattle.pit_text.specs.Solution.{schedule_of, pair_of}
+use Rattle.pit_text.proofs.Standing.{schedule_of-none, schedule_of-more}
+use Rattle.pit_text.proofs.solution.schedule_of.Goals as goal
+use Rattle.pit_text.proofs.solution.schedule_of.Goals.{in-Some+in_ok-push, in_default}
 
 pub loop-block-init : goal.loop-block-init
-loop-block-init g c = c.new-solution.ensures.items ∙ sym (scheduled_none (λ b. slice_index_or c.args.slots.now b None))
+loop-block-init g c = c.new-solution.ensures.items ∙ sym (schedule_of-none (λ b. slice_index_or c.args.slots.now b None))
 
 pub loop-block-preserved : goal.loop-block-preserved
 loop-block-preserved g c =
-    let more : scheduled (c.loop-block.block + 1) (λ b. slice_index_or c.args.slots.now b None) ≡ scheduled c.loop-block.block (λ b. slice_index_or c.args.slots.now b None) ++ option_to_list (paired (λ b. slice_index_or c.args.slots.now b None) c.loop-block.block) =
-    scheduled_more c.loop-block.block (λ b. slice_index_or c.args.slots.now b None) in
-    let with_slot : Option ℕ → List (ℕ × ℕ) = λ o. scheduled c.loop-block.block (λ b. slice_index_or c.args.slots.now b None) ++ option_to_list (option_map (λ t. (c.loop-block.block, t)) o) in
+    let more : schedule_of (c.loop-block.block + 1) (λ b. slice_index_or c.args.slots.now b None) ≡ schedule_of c.loop-block.block (λ b. slice_index_or c.args.slots.now b None) ++ option_to_list (pair_of (λ b. slice_index_or c.args.slots.now b None) c.loop-block.block) =
+    schedule_of-more c.loop-block.block (λ b. slice_index_or c.args.slots.now b None) in
+    let with_slot : Option ℕ → List (ℕ × ℕ) = λ o. schedule_of c.loop-block.block (λ b. slice_index_or c.args.slots.now b None) ++ option_to_list (option_map (λ t. (c.loop-block.block, t)) o) in
     elim c.match-slot.branch [
       | in-Some+in_ok-push w ↦
           ap (λ v. v.items) w.solution-is
@@ -23,6 +23,6 @@ loop-block-preserved g c =
       | in_default w ↦
           ap (λ v. v.items) w.solution-is
           ∙ c.loop-block.invariant
-          ∙ sym (append-nil (scheduled c.loop-block.block (λ b. slice_index_or c.args.slots.now b None)))
+          ∙ sym (append-nil (schedule_of c.loop-block.block (λ b. slice_index_or c.args.slots.now b None)))
           ∙ ap with_slot (sym w.in_default.is) ∙ sym more
     ]
