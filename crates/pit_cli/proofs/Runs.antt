@@ -7,13 +7,13 @@ use Rattle.pit_plan.specs.Schedule.{Commit, held_period, limit_of, value_of}
 use Rattle.pit_plan.specs.Shortfalls.{shortfalls_of}
 use Rattle.pit_plan.specs.declared.breach.Breach.{Breach}
 use Rattle.pit_plan.specs.declared.short.Short.{Short}
-use Rattle.pit_plan.proofs.OneBreach.{one_first}
+use Rattle.pit_plan.proofs.CallerLemmas.{one_first}
 use Rattle.pit_text.specs.Cutting.{cut_of, end_line}
 use Rattle.pit_text.specs.Stands.{StandsFor, FailsFirst, StandsWhole, FailsWhole}
 use Rattle.pit_text.specs.Model.{model_line, model_end, pit_of}
 use Rattle.pit_text.specs.Precedence.{precedence_line, pit_with_preds}
-use Rattle.pit_text.specs.Solution.{solution_line, period_in, scheduled}
-use Rattle.pit_text.proofs.OneResult.{one_result, one_whole_result}
+use Rattle.pit_text.specs.Solution.{solution_line, period_in, schedule_of}
+use Rattle.pit_text.proofs.CallerLemmas.{one_result, one_whole_result}
 use Rattle.pit_cli.specs.declared.input.Input.TheVariants.{Model, Precedence, Solution}
 use Rattle.pit_cli.specs.declared.status.Status.{Status}
 use Rattle.pit_cli.specs.declared.status.Status.TheVariants.{Fine}
@@ -47,7 +47,7 @@ order-determined precedence given told = input-determined Precedence precedence 
 solution_text : (pit : Pit) (bytes : List ℕ) → IsOneText (IsSolutionOf pit bytes) (IsBadSolution pit bytes)
 solution_text pit bytes =
     one_text (StandsFor (solution_line pit.blocks pit.periods) (cut_of bytes)) (FailsFirst (solution_line pit.blocks pit.periods) (cut_of bytes))
-    (λ facts. scheduled pit.blocks (period_in facts)) (one_result (solution_line pit.blocks pit.periods) (cut_of bytes))
+    (λ facts. schedule_of pit.blocks (period_in facts)) (one_result (solution_line pit.blocks pit.periods) (cut_of bytes))
 
 -- ---- `value`
 

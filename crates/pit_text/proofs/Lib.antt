@@ -18,3 +18,4 @@ pub mod Standing
 pub mod Solutions
 pub mod Headers
 pub mod SolutionTexts
+pub mod CallerLemmas
