@@ -1,3 +1,4 @@
+pub mod CallerLemmas
 pub mod Digits
 pub mod Cuts
 pub mod Nearest
