@@ -3,9 +3,9 @@ use Rattle.std.proofs.Common.{◌≢◌, ℕ, ◌+◌, ◌<◌, List, [], ◌∷
 use Rattle.std.specs.List.{AllPairs, AllByRecursion}
 use Rattle.std.proofs.lemmas.List.Elements.{All-from_recursion}
 use Rattle.std.proofs.lemmas.List.Kept.{AllPairs-cons}
+use Rattle.pit_num.specs.Fitting.{Fits}
 use Rattle.pit_model.specs.Pit.{Pit}
 use Rattle.pit_text.specs.Solution.{RisesFrom}
-use Rattle.pit_plan.specs.Standing.{Fits}
 use Rattle.pit_cli.specs.Outcome.{commit_of}
 
 blocks_in_range : (least blocks periods : ℕ) (schedule : List (ℕ × ℕ)) → RisesFrom least blocks periods schedule → AllByRecursion (λ w. w.0 < blocks) (commit_of schedule)
@@ -29,7 +29,7 @@ once least blocks periods (p ∷ more) rises =
     (All-from_recursion (λ w. p.0 ≢ w.0) (commit_of more) (below (p.0 + 1) blocks periods more p.0 (omega arith) rises.3))
     (once (p.0 + 1) blocks periods more rises.3)
 
-pub rising_fits : (pit : Pit) (schedule : List (ℕ × ℕ)) → RisesFrom 0 pit.blocks pit.periods schedule → Fits pit (commit_of schedule)
+pub rising_fits : (pit : Pit) (schedule : List (ℕ × ℕ)) → RisesFrom 0 pit.blocks pit.periods schedule → Fits pit.blocks pit.periods (commit_of schedule)
 rising_fits pit schedule rises = record {
   blocks = All-from_recursion (λ w. w.0 < pit.blocks) (commit_of schedule) (blocks_in_range 0 pit.blocks pit.periods schedule rises);
   periods = All-from_recursion (λ w. IfSome w.1 (λ t. t < pit.periods)) (commit_of schedule) (periods_in_range 0 pit.blocks pit.periods schedule rises);

@@ -13,3 +13,4 @@ pub mod OneBreach
 pub mod Least
 pub mod Touched
 pub mod SomeBreach
+pub mod CallerLemmas

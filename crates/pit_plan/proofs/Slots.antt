@@ -6,9 +6,10 @@ use Rattle.std.proofs.lemmas.List.{take_more, get_or-set_same, get_or-set_other,
 use Rattle.std.proofs.lemmas.List.Sums.{fold_push}
 use Rattle.std.proofs.lemmas.List.Elements.{recursion_from_All}
 use Rattle.std.proofs.lemmas.Bool.Decides.{eqb_tells}
+use Rattle.pit_num.specs.Fitting.{Fits}
 use Rattle.pit_model.specs.Pit.{Pit}
 use Rattle.pit_plan.specs.Schedule.{Commit, write_of, held_period, last_number}
-use Rattle.pit_plan.specs.Standing.{Standing, StandsFor, Fits, Adds}
+use Rattle.pit_plan.specs.Standing.{Standing, StandsFor, Adds}
 use Rattle.pit_plan.specs.InsidePlan.{placed}
 use Rattle.pit_plan.proofs.Commits.{held_period-nil, held_period-push, last_number-nil, last_number-push}
 
@@ -72,7 +73,7 @@ placed-named value xs (w ∷ ws) b d p once below some =
     ]
 
 -- the plan after the writes stands for what it stood for and then the writes
-pub placed-adds : (old : Standing) (writes : Commit) → length old.periods ≡ old.pit.blocks → length old.versions ≡ old.pit.blocks → Fits old.pit writes
+pub placed-adds : (old : Standing) (writes : Commit) → length old.periods ≡ old.pit.blocks → length old.versions ≡ old.pit.blocks → Fits old.pit.blocks old.pit.periods writes
     → Adds old writes (record { pit = old.pit; commits = old.commits + 1; periods = placed (λ w. w.1) old.periods writes; versions = placed (λ w. old.commits + 1) old.versions writes })
 placed-adds old writes periods versions fits = record {
   pit = refl;

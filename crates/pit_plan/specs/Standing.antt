@@ -1,5 +1,5 @@
 -- What contracts see of a plan.
-use Rattle.std.specs.Prelude.{◌≡◌, ◌≢◌, ℕ, ◌<◌, List, [], ◌∷◌, ◌++◌, length, Option, slice_index_or, All, AllPairs, IfSome}
+use Rattle.std.specs.Prelude.{◌≡◌, ℕ, ◌<◌, List, [], ◌∷◌, ◌++◌, length, Option, slice_index_or}
 use Rattle.pit_model.specs.Pit.{Pit}
 use Rattle.pit_plan.specs.Schedule.{Commit, by_block, held_period, last_number}
 
@@ -21,12 +21,6 @@ pub record StandsFor (plan : Standing) (commits : List Commit) : Type 0 where
   pub count : plan.commits ≡ length commits
   pub period : (b : ℕ) → b < plan.pit.blocks → period_of plan b ≡ held_period commits b
   pub version : (b : ℕ) → b < plan.pit.blocks → version_of plan b ≡ last_number commits b
-
--- writes that name blocks and periods of the pit, and no block twice
-pub record Fits (pit : Pit) (writes : Commit) : Type 0 where
-  pub blocks : All (λ w. w.0 < pit.blocks) writes
-  pub periods : All (λ w. IfSome w.1 (λ t. t < pit.periods)) writes
-  pub once : AllPairs (λ v w. v.0 ≢ w.0) writes
 
 -- the writes were added: whatever the plan stood for, it stands for that and then the writes
 pub record Adds (old : Standing) (writes : Commit) (new : Standing) : Type 0 where

@@ -2,9 +2,9 @@
 ghost use Rattle.std.specs.Prelude.{◌≡◌, ◌≢◌, ℕ, ◌+◌, ◌*◌, ◌<◌, ◌+ℤ◌, pos, length, take, slice_index_or, FitsSigned, IfNone, IfOk, IfSome, OnOk, All, AllPairs};
 ghost use Rattle.std.specs.Int.{w128};
 ghost use Rattle.indexmap.specs.IndexMap.{index_map_len};
+ghost use Rattle.pit_num.specs.Fitting.{Fits};
 ghost use Rattle.pit_model.specs.Pit.{upper_of};
 ghost use Rattle.pit_plan.specs.Schedule.{by_block, coef_of};
-ghost use Rattle.pit_plan.specs.Standing.{Fits};
 ghost use Rattle.pit_plan.specs.Breaches.{IsFirstBreach, IsGood};
 ghost use Rattle.pit_plan.specs.Totals.{IsTally, MovesIn, moved_by};
 ghost use Rattle.pit_plan.specs.Touched.{over, load_over, lesser_of, IsLeastPair, IsOut, IsOutNear, IsOverAt, IsLeastOver, IsNamed, AreMoved};
@@ -51,7 +51,7 @@ pub(crate) fn first_breach_after<A: Allocator + Copy + Drop>(
     writes: &[(u32, Option<u32>)],
 ) -> Result<Option<Breach>, NoMemory>
     requires tally { IsTally pit.now tally.now }
-    requires fits { Fits pit.now writes.now }
+    requires fits { Fits pit.now.blocks pit.now.periods writes.now }
     ensures { IfOk result (λ breach. IsGood pit.now (by_block tally.now.periods) (upper_of pit.now)
         → IsFirstBreach pit.now (over (by_block tally.now.periods) writes.now) (upper_of pit.now) breach) }
 {
@@ -157,7 +157,7 @@ fn moved_cells<A: Allocator + Copy + Drop>(
     writes: &[(u32, Option<u32>)],
 ) -> Result<Cells<A>, NoMemory>
     requires tally { IsTally pit.now tally.now }
-    requires fits { Fits pit.now writes.now }
+    requires fits { Fits pit.now.blocks pit.now.periods writes.now }
     ensures { IfOk result (λ cells. AreMoved pit.now tally.now writes.now cells.entries) }
 {
     let mut cells = IndexMap::new(alloc);
@@ -176,7 +176,7 @@ fn move_block<A: Allocator + Copy + Drop>(
     cells: &mut Cells<A>,
 ) -> Result<(), NoMemory>
     requires tally { IsTally pit.now tally.now }
-    requires fits { Fits pit.now writes.now }
+    requires fits { Fits pit.now.blocks pit.now.periods writes.now }
     requires within { k < length writes.now }
     requires cells { AreMoved pit.now tally.now (take k writes.now) cells.old.entries }
     ensures { OnOk result (AreMoved pit.now tally.now (take (k + 1) writes.now) cells.new.entries) }

@@ -17,5 +17,5 @@ mod tests;
 
 pub use breach::Breach;
 pub use laws::{commits_follow, one_breach};
-pub use plan::Plan;
+pub use plan::{COMMITS_MAX, Plan};
 pub use short::Short;

@@ -1,6 +1,7 @@
 ghost use Rattle.std.specs.Prelude.{◌≡◌, ◌<◌, ◌++◌, ◌∷◌, [], List, IfOk, IfErr, OnOk, OnErr, IsOk, length, replicate, All};
+ghost use Rattle.pit_num.specs.Fitting.{Fits};
 ghost use Rattle.pit_plan.specs.Schedule.{Commit, held_period, load_of, value_of};
-ghost use Rattle.pit_plan.specs.Standing.{StandsFor, period_of, version_of, Fits, Adds};
+ghost use Rattle.pit_plan.specs.Standing.{StandsFor, period_of, version_of, Adds};
 ghost use Rattle.pit_plan.specs.InsidePlan.{placed};
 ghost use Rattle.pit_plan.specs.Totals.{IsTally};
 ghost use Rattle.pit_plan.specs.Breaches.{IsBreachOf, IsGoodNow};
@@ -15,6 +16,9 @@ use pit_model::Instance;
 use pit_num::NoMemory;
 use std::alloc::Allocator;
 use std::marker::Model;
+
+/// The greatest number of commits of a plan.
+pub const COMMITS_MAX: u32 = 4_294_967_295;
 
 /// Which block of a pit is mined in which period, as a list of commits leaves it.
 ///
@@ -124,7 +128,7 @@ impl<A: Allocator + Copy + Drop> Plan<A> {
     /// The first breach that the plan would have after the writes. Takes the memory of the writes and of the
     /// loads that they move.
     pub fn judge(&self, writes: &[(u32, Option<u32>)]) -> Result<Option<Breach>, NoMemory>
-        requires fits { Fits self.now.pit writes.now }
+        requires fits { Fits self.now.pit.blocks self.now.pit.periods writes.now }
         requires good { IsGoodNow self.now }
         ensures { IfOk result (λ breach. (commits : List Commit) → StandsFor self.now commits
             → IsBreachOf self.now.pit (commits ++ writes.now ∷ []) breach) }
@@ -134,8 +138,8 @@ impl<A: Allocator + Copy + Drop> Plan<A> {
 
     /// Adds the writes as one more commit. Takes no memory, and is never refused.
     pub fn apply(&mut self, writes: &[(u32, Option<u32>)]) -> Result<(), NoMemory>
-        requires fits { Fits self.old.pit writes.now }
-        requires room { self.old.commits < 4294967295 }
+        requires fits { Fits self.old.pit.blocks self.old.pit.periods writes.now }
+        requires room { self.old.commits < COMMITS_MAX }
         ensures ok { OnOk result (Adds self.old writes.now self.new) }
         ensures err { OnErr result (self.new ≡ self.old) }
         ensures done { IsOk result }

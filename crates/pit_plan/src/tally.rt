@@ -1,9 +1,9 @@
 //! A schedule with its loads and its value, which are moved by differences.
 ghost use Rattle.std.specs.Prelude.{◌≡◌, ℕ, ◌+◌, ◌*◌, ◌<◌, ◌^◌, ◌+ℤ◌, ◌-ℤ◌, None, length, replicate, slice_index_or, slice_set, pos, FitsSigned, IfOk, IfSome};
 ghost use Rattle.std.specs.Int.{w128};
+ghost use Rattle.pit_num.specs.Fitting.{Fits};
 ghost use Rattle.pit_num.specs.Within.{IsWithin};
 ghost use Rattle.pit_plan.specs.Schedule.{by_block, coef_of};
-ghost use Rattle.pit_plan.specs.Standing.{Fits};
 ghost use Rattle.pit_plan.specs.InsidePlan.{placed};
 ghost use Rattle.pit_plan.specs.Totals.{load_at, Moves, moved_by, IsTally};
 
@@ -57,7 +57,7 @@ impl<A: Allocator + Copy + Drop> Tally<A> {
     /// Gives each written block its period.
     pub(crate) fn write(&mut self, pit: &Instance<A>, writes: &[(u32, Option<u32>)])
         requires tally { IsTally pit.now self.old }
-        requires fits { Fits pit.now writes.now }
+        requires fits { Fits pit.now.blocks pit.now.periods writes.now }
         ensures periods { self.new.periods ≡ placed (λ w. w.1) self.old.periods writes.now }
         ensures tally { IsTally pit.now self.new }
     {

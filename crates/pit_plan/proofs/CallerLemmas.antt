@@ -1,0 +1,6 @@
+-- Lemmas for the crates above.
+pub use Rattle.pit_plan.proofs.Sums.{total-same, total-nothing}
+pub use Rattle.pit_plan.proofs.Commits.{held_period-nil, held_period-push}
+pub use Rattle.pit_plan.proofs.Same.{same-breach}
+pub use Rattle.pit_plan.proofs.OneBreach.{one_first}
+pub use Rattle.pit_plan.proofs.SomeBreach.{some_first}
