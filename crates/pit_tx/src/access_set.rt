@@ -1,52 +1,50 @@
 //! A set of pairs, in the order of first use.
-ghost use Rattle.std.specs.Prelude.{◌≡◌, ℕ, ◌<◌, [], OnOk, OnErr, IfErr, IfSome};
+ghost use Rattle.std.specs.Prelude.{◌≡◌, ◌<◌, [], OnOk, OnErr, IfErr};
 ghost use Rattle.indexmap.specs.IndexMap.{spare};
-ghost use Rattle.pit_tx.specs.Kept.{IsSetKept};
 ghost use Rattle.pit_tx.specs.Refusals.{IsFurther};
-ghost use Rattle.pit_tx.specs.Sets.{noted, written};
+ghost use Rattle.pit_tx.specs.Sets.{with_read, with_write};
 
 use crate::error::WorkError;
 use indexmap::IndexMap;
 use std::alloc::Allocator;
-use std::hash::{BuildHasherDefault, FoldHasher};
+use std::hash::{BuildHasherDefault, FoldHasher, Hash};
+
+/// Keys, each with a value, in the order of first use.
+pub(crate) type KeyedSet<K, V, A> = IndexMap<K, V, BuildHasherDefault<FoldHasher>, A>;
 
 /// A read set or a write set: blocks in the order of first use, each with a period or none.
-pub type AccessSet<A> = IndexMap<u32, Option<u32>, BuildHasherDefault<FoldHasher>, A>;
+pub type AccessSet<A> = KeyedSet<u32, Option<u32>, A>;
 
-/// Notes a block with a period or none, unless the block is there.
+/// Notes a key with a value, unless the key is there.
 #[tactic(auto, using(crate::proofs::Inserted::inserted))]
-pub(crate) fn note_in<A: Allocator + Copy + Drop>(
-    set: &mut AccessSet<A>,
-    b: u32,
-    period: Option<u32>,
+pub(crate) fn note_in<K: Eq + Hash + Drop, V: Drop, A: Allocator + Copy + Drop>(
+    set: &mut KeyedSet<K, V, A>,
+    key: K,
+    value: V,
 ) -> Result<(), WorkError>
     requires room { set.old.entries ≡ [] → 0 < spare set.old }
-    ensures ok { OnOk result (set.new.entries ≡ noted set.old.entries b period) }
+    ensures ok { OnOk result (set.new.entries ≡ with_read K.eq set.old.entries key value) }
     ensures err { OnErr result (set.new.entries ≡ set.old.entries) }
-    ensures memory { IfErr result (λ e. (e ≡ WorkError.NoMemory) × IsFurther set.old.entries b) }
-    ensures kept { (blocks periods : ℕ) → IsSetKept blocks periods set.old → b < blocks
-        → IfSome period (λ t. t < periods) → IsSetKept blocks periods set.new }
+    ensures memory { IfErr result (λ e. (e ≡ WorkError.NoMemory) × IsFurther K.eq set.old.entries key) }
 {
-    if set.contains_key(&b) {
+    if set.contains_key(&key) {
         return Ok(());
     }
-    write_in(set, b, period)
+    write_in(set, key, value)
 }
 
-/// Writes a block with a period or none. A block that is there keeps its place.
-pub(crate) fn write_in<A: Allocator + Copy + Drop>(
-    set: &mut AccessSet<A>,
-    b: u32,
-    period: Option<u32>,
+/// Writes a key with a value. A key that is there keeps its place.
+pub(crate) fn write_in<K: Eq + Hash + Drop, V: Drop, A: Allocator + Copy + Drop>(
+    set: &mut KeyedSet<K, V, A>,
+    key: K,
+    value: V,
 ) -> Result<(), WorkError>
     requires room { set.old.entries ≡ [] → 0 < spare set.old }
-    ensures ok { OnOk result (set.new.entries ≡ written set.old.entries b period) }
+    ensures ok { OnOk result (set.new.entries ≡ with_write K.eq set.old.entries key value) }
     ensures err { OnErr result (set.new.entries ≡ set.old.entries) }
-    ensures memory { IfErr result (λ e. (e ≡ WorkError.NoMemory) × IsFurther set.old.entries b) }
-    ensures kept { (blocks periods : ℕ) → IsSetKept blocks periods set.old → b < blocks
-        → IfSome period (λ t. t < periods) → IsSetKept blocks periods set.new }
+    ensures memory { IfErr result (λ e. (e ≡ WorkError.NoMemory) × IsFurther K.eq set.old.entries key) }
 {
-    match set.insert(b, period) {
+    match set.insert(key, value) {
         Ok(_) => Ok(()),
         Err(_) => Err(WorkError::NoMemory),
     }

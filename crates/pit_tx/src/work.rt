@@ -1,7 +1,9 @@
 //! The sets of a transaction, in the order of first use.
-ghost use Rattle.std.specs.Prelude.{◌≡◌, ◌<◌, ◌≤◌, [], IfOk, OnOk, OnErr, IfSome, IfNone, IsErrOf};
-ghost use Rattle.pit_tx.specs.Refusals.{refusal_of, IsDue, IsFurther};
-ghost use Rattle.pit_tx.specs.Sets.{known_of, noted, written, PairsFit, IsSound};
+ghost use Rattle.std.specs.Prelude.{◌≡◌, ◌<◌, ◌≤◌, [], nat_eq, IfOk, OnOk, OnErr, IfSome, IfNone, IsErrOf};
+ghost use Rattle.pit_num.specs.Fitting.{Fits};
+ghost use Rattle.pit_num.specs.Refused.{IsRefusedBy};
+ghost use Rattle.pit_tx.specs.Refusals.{refusal_of, IsFurther};
+ghost use Rattle.pit_tx.specs.Sets.{known_of, with_read, with_write, AreSound};
 
 use crate::access_set::{AccessSet, note_in, write_in};
 use crate::error::WorkError;
@@ -29,7 +31,7 @@ impl<A: Allocator + Copy + Drop> Model for Work<A> {
 
     ghost Value = { Sets };
 
-    ghost use Rattle.pit_tx.specs.Kept.{AreKept};
+    ghost use Rattle.pit_tx.specs.Kept.{AreSetsKept};
 
     ghost view = { λ w. record {
       planner = w.planner;
@@ -41,7 +43,7 @@ impl<A: Allocator + Copy + Drop> Model for Work<A> {
       writes = w.writes.entries;
     } };
 
-    ghost invariant = { λ w. AreKept w.blocks w.periods w.reads w.writes };
+    ghost invariant = { λ w. AreSetsKept w.blocks w.periods w.reads w.writes };
 }
 
 impl<A: Allocator + Copy + Drop> Work<A> {
@@ -105,7 +107,7 @@ impl<A: Allocator + Copy + Drop> Work<A> {
     /// The number of blocks, 1 to 4,194,304.
     pub fn blocks(&self) -> u32
         ensures count { result ≡ self.now.blocks }
-        ensures sound { IsSound self.now }
+        ensures sound { AreSound self.now }
     {
         self.blocks
     }
@@ -113,7 +115,7 @@ impl<A: Allocator + Copy + Drop> Work<A> {
     /// The number of periods, 1 to 1,000.
     pub fn periods(&self) -> u32
         ensures count { result ≡ self.now.periods }
-        ensures sound { IsSound self.now }
+        ensures sound { AreSound self.now }
     {
         self.periods
     }
@@ -131,10 +133,10 @@ impl<A: Allocator + Copy + Drop> Work<A> {
     /// Notes what a block was seen to have. A block that was noted before keeps its first value. Takes memory where the read set
     /// has other blocks, and not this one.
     pub fn note(&mut self, b: u32, period: Option<u32>) -> Result<(), WorkError>
-        ensures ok { OnOk result (self.new ≡ record self.old { reads = noted self.old.reads b period }) }
+        ensures ok { OnOk result (self.new ≡ record self.old { reads = with_read nat_eq self.old.reads b period }) }
         ensures err { OnErr result (self.new ≡ self.old) }
-        ensures cause { IsDue result (refusal_of self.old b period) }
-        ensures memory { IsErrOf result WorkError.NoMemory → IsFurther self.old.reads b }
+        ensures cause { IsRefusedBy WorkError.NoMemory result (refusal_of self.old b period) }
+        ensures memory { IsErrOf result WorkError.NoMemory → IsFurther nat_eq self.old.reads b }
     {
         if let Some(error) = self.refusal(b, period) {
             return Err(error);
@@ -145,20 +147,20 @@ impl<A: Allocator + Copy + Drop> Work<A> {
     /// Writes that a block has a period. A block that was written before keeps its place. Takes memory where the write set has
     /// other blocks, and not this one.
     pub fn put(&mut self, b: u32, t: u32) -> Result<(), WorkError>
-        ensures ok { OnOk result (self.new ≡ record self.old { writes = written self.old.writes b (Some t) }) }
+        ensures ok { OnOk result (self.new ≡ record self.old { writes = with_write nat_eq self.old.writes b (Some t) }) }
         ensures err { OnErr result (self.new ≡ self.old) }
-        ensures cause { IsDue result (refusal_of self.old b (Some t)) }
-        ensures memory { IsErrOf result WorkError.NoMemory → IsFurther self.old.writes b }
+        ensures cause { IsRefusedBy WorkError.NoMemory result (refusal_of self.old b (Some t)) }
+        ensures memory { IsErrOf result WorkError.NoMemory → IsFurther nat_eq self.old.writes b }
     {
         self.write(b, Some(t))
     }
 
     /// Writes that a block has no period. The pair is kept, in its place or last, and memory is taken, as in `put`.
     pub fn clear(&mut self, b: u32) -> Result<(), WorkError>
-        ensures ok { OnOk result (self.new ≡ record self.old { writes = written self.old.writes b None }) }
+        ensures ok { OnOk result (self.new ≡ record self.old { writes = with_write nat_eq self.old.writes b None }) }
         ensures err { OnErr result (self.new ≡ self.old) }
-        ensures cause { IsDue result (refusal_of self.old b None) }
-        ensures memory { IsErrOf result WorkError.NoMemory → IsFurther self.old.writes b }
+        ensures cause { IsRefusedBy WorkError.NoMemory result (refusal_of self.old b None) }
+        ensures memory { IsErrOf result WorkError.NoMemory → IsFurther nat_eq self.old.writes b }
     {
         self.write(b, None)
     }
@@ -166,7 +168,7 @@ impl<A: Allocator + Copy + Drop> Work<A> {
     /// The read set: each block with what it was first seen to have.
     pub fn reads(&self) -> &AccessSet<A>
         ensures pairs { result.now.entries ≡ self.now.reads }
-        ensures fit { PairsFit self.now.blocks self.now.periods self.now.reads }
+        ensures fit { Fits self.now.blocks self.now.periods self.now.reads }
     {
         &self.reads
     }
@@ -174,17 +176,17 @@ impl<A: Allocator + Copy + Drop> Work<A> {
     /// The write set: each block with what it was last given.
     pub fn writes(&self) -> &AccessSet<A>
         ensures pairs { result.now.entries ≡ self.now.writes }
-        ensures fit { PairsFit self.now.blocks self.now.periods self.now.writes }
+        ensures fit { Fits self.now.blocks self.now.periods self.now.writes }
     {
         &self.writes
     }
 
     /// Writes a block with a period or none.
     fn write(&mut self, b: u32, period: Option<u32>) -> Result<(), WorkError>
-        ensures ok { OnOk result (self.new ≡ record self.old { writes = written self.old.writes b period }) }
+        ensures ok { OnOk result (self.new ≡ record self.old { writes = with_write nat_eq self.old.writes b period }) }
         ensures err { OnErr result (self.new ≡ self.old) }
-        ensures cause { IsDue result (refusal_of self.old b period) }
-        ensures memory { IsErrOf result WorkError.NoMemory → IsFurther self.old.writes b }
+        ensures cause { IsRefusedBy WorkError.NoMemory result (refusal_of self.old b period) }
+        ensures memory { IsErrOf result WorkError.NoMemory → IsFurther nat_eq self.old.writes b }
     {
         if let Some(error) = self.refusal(b, period) {
             return Err(error);
