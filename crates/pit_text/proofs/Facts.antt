@@ -1,14 +1,15 @@
 -- What one more fact of a model changes.
 use Rattle.std.proofs.Common.{◌≡◌, List, [], ◌∷◌, ◌++◌, Some, None, unwrap_or, ap, ◌∙◌, refl}
-use Rattle.std.specs.List.{cons_option, fold}
+use Rattle.std.specs.List.{cons_option}
 use Rattle.std.proofs.lemmas.List.{append-nil}
 use Rattle.std.proofs.lemmas.List.Elements.{filter_map-append}
-use Rattle.std.proofs.lemmas.List.Sums.{fold-append}
 use Rattle.pit_model.specs.Pit.{Pit}
 use Rattle.pit_text.specs.declared.key.Key.{Key}
 use Rattle.pit_text.specs.declared.key.Key.TheVariants.{Blocks, Periods, Resources, Rate}
 use Rattle.pit_text.specs.declared.section_fact.SectionFact.{SectionFact}
 use Rattle.pit_text.specs.SectionFacts.{with_section_fact}
+use Rattle.pit_text.specs.Added.{pit_with}
+use Rattle.pit_text.proofs.Pits.{pit_with-none, pit_with-more}
 use Rattle.pit_text.proofs.Firsts.{or_else, or_else-none, first_value-more}
 use Rattle.pit_text.specs.Model.{Fact, in_section, last_of, header_value, value_in_fact, sections, section_in_fact, section_facts, section_fact_in, number_of, missing_key, header_pit, pit_of}
 
@@ -53,17 +54,17 @@ header_pit-same facts others same =
 pub pit_of-same : (facts others : List Fact) → ((key : Key) → header_value others key ≡ header_value facts key) → section_facts others ≡ section_facts facts → pit_of others ≡ pit_of facts
 unfolding pit_of
 pit_of-same facts others same said =
-    ap (λ (pit : Pit). fold with_section_fact pit (section_facts others)) (header_pit-same facts others same) ∙ ap (λ (es : List SectionFact). fold with_section_fact (header_pit facts) es) said
+    ap (λ (pit : Pit). pit_with with_section_fact pit (section_facts others)) (header_pit-same facts others same) ∙ ap (λ (es : List SectionFact). pit_with with_section_fact (header_pit facts) es) said
 
 -- one more fact of a section
 pub pit_of-section_fact : (facts : List Fact) (e : SectionFact) → pit_of (facts ++ in_section e ∷ []) ≡ with_section_fact (pit_of facts) e
 unfolding pit_of
 pit_of-section_fact facts e =
-    ap (λ (pit : Pit). fold with_section_fact pit (section_facts (facts ++ in_section e ∷ []))) (header_pit-same facts (facts ++ in_section e ∷ []) (λ key. same_value facts (in_section e) key refl))
-    ∙ ap (λ (es : List SectionFact). fold with_section_fact (header_pit facts) es) (section_facts-more facts (in_section e))
-    ∙ fold-append with_section_fact (header_pit facts) (section_facts facts) (e ∷ [])
+    ap (λ (pit : Pit). pit_with with_section_fact pit (section_facts (facts ++ in_section e ∷ []))) (header_pit-same facts (facts ++ in_section e ∷ []) (λ key. same_value facts (in_section e) key refl))
+    ∙ ap (λ (es : List SectionFact). pit_with with_section_fact (header_pit facts) es) (section_facts-more facts (in_section e))
+    ∙ pit_with-more with_section_fact (header_pit facts) (section_facts facts) e
 
 -- no fact of a section yet
 pub pit_of-header : (facts : List Fact) → section_facts facts ≡ [] → pit_of facts ≡ header_pit facts
 unfolding pit_of
-pit_of-header facts none = ap (λ (es : List SectionFact). fold with_section_fact (header_pit facts) es) none
+pit_of-header facts none = ap (λ (es : List SectionFact). pit_with with_section_fact (header_pit facts) es) none ∙ pit_with-none with_section_fact (header_pit facts)

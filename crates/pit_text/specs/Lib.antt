@@ -7,6 +7,7 @@ pub mod Bounds
 pub mod Keys
 pub mod Header
 pub mod Causes
+pub mod Added
 pub mod SectionFacts
 pub mod Precedence
 pub mod Blocks

@@ -1,6 +1,6 @@
 -- What the lines of a model say.
 use Rattle.std.specs.Prelude.{ℕ, ◌==◌, if◌then◌else◌, List, [], ◌∷◌, find, Result, Ok, Err, Option, Some, None, is_some, is_none, codes, unwrap_or}
-use Rattle.std.specs.List.{list_any, filter_map, fold}
+use Rattle.std.specs.List.{list_any, filter_map}
 use Rattle.std.specs.Option.{option_map}
 use Rattle.std.specs.Str.{bytes_eq}
 use Rattle.pit_model.specs.Pit.{Pit, empty_pit}
@@ -16,6 +16,7 @@ use Rattle.pit_text.specs.Earlier.{first_value}
 use Rattle.pit_text.specs.Header.{value_of_key}
 use Rattle.pit_text.specs.Keys.{key_of, key_number, same_section}
 use Rattle.pit_text.specs.Causes.{fact_unless}
+use Rattle.pit_text.specs.Added.{pit_with}
 use Rattle.pit_text.specs.SectionFacts.{section_fact_of, with_section_fact, section_fact_refusal}
 
 -- what one line states
@@ -110,7 +111,7 @@ header_pit facts = empty_pit (number_of facts Blocks) (number_of facts Periods) 
 
 -- what the facts of a model say of a pit: that of the header, and then what each line of a section says
 unfoldable pub pit_of : List Fact → Pit
-pit_of facts = fold with_section_fact (header_pit facts) (section_facts facts)
+pit_of facts = pit_with with_section_fact (header_pit facts) (section_facts facts)
 
 -- a fact of a section stands, unless the pit so far refuses it
 abbrev pub new_section_fact : List Fact → SectionFact → Result Fact Cause

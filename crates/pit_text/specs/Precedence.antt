@@ -1,6 +1,5 @@
 -- What the lines of a precedence text say.
 use Rattle.std.specs.Prelude.{ℕ, ◌==◌, if◌then◌else◌, List, [], ◌∷◌, length, Result, Ok, Err}
-use Rattle.std.specs.List.{fold}
 use Rattle.pit_model.specs.Pit.{Pit, with_preds}
 use Rattle.pit_model.specs.Refusals.{preds_refusal}
 use Rattle.pit_text.specs.declared.error.Cause.{Cause}
@@ -8,6 +7,7 @@ use Rattle.pit_text.specs.declared.error.Cause.TheVariants.{FieldCount, CountWro
 use Rattle.pit_text.specs.Stands.{◌>>=◌}
 use Rattle.pit_text.specs.Numbers.{whole_field}
 use Rattle.pit_text.specs.Causes.{fact_unless}
+use Rattle.pit_text.specs.Added.{pit_with, line_of_pit}
 
 -- whole numbers, from left to right
 abbrev pub wholes_of : List (List ℕ) → Result (List ℕ) Cause
@@ -27,9 +27,8 @@ preds_line (b ∷ k ∷ fields) = whole_field b >>= (λ block. whole_field k >>=
 abbrev pub with_preds_fact : Pit → ℕ × List ℕ → Pit
 with_preds_fact pit fact = with_preds pit fact.0 fact.1
 
--- the pit that was given, with what the lines say
-unfoldable pub pit_with_preds : Pit → List (ℕ × List ℕ) → Pit
-pit_with_preds given facts = fold with_preds_fact given facts
+abbrev pub pit_with_preds : Pit → List (ℕ × List ℕ) → Pit
+pit_with_preds given facts = pit_with with_preds_fact given facts
 
 -- a line stands, unless the pit so far refuses it
 abbrev pub new_preds : Pit → ℕ × List ℕ → Result (ℕ × List ℕ) Cause
@@ -38,5 +37,5 @@ new_preds pit fact = fact_unless (preds_refusal pit fact.0 fact.1) fact
 abbrev pub preds_fact : Pit → List (List ℕ) → Result (ℕ × List ℕ) Cause
 preds_fact pit fields = preds_line fields >>= new_preds pit
 
-unfoldable pub precedence_line : Pit → List (ℕ × List ℕ) → List (List ℕ) → Result (ℕ × List ℕ) Cause
-precedence_line given earlier fields = preds_fact (pit_with_preds given earlier) fields
+abbrev pub precedence_line : Pit → List (ℕ × List ℕ) → List (List ℕ) → Result (ℕ × List ℕ) Cause
+precedence_line given earlier fields = line_of_pit with_preds_fact preds_fact given earlier fields

@@ -152,9 +152,7 @@ pub(crate) fn add<A: Allocator + Copy + Drop>(
 {
     match fact {
         SectionFact::Profit(block, value) => builder.set_profit(block, value),
-        SectionFact::Coefficient(block, resource, value) => builder.set_coef(
-            block, resource, value,
-        ),
+        SectionFact::Coefficient(block, resource, coef) => builder.set_coef(block, resource, coef),
         SectionFact::Limit(resource, period, lo, hi) => builder.add_limit(resource, period, lo, hi),
     }
 }

@@ -2,14 +2,14 @@ use Rattle.std.proofs.Common.{◌++◌, [], Err, refl, ap, sym, ◌∙◌}
 use Rattle.pit_model.specs.Pit.{Pit}
 use Rattle.pit_text.specs.Cutting.{cut_of}
 use Rattle.pit_text.specs.Left.{cut_seen, fields_left, lines_left}
-use Rattle.pit_text.specs.Precedence.{precedence_line, with_preds_fact}
+use Rattle.pit_text.specs.Precedence.{precedence_line, preds_fact, with_preds_fact}
 use Rattle.pit_text.proofs.ModelLines.{either_map}
-use Rattle.pit_text.proofs.Pits.{preds_none, preds_more, precedence_line-is}
+use Rattle.pit_text.proofs.Pits.{pit_with-none, pit_with-more, line_of_pit-is}
 use Rattle.pit_text.proofs.Reading.{read_more}
 use Rattle.pit_text.proofs.precedence.read_precedence.Goals as goal
 
 pub loop-line-init : goal.loop-line-init
-loop-line-init g c = ([], record { done = []; cut = sym c.new-lines.ensures.lines; stands = refl }, sym (preds_none c.args.builder))
+loop-line-init g c = ([], record { done = []; cut = sym c.new-lines.ensures.lines; stands = refl }, sym (pit_with-none with_preds_fact c.args.builder))
 
 pub loop-line-preserved : goal.loop-line-preserved
 loop-line-preserved g c =
@@ -18,8 +18,8 @@ loop-line-preserved g c =
     let given : Pit = c.args.builder in (
       _,
       read_more (precedence_line given) (cut_of c.args.text.now) (lines_left c.loop-line.lines) (lines_left c.next.new.self) (cut_seen c.in-Some.line) was.0 read.0 was.1 c.in-Some.ensures.steps.0
-          (precedence_line-is given c.loop-line.builder was.0 (fields_left c.in-Some.line.fields) _ was.2 read.1),
-      read.2 ∙ ap (λ (p : Pit). with_preds_fact p read.0) was.2 ∙ sym (preds_more given was.0 read.0),
+          (line_of_pit-is with_preds_fact preds_fact given c.loop-line.builder was.0 (fields_left c.in-Some.line.fields) _ was.2 read.1),
+      read.2 ∙ ap (λ (p : Pit). with_preds_fact p read.0) was.2 ∙ sym (pit_with-more with_preds_fact given was.0 read.0),
     )
 
 pub returns-in-Err : goal.returns-in-Err
@@ -34,5 +34,5 @@ returns-in-Err g c =
       cut = was.1.cut ∙ ap (λ ls. was.1.done ++ ls) c.in-Some.ensures.steps.0;
       stands = was.1.stands;
       number = refl;
-      fails = precedence_line-is given c.loop-line.builder was.0 (fields_left c.in-Some.line.fields) (Err c.in-Err.cause) was.2 wrong;
+      fails = line_of_pit-is with_preds_fact preds_fact given c.loop-line.builder was.0 (fields_left c.in-Some.line.fields) (Err c.in-Err.cause) was.2 wrong;
     }) c.in-Err.ensures

@@ -1,4 +1,4 @@
-use Rattle.std.proofs.Common.{arith, ◌≡◌, ◌<◌, ◌^◌, ℤ, ap, ◌∙◌, Some, Ok, Result, Bool}
+use Rattle.std.proofs.Common.{arith, ◌≡◌, ◌<◌, ℤ, ap, ◌∙◌, Some, Ok, Result, Bool}
 use Rattle.std.proofs.lemmas.Grind.{common_steps}
 use Rattle.std.proofs.lemmas.Bool.Decides.{nat_tests}
 use Rattle.pit_num.specs.declared.parse.NumError.{NumError}
