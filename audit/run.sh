@@ -43,13 +43,13 @@ plants() {
     diff <(grep -v '^#' "$listed" | sort) "$found" || fail "plants of $1: < is listed and was not found, > was found and is not listed"
 }
 
-# tests CRATE: the tests of audit/tests/CRATE pass beside those of the crate.
+# tests CRATE: the test files of audit/tests/CRATE pass beside those of the crate.
 tests() {
     local from=$top/audit/tests/$1 file
     [ -d "$from" ] || return
-    for file in "$from"/*.txt; do
-        cp "$file" "$tree/crates/$1/src/tests/$(basename "$file" .txt).rt"
-        echo "mod $(basename "$file" .txt);" >>"$tree/crates/$1/src/tests.rt"
+    for file in "$from"/*.rt.txt; do
+        cp "$file" "$tree/crates/$1/src/tests/$(basename "$file" .txt)"
+        echo "mod $(basename "$file" .rt.txt);" >>"$tree/crates/$1/src/tests.rt"
     done
     (cd "$tree/crates/$1" && rt test) || fail "tests of $1"
 }
