@@ -22,8 +22,6 @@ mod result;
 mod section;
 mod solution;
 mod solution_text;
-#[cfg(test)]
-mod tests;
 
 pub use blocks::read_blocks;
 pub use bound::upper_bound;

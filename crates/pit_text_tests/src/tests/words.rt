@@ -1,6 +1,6 @@
 //! The words of each fault.
 use super::{BLOCK_RANGE, MALFORMED, PERIOD_RANGE, REPEATED, TOO_LARGE, TOO_LONG, fault};
-use crate::{Cause, Key};
+use pit_text::{Cause, Key};
 use std::alloc::Global;
 use std::fmt;
 use std::process::Abort;
