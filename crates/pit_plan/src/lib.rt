@@ -12,8 +12,6 @@ mod plan;
 mod schedule;
 mod short;
 mod tally;
-#[cfg(test)]
-mod tests;
 
 pub use breach::Breach;
 pub use laws::{commits_follow, one_breach};
