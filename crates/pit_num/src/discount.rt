@@ -80,6 +80,3 @@ pub fn factor_is_greatest()
         (λ n. 2 * n * (10 ^ 6 + rate) ≤ 2 * factor rate t * 10 ^ 6 + 10 ^ 6 + rate)
         (factor rate (t + 1)) }
 {}
-
-#[cfg(test)]
-mod tests;

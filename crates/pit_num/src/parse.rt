@@ -34,6 +34,3 @@ pub const DIGITS_MAX: usize = 38;
 
 /// The greatest number of digits of an exponent.
 pub const EXPONENT_DIGITS_MAX: usize = 3;
-
-#[cfg(test)]
-mod tests;

@@ -72,6 +72,3 @@ pub fn write_text<W: Sink>(w: &mut W, text: &[u8]) -> Result<(), WriteFault>
     }
     Ok(())
 }
-
-#[cfg(test)]
-mod tests;

@@ -70,6 +70,3 @@ impl<W: Write + Drop> Sink for Out<W> {
         }
     }
 }
-
-#[cfg(test)]
-mod tests;

@@ -67,6 +67,3 @@ impl<R: Read + Drop> Source for In<R> {
         }
     }
 }
-
-#[cfg(test)]
-mod tests;

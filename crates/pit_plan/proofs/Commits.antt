@@ -29,11 +29,3 @@ last_number_after-push n found (c ∷ cs) w b =
 pub last_number-push : (commits : List Commit) (w : Commit) (b : ℕ) → last_number (commits ++ w ∷ []) b ≡ cond (is_some (write_of w b)) (length commits + 1) (last_number commits b)
 unfolding last_number
 last_number-push commits w b = last_number_after-push 0 0 commits w b ∙ ap (λ k. cond (is_some (write_of w b)) k (last_number_after 0 0 commits b)) (omega arith)
-
-pub held_period-more : (commits : List Commit) (i b : ℕ) (w : Commit) → i < length commits → w ≡ get_or commits i w
-    → held_period (take (i + 1) commits) b ≡ unwrap_or (write_of w b) (held_period (take i commits) b)
-held_period-more commits i b w l is = rw (take_more commits i w l, ← is) (held_period-push (take i commits) w b)
-
-pub last_number-more : (commits : List Commit) (i b : ℕ) (w : Commit) → i < length commits → w ≡ get_or commits i w
-    → last_number (take (i + 1) commits) b ≡ cond (is_some (write_of w b)) (i + 1) (last_number (take i commits) b)
-last_number-more commits i b w l is = rw (take_more commits i w l, ← is) (last_number-push (take i commits) w b ∙ ap (λ k. cond (is_some (write_of w b)) (k + 1) (last_number (take i commits) b)) (length-take-le i commits (omega arith)))

@@ -2,18 +2,10 @@
 use Rattle.std.proofs.Common.{◌≡◌, ℕ, zero, suc, ◌<◌, ◌+◌, ℤ, pos, ◌+ℤ◌, refl, sym, ap, ◌∙◌, arith, add-one}
 use Rattle.pit_plan.specs.Sums.{total}
 
-pub total-zero : (f : ℕ → ℤ) → total f 0 ≡ pos 0
-unfolding total
-total-zero f = refl
-
 -- one more block
 pub total-more : (f : ℕ → ℤ) (n : ℕ) → total f (n + 1) ≡ total f n +ℤ f n
 unfolding total
 total-more f n = rw (add-one) refl
-
--- a sum that is kept while the blocks are gone over
-pub total-kept : (f : ℕ → ℤ) (n : ℕ) (sum term more : ℤ) → sum ≡ total f n → term ≡ f n → more ≡ sum +ℤ term → more ≡ total f (n + 1)
-total-kept f n sum term more is one e = e ∙ (ap (λ z. z +ℤ term) is ∙ (ap (λ z. total f n +ℤ z) one ∙ sym (total-more f n)))
 
 -- a sum of nothing
 pub total-nothing : (n : ℕ) → total (λ b. pos 0) n ≡ pos 0

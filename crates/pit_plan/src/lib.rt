@@ -13,8 +13,6 @@ mod plan;
 mod schedule;
 mod short;
 mod tally;
-#[cfg(test)]
-mod tests;
 mod writes;
 
 pub use breach::Breach;

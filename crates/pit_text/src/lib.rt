@@ -23,8 +23,6 @@ mod section;
 mod section_fact;
 mod solution;
 mod solution_text;
-#[cfg(test)]
-mod tests;
 
 pub use blocks::read_blocks;
 pub use bound::upper_bound;

@@ -1,0 +1,24 @@
+//! For tests: the small pit as facts and as texts, pits that look random, and devices that fail.
+//!
+//! The small pit, Tiny, has four blocks, two periods, one resource and a rate of 0.1. Block 1 comes after block 0, and block 2 after
+//! both; at most 4 may be loaded in a period, and at least 1 in period 1. The same facts stand here as calls of a builder and as texts.
+#![tactic(auto)]
+
+mod broken;
+mod fact;
+mod narrow;
+mod random;
+mod series;
+mod size;
+mod tiny;
+
+pub use broken::Broken;
+pub use fact::{Fact, built, tell};
+pub use narrow::Narrow;
+pub use random::random_facts;
+pub use series::Series;
+pub use size::Size;
+pub use tiny::{
+    TINY, TINY_BLOCKS, TINY_COEFFICIENTS, TINY_HEADER, TINY_LIMITS, TINY_MODEL, TINY_OBJECTIVE,
+    TINY_PLACES, TINY_PRECEDENCE, TINY_SIZE, TINY_SOLUTION, TINY_VALUE,
+};
