@@ -1,8 +1,7 @@
 -- What one more commit changes.
-use Rattle.std.proofs.Common.{◌≡◌, ℕ, ◌<◌, ◌+◌, cond, List, [], ◌∷◌, ◌++◌, length, take, get_or, None, refl, ap, ◌∙◌, arith}
+use Rattle.std.proofs.Common.{◌≡◌, ℕ, ◌+◌, cond, List, [], ◌∷◌, ◌++◌, length, None, refl, ap, ◌∙◌, arith}
 use Rattle.std.specs.Prelude.{is_some, unwrap_or}
 use Rattle.std.proofs.lemmas.List.Sums.{fold_push}
-use Rattle.std.proofs.lemmas.List.{take_more, length-take-le}
 use Rattle.pit_plan.specs.Schedule.{Commit, write_of, held_period, last_number, last_number_after}
 
 pub held_period-nil : (b : ℕ) → held_period [] b ≡ None

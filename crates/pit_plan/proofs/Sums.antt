@@ -1,5 +1,5 @@
 -- Laws of sums over all blocks.
-use Rattle.std.proofs.Common.{◌≡◌, ℕ, zero, suc, ◌<◌, ◌+◌, ℤ, pos, ◌+ℤ◌, refl, sym, ap, ◌∙◌, arith, add-one}
+use Rattle.std.proofs.Common.{◌≡◌, ℕ, zero, suc, ◌<◌, ◌+◌, ℤ, pos, ◌+ℤ◌, refl, arith, add-one}
 use Rattle.pit_plan.specs.Sums.{total}
 
 -- one more block
