@@ -13,8 +13,6 @@ mod parsed;
 mod planned;
 mod read;
 mod status;
-#[cfg(test)]
-mod tests;
 
 pub use checking::check;
 pub use engine::value;
