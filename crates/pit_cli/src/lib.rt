@@ -14,8 +14,6 @@ mod parsed;
 mod planned;
 mod read;
 mod status;
-#[cfg(test)]
-mod tests;
 mod value_text;
 
 pub use engines::check::check;

@@ -12,8 +12,6 @@ mod instance;
 mod places;
 mod predecessors;
 mod successors;
-#[cfg(test)]
-mod tests;
 
 pub use bounds::bounds_are_tightest;
 pub use builder::Builder;

@@ -8,8 +8,6 @@
 
 mod access_set;
 mod error;
-#[cfg(test)]
-mod tests;
 mod work;
 
 pub use access_set::AccessSet;

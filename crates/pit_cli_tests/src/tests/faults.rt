@@ -1,0 +1,85 @@
+//! The line of each fault, and its status.
+use super::{assert_fault, checked};
+use pit_cli::{CliFault, Input, Status};
+use pit_num::In;
+use pit_sample::{TINY_MODEL, TINY_PRECEDENCE};
+use pit_text::{Cause, TextError};
+use std::alloc::Global;
+use std::process::Abort;
+use std::test::Fail;
+
+/// Nothing is written, and the fault has this line and the status of a refused input.
+fn assert_refused(
+    rt: &impl Abort,
+    alloc: Global,
+    texts: [&[u8]; 3],
+    line: &str,
+) -> Result<(), Fail> {
+    let (mut model, mut precedence) = (In::new(texts[0]), In::new(texts[1]));
+    let (answer, written) = checked(alloc, &mut model, &mut precedence, &mut In::new(texts[2]));
+    assert!(rt; written.is_empty(), "of {line}");
+    assert_fault(rt, alloc, answer, line, 2)
+}
+
+// The first of the inputs that has one.
+#[test]
+fn of_texts(rt: HostRuntime) -> Result<(), Fail> {
+    let rows: [([&[u8]; 3], &str); 4] = [
+        ([b"", b"x", b"x"], "pit: model line 1: missing TYPE"),
+        (
+            [b"NAME: Tiny\nTYPE: PCPSP\n", b"", b""],
+            "pit: model line 2: not cpit",
+        ),
+        (
+            [TINY_MODEL, b"2 3 0 1", b"x"],
+            "pit: precedence line 1: predecessor count",
+        ),
+        (
+            [TINY_MODEL, TINY_PRECEDENCE, b"4 0"],
+            "pit: solution line 1: block out of range",
+        ),
+    ];
+    for (texts, line) in rows {
+        assert_refused(&rt, rt.alloc(), texts, line)?;
+    }
+    Ok(())
+}
+
+#[test]
+fn each_has_its_line_and_status(rt: HostRuntime) -> Result<(), Fail> {
+    let error = TextError {
+        line: 7,
+        cause: Cause::NotAscii,
+    };
+    let file = Input::Model;
+    for (fault, line, status) in [
+        (
+            CliFault::Text { file, error },
+            "pit: model line 7: not ascii",
+            2,
+        ),
+        (CliFault::TooLong(file), "pit: model: too long", 2),
+        (
+            CliFault::TooLong(Input::Precedence),
+            "pit: precedence: too long",
+            2,
+        ),
+        (CliFault::CannotRead(file), "pit: cannot read model", 3),
+        (
+            CliFault::CannotRead(Input::Solution),
+            "pit: cannot read solution",
+            3,
+        ),
+        (CliFault::CannotWrite, "pit: cannot write", 3),
+        (CliFault::NoMemory, "pit: no memory", 3),
+    ] {
+        assert_fault(&rt, rt.alloc(), Err(fault), line, status)?;
+    }
+    Ok(())
+}
+
+#[test]
+fn answers_have_their_codes(rt: HostRuntime) {
+    assert_eq!(rt; Status::Fine.code(), 0);
+    assert_eq!(rt; Status::Failed.code(), 1);
+}

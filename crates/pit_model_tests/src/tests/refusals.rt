@@ -1,0 +1,85 @@
+//! Refusals of each kind, and their words.
+use super::{assert_tiny, bounds};
+use Fact::{Coef, Limit, Place, Preds, Profit};
+use pit_model::{BuildError, Builder, Instance};
+use pit_sample::{Fact, TINY, TINY_PLACES, TINY_SIZE, built, tell};
+use std::alloc::Global;
+use std::process::Abort;
+use std::test::Fail;
+
+const REFUSED: &[(Fact, BuildError)] = &[
+    (Profit(4, 1), BuildError::BlockRange),
+    (Profit(0, 1), BuildError::Repeated),
+    (Coef(0, 1, 1), BuildError::ResourceRange),
+    (Coef(0, 0, 1), BuildError::Repeated),
+    (Preds(1, &[4]), BuildError::BlockRange),
+    (Preds(1, &[]), BuildError::Repeated),
+    (Limit(0, 2, None, None), BuildError::PeriodRange),
+    (Limit(0, 0, Some(2), Some(1)), BuildError::Interval),
+    (Place(0, (1, 1, 1)), BuildError::Repeated),
+];
+
+/// A refusal leaves the pit as it was.
+#[test]
+fn refuses(rt: HostRuntime) -> Result<(), Fail> {
+    let mut builder = TINY_SIZE.builder(rt.alloc())?;
+    assert_refused(&rt, &mut builder)?;
+    match builder.build() {
+        Ok(pit) => assert_tiny(&rt, &pit),
+        Err(_) => return Err(Fail::from("no memory")),
+    }
+    Ok(())
+}
+
+fn assert_refused(rt: &impl Abort, builder: &mut Builder<Global>) -> Result<(), BuildError> {
+    for fact in TINY {
+        tell(builder, *fact)?;
+    }
+    for fact in TINY_PLACES {
+        tell(builder, *fact)?;
+    }
+    for (fact, error) in REFUSED {
+        assert_eq!(rt; tell(builder, *fact), Err(*error));
+    }
+    let numbers = [builder.blocks(), builder.periods(), builder.resources()];
+    assert_eq!(rt; numbers, [4, 2, 1]);
+    Ok(())
+}
+
+/// Facts that are narrowed, sorted or thrown away: of several bounds the tightest, and of predecessors each once without the block.
+const NARROWED: &[Fact] = &[
+    Preds(3, &[2, 0, 2, 3, 0]),
+    Limit(0, 1, Some(3), None),
+    Limit(0, 1, Some(-3), Some(-2)),
+    Limit(0, 1, None, Some(6)),
+];
+
+#[test]
+fn keeps_the_tightest(rt: HostRuntime) -> Result<(), Fail> {
+    let pit = built(rt.alloc(), TINY_SIZE, NARROWED)?;
+    assert_narrowed(&rt, &pit);
+    Ok(())
+}
+
+fn assert_narrowed(rt: &impl Abort, pit: &Instance<Global>) {
+    assert!(rt; pit.blocks() == 4);
+    assert_eq!(rt; pit.preds(3), [0, 2].as_slice());
+    assert_eq!(rt; pit.place(3), None);
+    assert_eq!(rt; bounds(rt, pit, 0, 1), (Some(3), Some(-2)));
+    assert_eq!(rt; pit.unmeetable(), Some((0, 1)));
+}
+
+#[test]
+fn prints_refusals(rt: HostRuntime) -> Result<(), Fail> {
+    for (error, text) in [
+        (BuildError::BlockRange, "block out of range"),
+        (BuildError::ResourceRange, "resource out of range"),
+        (BuildError::PeriodRange, "period out of range"),
+        (BuildError::Repeated, "repeated"),
+        (BuildError::Interval, "empty interval"),
+        (BuildError::NoMemory, "no memory"),
+    ] {
+        assert_eq!(rt; format!(in rt.alloc(); "{error}")?.as_str(), text);
+    }
+    Ok(())
+}
