@@ -3,52 +3,47 @@ ghost use Rattle.std.specs.Prelude.{◌≡◌, ◌⊎◌};
 ghost use Rattle.clap.specs.Values.{kind_of};
 ghost use Rattle.clap.specs.declared.error.kind.ErrorKind.TheVariants.{OutOfMemory};
 
+use crate::argument::argument_of;
+use crate::engine::{CHECK, VALUE};
 use crate::fault::Fault;
 use clap::error::ErrorKind;
 use clap::{Arg, Command, Error};
+use pit_cli::Input;
 use std::alloc::{AllocError, Global};
 use std::io;
-
-/// The name of the argument for the model.
-pub const MODEL: &str = "MODEL";
-
-/// The name of the argument for the precedences.
-pub const PRECEDENCE: &str = "PREC";
-
-/// The name of the argument for the solution.
-pub const SOLUTION: &str = "SOLUTION";
 
 /// What `--version` prints behind the program's name.
 const VERSION: &str = "0.1.0";
 
-const MODEL_HELP: &str = "The model: a CPIT model text of MineLib";
-
-const PRECEDENCE_HELP: &str =
-    "The precedences: a line `BLOCK COUNT PREDECESSOR..` for each block that has predecessors";
-
-const SOLUTION_HELP: &str =
-    "The solution: a line `BLOCK PERIOD`, or `BLOCK DESTINATION PERIOD PART`, for each block that is mined";
-
 const PIT_NOTES: &str = "\
-Blocks, periods and resources are numbered from 0. The model's discount rate is a fraction: 0.1 is 10 % a period.
-A section or key of the model that is misspelt is skipped. docs/FORMATS.md has every form and fault line.
+Blocks, periods and resources are numbered from 0. The model's discount rate is a fraction: 0.1 is
+10 % a period. A section or key of the model that is misspelt is skipped. docs/FORMATS.md has every
+form and fault line.
 
-Status: 0 where all is well, 1 where `check` printed a breach or a shortfall, 2 where an input or the command line is
-refused, 3 where memory or a device is wanting. Of 2 and 3 a line on standard error says why.";
+Status: 0 where all is well, 1 where `check` printed a breach or a shortfall, 2 where an input or
+the command line is refused, 3 where memory or a device is wanting. Of 2 and 3 a line on standard
+error says why.";
 
 const VALUE_NOTES: &str = "\
-Prints the sum of the profits, each times the factor of its period, with 18 digits. Blocks and periods are numbered
-from 0; a DESTINATION is 0, and a PART is 0 or 1.
+Prints the sum of the profits, each times the factor of its period, with 18 digits. Blocks and
+periods are numbered from 0; a DESTINATION is 0, and a PART is 0 or 1. docs/FORMATS.md has every
+form and fault line.
+
+Status: 0 where it printed, 2 where an input or the command line is refused, 3 where memory or a
+device is wanting. Of 2 and 3 a line on standard error says why.
 
 Example:
   pit value tiny.cpit tiny.sol";
 
 const CHECK_NOTES: &str = "\
 Prints `value V`; then the first breach, if there is one: `precedence BLOCK PREDECESSOR`, or else
-`over RESOURCE PERIOD LOAD LIMIT`; then `short RESOURCE PERIOD LOAD LIMIT` for each load below its lower limit; and `fine`
-where there was neither. Blocks, periods and resources are numbered from 0; a DESTINATION is 0, and a PART is 0 or 1.
+`over RESOURCE PERIOD LOAD LIMIT`; then `short RESOURCE PERIOD LOAD LIMIT` for each load below its
+lower limit; and `fine` where there was neither. Blocks, periods and resources are numbered from 0;
+a DESTINATION is 0, and a PART is 0 or 1. docs/FORMATS.md has every form and fault line.
 
-Status: 0 where it printed `fine`, 1 where it printed a breach or a shortfall.
+Status: 0 where it printed `fine`, 1 where it printed a breach or a shortfall, 2 where an input or
+the command line is refused, 3 where memory or a device is wanting. Of 2 and 3 a line on standard
+error says why.
 
 Example:
   pit check tiny.cpit tiny.prec tiny.sol";
@@ -77,24 +72,42 @@ pub fn command<'a>(alloc: Global) -> Result<Command<'a>, AllocError> {
 }
 
 fn value_command<'a>(alloc: Global) -> Result<Command<'a>, AllocError> {
-    Command::new(alloc, "value")
+    Command::new(alloc, VALUE)
         .about("Prints the discounted value of a solution")
         .after_help(VALUE_NOTES)
-        .arg(file(alloc, MODEL, MODEL_HELP))?
-        .arg(file(alloc, SOLUTION, SOLUTION_HELP))
+        .arg(file(alloc, Input::Model))?
+        .arg(file(alloc, Input::Solution))
 }
 
 fn check_command<'a>(alloc: Global) -> Result<Command<'a>, AllocError> {
-    Command::new(alloc, "check")
+    Command::new(alloc, CHECK)
         .about("Prints the value of a solution, its first breach and its shortfalls")
         .after_help(CHECK_NOTES)
-        .arg(file(alloc, MODEL, MODEL_HELP))?
-        .arg(file(alloc, PRECEDENCE, PRECEDENCE_HELP))?
-        .arg(file(alloc, SOLUTION, SOLUTION_HELP))
+        .arg(file(alloc, Input::Model))?
+        .arg(file(alloc, Input::Precedence))?
+        .arg(file(alloc, Input::Solution))
 }
 
-fn file<'a>(alloc: Global, name: &'a str, help: &'a str) -> Arg<'a> {
-    Arg::new(alloc, name).required(true).help(help)
+/// The argument for an input.
+fn file<'a>(alloc: Global, input: Input) -> Arg<'a> {
+    Arg::new(alloc, argument_of(input))
+        .required(true)
+        .help(help_of(input))
+}
+
+/// What help says of an input.
+fn help_of<'a>(input: Input) -> &'a str {
+    match input {
+        Input::Model => {
+            "The model: a CPIT model text of MineLib. Its rate is a fraction: 0.1 is 10 % a period"
+        }
+        Input::Precedence => {
+            "The precedences: `BLOCK COUNT PREDECESSOR..` for each block that has predecessors"
+        }
+        Input::Solution => {
+            "The solution: `BLOCK PERIOD` or `BLOCK DESTINATION PERIOD PART` for a mined block"
+        }
+    }
 }
 
 /// The parser's error where it couldn't be asked: a word that is not UTF-8, or no subcommand. Or want of memory.

@@ -1,16 +1,29 @@
-//! How the program ends where it has no answer.
-ghost use Rattle.std.specs.Prelude.{◌≡◌, ◌≤◌, ◌≢◌, ◌⊎◌};
-ghost use Rattle.clap.specs.Values.{kind_of};
-ghost use Rattle.clap.specs.declared.error.kind.ErrorKind.TheVariants.{DisplayHelp, DisplayVersion};
+//! How the program ends.
+ghost use Rattle.std.specs.Prelude.{◌≡◌, ◌≤◌};
+ghost use Rattle.std.specs.Process.{exit_status};
 ghost use Rattle.pit_cli.specs.Statuses.{fault_status};
+ghost use Rattle.pit.specs.Ending.{IsCommandStatus, IsStatusOf};
 
-use pit_cli::CliFault;
+use crate::fault::Fault;
+use pit_cli::{CliFault, Status};
+use std::process::ExitCode;
 
 /// The status where the words of the command line are refused.
 const REFUSED: u8 = 2;
 
+/// Ends with an answer: prints why there is none, or the help that was asked for.
+pub fn ended(rt: &HostRuntime, answer: Result<Status, Fault>) -> ExitCode
+    ensures { IsStatusOf answer (exit_status result) }
+{
+    match answer {
+        Ok(found) => ExitCode::from(found.code()),
+        Err(Fault::Engine(fault)) => ExitCode::from(with_fault(rt, &fault)),
+        Err(Fault::Command(error)) => ExitCode::from(with_command(rt, &error)),
+    }
+}
+
 /// Prints the line of a fault. The status is the fault's, whether or not the line could be written.
-pub fn with_fault(rt: &HostRuntime, fault: &CliFault) -> u8
+fn with_fault(rt: &HostRuntime, fault: &CliFault) -> u8
     ensures is { result ≡ fault_status fault.now }
     ensures range { (2 ≤ result) × (result ≤ 3) }
 {
@@ -19,10 +32,8 @@ pub fn with_fault(rt: &HostRuntime, fault: &CliFault) -> u8
 }
 
 /// Prints the text of the command line's parser: a refusal on the standard error, and help on the standard output.
-pub fn with_command(rt: &HostRuntime, error: &clap::Error) -> u8
-    ensures refused { (kind_of error.now ≢ DisplayHelp) × (kind_of error.now ≢ DisplayVersion) → result ≡ 2 }
-    ensures shown { (kind_of error.now ≡ DisplayHelp) ⊎ (kind_of error.now ≡ DisplayVersion)
-        → (result ≡ 0) ⊎ (result ≡ 3) }
+fn with_command(rt: &HostRuntime, error: &clap::Error) -> u8
+    ensures { IsCommandStatus error.now result }
 {
     if error.use_stderr() {
         let _ = rt.eprint(error);

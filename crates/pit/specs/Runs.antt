@@ -1,0 +1,39 @@
+-- What a run of the program gives, by what is told of the files that its words name.
+use Rattle.std.specs.Prelude.{◌≡◌, ℕ, List, Option, option_and_then, Result}
+use Rattle.clap.specs.declared.parser.matches.ArgMatches.{ArgMatches}
+use Rattle.pit_cli.specs.declared.input.Input.{Input}
+use Rattle.pit_cli.specs.declared.input.Input.TheVariants.{Model, Precedence, Solution}
+use Rattle.pit_cli.specs.declared.status.Status.{Status}
+use Rattle.pit_cli.specs.declared.fault.CliFault.{CliFault}
+use Rattle.pit_cli.specs.Steps.{IsResultOf}
+use Rattle.pit_cli.specs.Devices.{Reading, Writing}
+use Rattle.pit_cli.specs.Value.{value_run}
+use Rattle.pit_cli.specs.Check.{check_run}
+use Rattle.pit.specs.declared.engine.Engine.{Engine}
+use Rattle.pit.specs.declared.engine.Engine.TheVariants.{Value, Check}
+use Rattle.pit.specs.Asked.{path_of}
+
+-- the bytes of an input's file, where it is named and they are told
+abbrev pub file_bytes : (List ℕ → Option (List ℕ)) → ArgMatches → Input → Option (List ℕ)
+file_bytes bytes_at given input = option_and_then bytes_at (path_of given input)
+
+pub record IsValueRun (told : Input → Option (List ℕ)) (out : Writing) (result : Result Status CliFault) : Type 0 where
+  pub model : Reading
+  pub solution : Reading
+  pub model_is : model.before ≡ told Model
+  pub solution_is : solution.before ≡ told Solution
+  pub gives : IsResultOf (value_run model solution out) tt result
+
+pub record IsCheckRun (told : Input → Option (List ℕ)) (out : Writing) (result : Result Status CliFault) : Type 0 where
+  pub model : Reading
+  pub precedence : Reading
+  pub solution : Reading
+  pub model_is : model.before ≡ told Model
+  pub precedence_is : precedence.before ≡ told Precedence
+  pub solution_is : solution.before ≡ told Solution
+  pub gives : IsResultOf (check_run model precedence solution out) tt result
+
+-- the result is that of an engine on the files of its inputs
+abbrev pub IsRunOf : Engine → (Input → Option (List ℕ)) → Writing → Result Status CliFault → Type 0
+IsRunOf Value = IsValueRun
+IsRunOf Check = IsCheckRun

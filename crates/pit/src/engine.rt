@@ -1,0 +1,44 @@
+ghost use Rattle.std.specs.Prelude.{◌≡◌, IfSome, option_map, option_and_then};
+ghost use Rattle.clap.specs.Matches.{found_of, subcommand_name_of};
+ghost use Rattle.clap.specs.Walk.{rows_of};
+ghost use Rattle.clap.specs.Simple.{subcommand_rows_of};
+ghost use Rattle.pit.specs.Asked.{engine_of};
+
+use clap::ArgMatches;
+
+/// What the program does with its inputs.
+#[derive(Clone, Copy, Debug, PartialEq, Eq)]
+pub enum Engine {
+    /// Prints what a solution is worth.
+    Value,
+    /// Prints what a solution is worth, its first breach and its shortfalls.
+    Check,
+}
+
+/// The subcommand that asks for `Engine::Value`.
+pub const VALUE: &str = "value";
+
+/// The subcommand that asks for `Engine::Check`.
+pub const CHECK: &str = "check";
+
+/// The engine that a subcommand asks for.
+#[tactic(auto, unfolding(crate::specs::Asked::engine_of))]
+fn engine_of(name: &str) -> Option<Engine>
+    ensures { result ≡ engine_of name.now }
+{
+    match name {
+        VALUE => Some(Engine::Value),
+        CHECK => Some(Engine::Check),
+        _ => None,
+    }
+}
+
+/// The engine that the words ask for, and the words that are for it.
+pub fn asked<'m, 'a>(matches: &'m ArgMatches<'a>) -> Option<(Engine, &'m ArgMatches<'a>)>
+    ensures engine { option_map (λ asked. asked.0) result ≡ option_and_then engine_of (subcommand_name_of matches.now) }
+    ensures given { IfSome result (λ asked. option_map (λ found. found.1) (subcommand_rows_of matches.now) ≡ Some (rows_of (found_of asked.1.now))) }
+{
+    let (name, given) = matches.subcommand()?;
+    let engine = engine_of(name)?;
+    Some((engine, given))
+}
