@@ -1,9 +1,8 @@
 -- The runs of the engines have one outcome.
 use Rattle.std.proofs.Common.{◌≡◌, ℕ, ℤ, ◌<◌, List, [], ◌∷◌, length, length-append, Option, IsSome, sym, ap, subst, ◌∙◌, arith}
-use Rattle.pit_num.specs.Fitting.{writes_of}
 use Rattle.pit_num.specs.Printed.{fixed_text}
 use Rattle.pit_model.specs.Pit.{Pit}
-use Rattle.pit_plan.specs.Schedule.{Commit, held_period, limit_of, value_of}
+use Rattle.pit_plan.specs.Schedule.{Commit, commit_of_schedule, held_period, limit_of, value_of}
 use Rattle.pit_plan.specs.Shortfalls.{shortfalls_of}
 use Rattle.pit_plan.specs.declared.breach.Breach.{Breach}
 use Rattle.pit_plan.specs.declared.short.Short.{Short}
@@ -55,7 +54,7 @@ valued_text : (pit : Pit) (bytes : List ℕ) → IsOneText (IsValued pit bytes) 
 valued_text pit bytes =
     let one = solution_text pit bytes in record {
       values = λ text other p q.
-          p.says ∙ ap (λ (schedule : List (ℕ × ℕ)). value_text (value_of pit (held_period (writes_of schedule ∷ [])))) (one.values p.schedule q.schedule p.stands q.stands) ∙ sym q.says;
+          p.says ∙ ap (λ (schedule : List (ℕ × ℕ)). value_text (value_of pit (held_period (commit_of_schedule schedule ∷ [])))) (one.values p.schedule q.schedule p.stands q.stands) ∙ sym q.says;
       apart = λ text error p q. one.apart p.schedule error p.stands q;
       errors = one.errors;
     }
@@ -74,7 +73,7 @@ pub value_outcome : (model solution : Reading) (out : Writing) → IsSome model.
 value_outcome model solution out told_model told_solution told_out =
     shown_run (model_step model) (value_step solution) (fine_step out) (model-determined model told_model) (λ pit. value-determined solution pit told_solution)
     (λ text. write-determined out (λ (given : List ℕ). given) (λ given. Fine) text)
-    (λ pit text p. write-shown out (λ (given : List ℕ). given) (λ given. Fine) text told_out (same_length text (value_text (value_of pit (held_period (writes_of p.2.schedule ∷ [])))) p.2.says (value_some (value_of pit (held_period (writes_of p.2.schedule ∷ []))))))
+    (λ pit text p. write-shown out (λ (given : List ℕ). given) (λ given. Fine) text told_out (same_length text (value_text (value_of pit (held_period (commit_of_schedule p.2.schedule ∷ [])))) p.2.says (value_some (value_of pit (held_period (commit_of_schedule p.2.schedule ∷ []))))))
     (λ text. write-never_both out (λ (given : List ℕ). given) (λ given. Fine) text)
 
 -- ---- `check`
@@ -94,8 +93,8 @@ checked_text : (pit : Pit) (bytes : List ℕ) → IsOneText (IsChecked pit bytes
 checked_text pit bytes =
     let one = solution_text pit bytes in record {
       values = λ answer other p q.
-          checks_once pit (writes_of q.schedule ∷ []) answer other
-          (subst (λ (schedule : List (ℕ × ℕ)). Checks pit (writes_of schedule ∷ []) answer.0 answer.1) (one.values p.schedule q.schedule p.stands q.stands) p.checks) q.checks;
+          checks_once pit (commit_of_schedule q.schedule ∷ []) answer other
+          (subst (λ (schedule : List (ℕ × ℕ)). Checks pit (commit_of_schedule schedule ∷ []) answer.0 answer.1) (one.values p.schedule q.schedule p.stands q.stands) p.checks) q.checks;
       apart = λ answer error p q. one.apart p.schedule error p.stands q;
       errors = one.errors;
     }
@@ -118,6 +117,6 @@ check_outcome model precedence solution out told_model told_precedence told_solu
     (λ pit. check-determined solution pit told_solution)
     (λ answer. write-determined out (λ (given : List ℕ × Status). given.0) (λ given. given.1) answer)
     (λ pit answer p. write-shown out (λ (given : List ℕ × Status). given.0) (λ given. given.1) answer told_out
-    (same_length answer.0 (check_text (value_of pit (held_period (writes_of p.2.schedule ∷ []))) p.2.checks.breach (shortfalls_of pit (held_period (writes_of p.2.schedule ∷ [])))) p.2.checks.text_is
-    (check_some (value_of pit (held_period (writes_of p.2.schedule ∷ []))) p.2.checks.breach (shortfalls_of pit (held_period (writes_of p.2.schedule ∷ []))))))
+    (same_length answer.0 (check_text (value_of pit (held_period (commit_of_schedule p.2.schedule ∷ []))) p.2.checks.breach (shortfalls_of pit (held_period (commit_of_schedule p.2.schedule ∷ [])))) p.2.checks.text_is
+    (check_some (value_of pit (held_period (commit_of_schedule p.2.schedule ∷ []))) p.2.checks.breach (shortfalls_of pit (held_period (commit_of_schedule p.2.schedule ∷ []))))))
     (λ answer. write-never_both out (λ (given : List ℕ × Status). given.0) (λ given. given.1) answer)

@@ -1,8 +1,7 @@
 -- The run of `check`.
 use Rattle.std.specs.Prelude.{◌≡◌, ℕ, List, [], ◌∷◌, Option}
-use Rattle.pit_num.specs.Fitting.{writes_of}
 use Rattle.pit_model.specs.Pit.{Pit}
-use Rattle.pit_plan.specs.Schedule.{Commit, held_period, value_of}
+use Rattle.pit_plan.specs.Schedule.{Commit, commit_of_schedule, held_period, value_of}
 use Rattle.pit_plan.specs.Breaches.{IsBreachOf}
 use Rattle.pit_plan.specs.Shortfalls.{shortfalls_of}
 use Rattle.pit_plan.specs.declared.breach.Breach.{Breach}
@@ -24,7 +23,7 @@ pub record Checks (pit : Pit) (commits : List Commit) (text : List ℕ) (status 
 pub record IsChecked (pit : Pit) (bytes : List ℕ) (answer : List ℕ × Status) : Type 0 where
   pub schedule : List (ℕ × ℕ)
   pub stands : IsSolutionOf pit bytes schedule
-  pub checks : Checks pit (writes_of schedule ∷ []) answer.0 answer.1
+  pub checks : Checks pit (commit_of_schedule schedule ∷ []) answer.0 answer.1
 
 -- the model, and then the precedences
 abbrev pub ordered_pit_step : Reading → Reading → Step (Unit {0}) Pit

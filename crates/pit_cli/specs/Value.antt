@@ -1,8 +1,7 @@
 -- The run of `value`.
 use Rattle.std.specs.Prelude.{◌≡◌, ℕ, List, [], ◌∷◌}
-use Rattle.pit_num.specs.Fitting.{writes_of}
 use Rattle.pit_model.specs.Pit.{Pit}
-use Rattle.pit_plan.specs.Schedule.{held_period, value_of}
+use Rattle.pit_plan.specs.Schedule.{commit_of_schedule, held_period, value_of}
 use Rattle.pit_cli.specs.declared.input.Input.TheVariants.{Solution}
 use Rattle.pit_cli.specs.declared.status.Status.{Status}
 use Rattle.pit_cli.specs.declared.status.Status.TheVariants.{Fine}
@@ -15,7 +14,7 @@ use Rattle.pit_cli.specs.Inputs.{IsSolutionOf, IsBadSolution, model_step}
 pub record IsValued (pit : Pit) (bytes text : List ℕ) : Type 0 where
   pub schedule : List (ℕ × ℕ)
   pub stands : IsSolutionOf pit bytes schedule
-  pub says : text ≡ value_text (value_of pit (held_period (writes_of schedule ∷ [])))
+  pub says : text ≡ value_text (value_of pit (held_period (commit_of_schedule schedule ∷ [])))
 
 abbrev pub value_step : Reading → Step Pit (List ℕ)
 value_step solution = input_step Solution solution IsValued IsBadSolution

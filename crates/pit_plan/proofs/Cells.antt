@@ -1,15 +1,16 @@
 -- Cells of the loads.
-use Rattle.std.proofs.Common.{◌≡◌, ℕ, suc, ◌+◌, ◌*◌, ◌<◌, Bool, true, false, ℤ, pos, ◌+ℤ◌, FitsSigned, List, length, take, get_or, Option, refl, sym, ap, subst, ◌∙◌, arith, inl, inr}
+use Rattle.std.proofs.Common.{◌≡◌, ℕ, zero, suc, ◌+◌, ◌*◌, ◌/◌, ◌%◌, ◌<◌, Bool, true, false, ℤ, pos, ◌+ℤ◌, FitsSigned, List, length, take, get_or, Option, refl, sym, ap, subst, ◌∙◌, arith, inl, inr}
 use Rattle.std.specs.Prelude.{nat_eq, slice_set, unwrap_or}
 use Rattle.std.specs.Int.{w128}
-use Rattle.std.proofs.Math.Nat.{mul-le-mul_right}
+use Rattle.std.proofs.Math.Nat.{mul-le-mul_right, mul-zero, mod-lt}
+use Rattle.std.proofs.lemmas.Nat.{div-add-mod'}
 use Rattle.std.proofs.lemmas.Int.{ints}
 use Rattle.std.proofs.lemmas.List.{get_or-set_same, get_or-set_other}
 use Rattle.std.proofs.lemmas.Bool.{cond-true, cond-false}
 use Rattle.std.proofs.lemmas.Bool.Decides.{leb_tells, eqb_tells}
 use Rattle.pit_model.specs.Pit.{Pit, coefs_of, cell_of}
 use Rattle.pit_plan.specs.Schedule.{coef_in, coef_of}
-use Rattle.pit_plan.specs.Totals.{cell_load, load_at, moved_by, Moves, MovesOne, Raises}
+use Rattle.pit_plan.specs.Totals.{cell_load, at_cell, moved_by, Moves, MovesOne, Raises}
 use Rattle.pit_plan.proofs.Named.{Once, absent-before, lookup-at, laid_over-more, same-eq, other-eq}
 
 -- another period or resource stands in another cell
@@ -27,6 +28,19 @@ cells_apart n r q t u lr lq e =
 pub same_resource : (n r q t u : ℕ) → t * n + r ≡ u * n + q → t ≡ u → q ≡ r
 same_resource n r q t u e same = omega (arith, subst (λ (k : ℕ). t * n + r ≡ k * n + q) (sym same) e)
 
+pub some-resource : (periods resources cell : ℕ) → cell < periods * resources → 0 < resources
+some-resource periods zero cell within = absurd (omega (arith, within, mul-zero periods))
+some-resource periods (suc n) cell within = omega arith
+
+-- each cell is that of a resource in a period
+pub place-known : (pit : Pit) (cell : ℕ) → cell < pit.periods * pit.resources
+    → (cell % pit.resources < pit.resources) × (cell / pit.resources < pit.periods) × (cell_of pit (cell % pit.resources) (cell / pit.resources) ≡ cell)
+place-known pit cell within =
+    let whole : cell / pit.resources * pit.resources + cell % pit.resources ≡ cell = div-add-mod' cell pit.resources in
+    let period : cell / pit.resources < pit.periods =
+    elim (leb_tells pit.periods (cell / pit.resources)) [ inl past ↦ absurd (omega (arith, mul-le-mul_right pit.resources past.1, whole, within)) | inr below ↦ below.1 ] in
+    (mod-lt cell (some-resource pit.periods pit.resources cell within), period, whole)
+
 -- one cell of a list is set
 pub raises-set : (loads : List ℤ) (cell : ℕ) (by : ℤ) → cell < length loads → Raises (cell_load loads) cell by (cell_load (slice_set loads cell (cell_load loads cell +ℤ by)))
 raises-set loads cell by within k =
@@ -38,7 +52,7 @@ raises-set loads cell by within k =
     ]
 
 -- the load of one cell is that of one resource in one period
-pub moves-one : (pit : Pit) (old new : ℕ → ℤ) (r t : ℕ) (by : ℤ) → r < pit.resources → Raises old (cell_of pit r t) by new → MovesOne pit.resources (load_at pit old) r t by (load_at pit new)
+pub moves-one : (pit : Pit) (old new : ℕ → ℤ) (r t : ℕ) (by : ℤ) → r < pit.resources → Raises old (cell_of pit r t) by new → MovesOne pit.resources (at_cell pit old) r t by (at_cell pit new)
 moves-one pit old new r t by lr raises = record {
   moved = raises (cell_of pit r t) ∙ cond-true _ _ _ (same-eq (cell_of pit r t) (cell_of pit r t) refl);
   others = λ q u lq apart.

@@ -6,6 +6,7 @@ pub mod Commits
 pub mod Slots
 pub mod Named
 pub mod Cells
+pub mod ByCell
 pub mod Moved
 pub mod Shorts
 pub mod Same

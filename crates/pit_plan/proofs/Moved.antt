@@ -15,7 +15,7 @@ use Rattle.pit_num.proofs.CallerLemmas.{factor_le}
 use Rattle.pit_plan.proofs.Bounds.{zero-within, product-within}
 use Rattle.pit_plan.specs.Sums.{total}
 use Rattle.pit_plan.specs.Schedule.{by_block, coef_in, coef_of, share, load_of, earned_in, value_of, is_in}
-use Rattle.pit_plan.specs.Totals.{cell_load, load_at, AreLoads, AreTotals, Tallied, IsTally, MovesIn, moved_by, with_block}
+use Rattle.pit_plan.specs.Totals.{cell_load, at_cell, AreLoads, AreTotals, Tallied, IsTally, MovesIn, moved_by, with_block}
 use Rattle.pit_plan.proofs.Named.{same-eq, other-eq}
 use Rattle.pit_plan.proofs.Sums.{total-same, total-more, total-nothing}
 use Rattle.pit_plan.proofs.Same.{same-load, same-value}
@@ -170,9 +170,9 @@ room-for pit s b None up loads sound below is are in_range = tt
 room-for pit s b (Some t) up loads sound below is are in_range = λ r lr. room pit s b t r up (loads r t) sound below is (are r t lr in_range)
 
 pub taken : (pit : Pit) (s : ℕ → Option ℕ) (b : ℕ) (p : Option ℕ) (old new : List ℤ) (sum less : ℤ) → b < pit.blocks → s b ≡ p → AreTotals pit s old sum
-    → MovesIn pit (load_at pit (cell_load old)) p (λ r. moved_by false (coef_of pit b r)) (load_at pit (cell_load new)) → less ≡ sum -ℤ earned_in pit b p → AreTotals pit (with_block s b None) new less
+    → MovesIn pit (at_cell pit (cell_load old)) p (λ r. moved_by false (coef_of pit b r)) (at_cell pit (cell_load new)) → less ≡ sum -ℤ earned_in pit b p → AreTotals pit (with_block s b None) new less
 taken pit s b p old new sum less below is are moves after = record {
-  each = shifted pit s b p false (load_at pit (cell_load old)) (load_at pit (cell_load new)) below is are.each moves;
+  each = shifted pit s b p false (at_cell pit (cell_load old)) (at_cell pit (cell_load new)) below is are.each moves;
   value = let changed = value-with pit s b None p below is in omega (arith, ints, changed, are.value, after);
 }
 
@@ -183,9 +183,9 @@ sum-out pit s b p sum sound below is kept =
     omega (arith, ints, changed, kept, small.low, small.high, sound.few_blocks)
 
 pub put : (pit : Pit) (s : ℕ → Option ℕ) (b : ℕ) (p : Option ℕ) (old new : List ℤ) (sum more : ℤ) → b < pit.blocks → s b ≡ None → AreTotals pit s old sum
-    → MovesIn pit (load_at pit (cell_load old)) p (λ r. moved_by true (coef_of pit b r)) (load_at pit (cell_load new)) → more ≡ sum +ℤ earned_in pit b p → AreTotals pit (with_block s b p) new more
+    → MovesIn pit (at_cell pit (cell_load old)) p (λ r. moved_by true (coef_of pit b r)) (at_cell pit (cell_load new)) → more ≡ sum +ℤ earned_in pit b p → AreTotals pit (with_block s b p) new more
 put pit s b p old new sum more below is are moves after = record {
-  each = shifted pit s b p true (load_at pit (cell_load old)) (load_at pit (cell_load new)) below is are.each moves;
+  each = shifted pit s b p true (at_cell pit (cell_load old)) (at_cell pit (cell_load new)) below is are.each moves;
   value = let changed = value-with pit s b p None below is in omega (arith, ints, changed, are.value, after);
 }
 

@@ -1,13 +1,16 @@
--- Schedules that agree on all blocks are alike.
+-- Schedules that agree on all blocks are alike, and limits that agree on all resources and periods.
 use Rattle.std.proofs.Common.{◌≡◌, ℕ, ◌<◌, cond, ℤ, pos, List, [], ◌∷◌, ◌++◌, Option, Some, None, sym, ap, subst, ◌∙◌}
 use Rattle.std.specs.Prelude.{unwrap_or}
 use Rattle.pit_num.specs.Least.{ComesBefore}
 use Rattle.pit_num.proofs.CallerLemmas.{least-same}
-use Rattle.pit_model.specs.Pit.{Pit, IsSound, upper_of, lower_of}
+use Rattle.pit_num.specs.Fitting.{RevisionsFit}
+use Rattle.pit_model.specs.Pit.{Pit, IsSound, lower_of}
 use Rattle.pit_plan.proofs.Sums.{total-same}
-use Rattle.pit_plan.specs.Schedule.{Commit, IsPred, by_block, coef_of, write_of, held_period, is_in, share, load_of, value_of, earned_in, in_order, is_within}
-use Rattle.pit_plan.specs.Standing.{Standing, StandsFor}
+use Rattle.pit_plan.specs.Schedule.{Commit, IsPred, by_block, coef_of, write_of, revision_of, held_period, limit_of, is_in, share, load_of, value_of, earned_in, in_order, is_within}
+use Rattle.pit_plan.specs.Standing.{Standing, StandsFor, limit_in_force}
 use Rattle.pit_plan.specs.Breaches.{IsFirstBreach, IsOrdered, IsOutOfOrder, IsOverLimit, IsBreachOf, IsGood, IsGoodNow}
+use Rattle.pit_plan.specs.Totals.{at_cell}
+use Rattle.pit_plan.specs.Limits.{cell_limit, by_cell}
 use Rattle.pit_plan.specs.Touched.{laid_over}
 use Rattle.pit_plan.specs.Shortfalls.{short_at, shorts_in, shortfalls_of}
 use Rattle.std.specs.List.{range_with_len}
@@ -16,7 +19,8 @@ use Rattle.pit_plan.specs.declared.breach.Breach.{Breach}
 use Rattle.pit_plan.specs.declared.breach.Breach.TheVariants.{Precedence, Over}
 use Rattle.pit_plan.proofs.Preds.{pred-known}
 use Rattle.pit_plan.proofs.Shorts.{flat_map-same}
-use Rattle.pit_plan.proofs.Commits.{held_period-push}
+use Rattle.pit_plan.proofs.Commits.{held_period-push, limit_of-push}
+use Rattle.pit_plan.proofs.ByCell.{lookup-cell}
 
 abbrev pub Agree : Pit → (ℕ → Option ℕ) → (ℕ → Option ℕ) → Type 0
 Agree pit s u = (b : ℕ) → b < pit.blocks → s b ≡ u b
@@ -67,22 +71,55 @@ same-breach pit s u lim (Some (Over resource period load top)) sound h f =
       limit_is = f.limit_is;
     }
 
--- what is found of a plan's periods is found of what its commits leave
+-- ---- limits that agree on all resources and periods
+
+abbrev pub AgreeOn : Pit → (ℕ → ℕ → Option ℤ) → (ℕ → ℕ → Option ℤ) → Type 0
+AgreeOn pit lim also = (r t : ℕ) → r < pit.resources → t < pit.periods → lim r t ≡ also r t
+
+over-by : (pit : Pit) (s : ℕ → Option ℕ) (lim also : ℕ → ℕ → Option ℤ) → AgreeOn pit lim also → (p : ℕ × ℕ) → IsOverLimit pit s lim p → IsOverLimit pit s also p
+over-by pit s lim also h p is = (is.0, is.1, ap (λ (l : Option ℤ). is_within (load_of pit s p.1 p.0) l) (sym (h p.1 p.0 is.1 is.0)) ∙ is.2)
+
+pub same-limits : (pit : Pit) (s : ℕ → Option ℕ) (lim also : ℕ → ℕ → Option ℤ) (x : Option Breach) → AgreeOn pit lim also → IsFirstBreach pit s lim x → IsFirstBreach pit s also x
+same-limits pit s lim also None h f = record {
+  ordered = f.ordered;
+  within = λ t r lt lr. ap (λ (l : Option ℤ). is_within (load_of pit s r t) l) (sym (h r t lr lt)) ∙ f.within t r lt lr;
+}
+same-limits pit s lim also (Some (Precedence block before)) h f = f
+same-limits pit s lim also (Some (Over resource period load top)) h f = record {
+  ordered = f.ordered;
+  least = least-same ComesBefore (IsOverLimit pit s lim) (IsOverLimit pit s also) (Some (period, resource)) f.least (over-by pit s lim also h) (over-by pit s also lim (λ r t lr lt. sym (h r t lr lt)));
+  load_is = f.load_is;
+  limit_is = sym (h resource period f.least.passes.1 f.least.passes.0) ∙ f.limit_is;
+}
+
+-- ---- what is found of a plan
+
+-- what is found of its periods and its limits is found of what its commits leave
 pub breach-of : (inside plan : Standing) (periods : List (Option ℕ)) (x : Option Breach) → inside ≡ plan → periods ≡ inside.periods → IsSound inside.pit
-    → IsFirstBreach inside.pit (by_block periods) (upper_of inside.pit) x → (commits : List Commit) → StandsFor plan commits → IsBreachOf plan.pit commits x
+    → IsFirstBreach inside.pit (by_block periods) (limit_in_force inside) x → (commits : List Commit) → StandsFor plan commits → IsBreachOf plan.pit commits x
 breach-of inside plan periods x is same sound first commits =
     subst (λ (p : Standing). StandsFor p commits → IsBreachOf p.pit commits x) is
-    (λ st. same-breach inside.pit (by_block inside.periods) (held_period commits) (upper_of inside.pit) x sound st.period (subst (λ (ps : List (Option ℕ)). IsFirstBreach inside.pit (by_block ps) (upper_of inside.pit) x) same first))
+    (λ st. same-limits inside.pit (held_period commits) (limit_in_force inside) (limit_of inside.pit commits) x st.limit
+    (same-breach inside.pit (by_block inside.periods) (held_period commits) (limit_in_force inside) x sound st.period
+    (subst (λ (ps : List (Option ℕ)). IsFirstBreach inside.pit (by_block ps) (limit_in_force inside) x) same first)))
 
--- and what is found of these with writes laid over them, where they are good, is found of what its commits and the writes leave
-pub breach-after : (inside plan : Standing) (w : Commit) (x : Option Breach) → inside ≡ plan → IsSound inside.pit
-    → (IsGood inside.pit (by_block inside.periods) (upper_of inside.pit) → IsFirstBreach inside.pit (laid_over (by_block inside.periods) w) (upper_of inside.pit) x)
+-- and what is found of these with a commit laid over them, where they are good, is found of what its commits and that one leave
+pub breach-after : (inside plan : Standing) (w : Commit) (x : Option Breach) → inside ≡ plan → IsSound inside.pit → RevisionsFit inside.pit.resources inside.pit.periods w.revises
+    → (IsGood inside.pit (by_block inside.periods) (limit_in_force inside)
+    → IsFirstBreach inside.pit (laid_over (by_block inside.periods) w.writes) (at_cell inside.pit (laid_over (cell_limit inside.limits) (by_cell inside.pit w.revises))) x)
     → IsGoodNow plan → (commits : List Commit) → StandsFor plan commits → IsBreachOf plan.pit (commits ++ w ∷ []) x
-breach-after inside plan w x is sound first good commits =
+breach-after inside plan w x is sound fit first good commits =
     subst (λ (p : Standing). IsGoodNow p → StandsFor p commits → IsBreachOf p.pit (commits ++ w ∷ []) x) is
-    (λ now st. same-breach inside.pit (laid_over (by_block inside.periods) w) (held_period (commits ++ w ∷ [])) (upper_of inside.pit) x sound
+    (λ now st. same-limits inside.pit (held_period (commits ++ w ∷ [])) after (limit_of inside.pit (commits ++ w ∷ [])) x
+    (λ r t lr lt. ap (λ (l : Option (Option ℤ)). unwrap_or l (limit_in_force inside r t)) (lookup-cell inside.pit r t w.revises lr fit)
+    ∙ (ap (unwrap_or (revision_of w r t)) (st.limit r t lr lt) ∙ sym (limit_of-push inside.pit commits w r t)))
+    (same-breach inside.pit (laid_over (by_block inside.periods) w.writes) (held_period (commits ++ w ∷ [])) after x sound
     (λ b below. ap (unwrap_or (write_of w b)) (st.period b below) ∙ sym (held_period-push commits w b))
-    (first (same-breach inside.pit (held_period commits) (by_block inside.periods) (upper_of inside.pit) None sound (λ b below. sym (st.period b below)) (now commits st)))) good
+    (first (same-limits inside.pit (by_block inside.periods) (limit_of inside.pit commits) (limit_in_force inside) None (λ r t lr lt. sym (st.limit r t lr lt))
+    (same-breach inside.pit (held_period commits) (by_block inside.periods) (limit_of inside.pit commits) None sound (λ b below. sym (st.period b below)) (now commits st)))))) good
+  where
+    after : ℕ → ℕ → Option ℤ
+    after = at_cell inside.pit (laid_over (cell_limit inside.limits) (by_cell inside.pit w.revises))
 
 pub load-of : (inside plan : Standing) (periods : List (Option ℕ)) (r t : ℕ) (load : ℤ) → inside ≡ plan → periods ≡ inside.periods → load ≡ load_of inside.pit (by_block periods) r t
     → (commits : List Commit) → StandsFor plan commits → load ≡ load_of plan.pit (held_period commits) r t

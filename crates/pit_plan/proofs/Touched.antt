@@ -1,8 +1,8 @@
 -- What writes touch, and that nothing else changes.
-use Rattle.std.proofs.Common.{◌≡◌, ℕ, zero, suc, ◌+◌, ◌*◌, ◌/◌, ◌%◌, ◌<◌, ◌≤◌, ◌⊎◌, true, false, cond, ℤ, pos, ◌+ℤ◌, List, Option, Some, None, length, take, get_or, refl, sym, ap, subst, ◌∙◌, arith, inl, inr}
+use Rattle.std.proofs.Common.{◌≡◌, ℕ, zero, suc, ◌+◌, ◌*◌, ◌/◌, ◌%◌, ◌<◌, ◌≤◌, ◌⊎◌, true, false, cond, ℤ, pos, ◌+ℤ◌, List, [], Option, Some, None, length, take, get_or, refl, sym, ap, subst, ◌∙◌, arith, inl, inr}
 use Rattle.std.specs.Prelude.{nat_eq, unwrap_or, is_some}
 use Rattle.std.specs.Map.{lookup}
-use Rattle.std.proofs.lemmas.Bool.{cond-false, cases_Bool, true≢false}
+use Rattle.std.proofs.lemmas.Bool.{cond-true, cond-false, cases_Bool, true≢false}
 use Rattle.std.proofs.lemmas.Bool.Decides.{leb_tells, eqb_tells}
 use Rattle.std.proofs.lemmas.Option.{same_Some}
 use Rattle.std.proofs.lemmas.Nat.{div-add-mod'}
@@ -12,23 +12,19 @@ use Rattle.std.specs.Prelude.{IfNone, IfSome}
 use Rattle.pit_num.specs.Least.{ComesBefore, IsLeast, IsLeastOf}
 use Rattle.pit_num.proofs.CallerLemmas.{least-same}
 use Rattle.pit_model.specs.Pit.{Pit, cell_of}
-use Rattle.pit_plan.specs.Schedule.{Commit, by_block, load_of, write_of, in_order, is_within}
-use Rattle.pit_plan.specs.Totals.{Tallied, IsTally, AreLoads, Raises, cell_load, with_block}
-use Rattle.pit_plan.specs.Touched.{laid_over, lesser_of, IsNamed, IsOutNear, IsOverAt, IsLeastOver, AreMoved}
+use Rattle.pit_plan.specs.Schedule.{Writes, by_block, load_of, in_order, is_within}
+use Rattle.pit_plan.specs.Totals.{Tallied, IsTally, AreLoads, Raises, cell_load, at_cell, with_block}
+use Rattle.pit_plan.specs.Touched.{laid_over, lesser_of, IsNamed, IsOutNear, IsOverAt, IsLeastOver, AreMoved, SetsCell, LooksAt}
 use Rattle.pit_plan.specs.Breaches.{IsOrdered, IsUnderLimits, IsOutOfOrder, IsOverLimit, IsFirstBreach}
 use Rattle.pit_plan.specs.declared.breach.Breach.TheVariants.{Precedence, Over}
 use Rattle.pit_plan.specs.declared.breach.Breach.{Breach}
 use Rattle.pit_plan.proofs.Least.{least-lesser}
 use Rattle.pit_plan.proofs.Good.{within-from_none}
 use Rattle.pit_plan.proofs.Same.{same-load}
-use Rattle.pit_plan.proofs.Named.{Once, absent-before, laid_over-more, named-keeps, named-own, named-before}
-use Rattle.pit_plan.proofs.Cells.{cells_apart, same_resource}
+use Rattle.pit_plan.proofs.Named.{Once, absent-before, laid_over-more, named-keeps, named-own, named-before, same-eq}
+use Rattle.pit_plan.proofs.Cells.{cells_apart, same_resource, some-resource, place-known}
 
 -- ---- a cell that is set
-
--- the cells with one of them set
-abbrev pub SetsCell : List (ℕ × ℤ) → ℕ → ℤ → List (ℕ × ℤ) → Type 0
-SetsCell cells cell load new = (k : ℕ) → lookup (nat_eq k) new ≡ cond (nat_eq cell k) (Some load) (lookup (nat_eq k) cells)
 
 pub raises-cell : (kept : ℕ → ℤ) (cells new : List (ℕ × ℤ)) (cell : ℕ) (by : ℤ) → SetsCell cells cell (laid_over kept cells cell +ℤ by) new → Raises (laid_over kept cells) cell by (laid_over kept new)
 raises-cell kept cells new cell by sets k =
@@ -48,13 +44,13 @@ named-set cells new cell n load sets below each k is =
 -- ---- a write more
 
 -- the block of the next write has the period that it had
-pub laid_over-next : (periods : List (Option ℕ)) (writes : Commit) (k : ℕ) → Once writes → k < length writes
+pub laid_over-next : (periods : List (Option ℕ)) (writes : Writes) (k : ℕ) → Once writes → k < length writes
     → laid_over (by_block periods) (take k writes) (get_or writes k (0, None)).0 ≡ by_block periods (get_or writes k (0, None)).0
 laid_over-next periods writes k once within =
     ap (λ (x : Option (Option ℕ)). unwrap_or x (by_block periods (get_or writes k (0, None)).0)) (absent-before writes k (0, None) once within)
 
 -- once its block is out of that and in its new one, the loads are those after the write
-pub loads-next : (pit : Pit) (periods : List (Option ℕ)) (writes : Commit) (k : ℕ) (loads : ℕ → ℕ → ℤ) → Once writes → k < length writes
+pub loads-next : (pit : Pit) (periods : List (Option ℕ)) (writes : Writes) (k : ℕ) (loads : ℕ → ℕ → ℤ) → Once writes → k < length writes
     → AreLoads pit (with_block (with_block (laid_over (by_block periods) (take k writes)) (get_or writes k (0, None)).0 None) (get_or writes k (0, None)).0 (get_or writes k (0, None)).1) loads
     → AreLoads pit (laid_over (by_block periods) (take (k + 1) writes)) loads
 loads-next pit periods writes k loads once within are = λ r t lr lt. are r t lr lt ∙ same-load pit _ (laid_over (by_block periods) (take (k + 1) writes)) r t (λ x _. sym (laid_over-more (by_block periods) writes k x (0, None) once within ∙ sym (twice x)))
@@ -70,7 +66,7 @@ loads-next pit periods writes k loads once within are = λ r t lr lt. are r t lr
 -- ---- pairs that are out of order
 
 -- one more written block brings the pairs that it is of
-pub out-next : (pit : Pit) (s : ℕ → Option ℕ) (writes : Commit) (k w : ℕ) (least before behind : Option (ℕ × ℕ)) → k < length writes → w ≡ (get_or writes k (0, None)).0
+pub out-next : (pit : Pit) (s : ℕ → Option ℕ) (writes : Writes) (k w : ℕ) (least before behind : Option (ℕ × ℕ)) → k < length writes → w ≡ (get_or writes k (0, None)).0
     → IsLeast ComesBefore (IsOutNear pit s (take k writes)) least
     → IsLeast ComesBefore (λ p. IsOutOfOrder pit s p × (p.0 ≡ w)) before → IsLeast ComesBefore (λ p. IsOutOfOrder pit s p × (p.1 ≡ w)) behind
     → IsLeast ComesBefore (IsOutNear pit s (take (k + 1) writes)) (lesser_of (lesser_of least before) behind)
@@ -99,12 +95,12 @@ laid_over-absent {X = X} before pairs k none = by (lookup (nat_eq k) pairs) none
     by (Some v) e = absurd (true≢false e)
 
 -- where no block is written no pair is out of order that wasn't
-near-out : (pit : Pit) (s : ℕ → Option ℕ) (writes : Commit) (p : ℕ × ℕ) → IsOrdered pit s → IsOutOfOrder pit (laid_over s writes) p → IsOutNear pit (laid_over s writes) writes p
+near-out : (pit : Pit) (s : ℕ → Option ℕ) (writes : Writes) (p : ℕ × ℕ) → IsOrdered pit s → IsOutOfOrder pit (laid_over s writes) p → IsOutNear pit (laid_over s writes) writes p
 near-out pit s writes p ordered out =
-    elim (cases_Bool (is_some (write_of writes p.0))) [
+    elim (cases_Bool (is_some (lookup (nat_eq p.0) writes))) [
       | inl named ↦ (out, inl named)
       | inr kept ↦
-          elim (cases_Bool (is_some (write_of writes p.1))) [
+          elim (cases_Bool (is_some (lookup (nat_eq p.1) writes))) [
             | inl named ↦ (out, inr named)
             | inr also ↦
                 let old : in_order (s p.0) (s p.1) ≡ false =
@@ -115,16 +111,12 @@ near-out pit s writes p ordered out =
     ]
 
 -- so the least of the pairs near the writes is the least of all
-pub least-after : (pit : Pit) (s : ℕ → Option ℕ) (writes : Commit) (found : Option (ℕ × ℕ)) → IsOrdered pit s → IsLeast ComesBefore (IsOutNear pit (laid_over s writes) writes) found
+pub least-after : (pit : Pit) (s : ℕ → Option ℕ) (writes : Writes) (found : Option (ℕ × ℕ)) → IsOrdered pit s → IsLeast ComesBefore (IsOutNear pit (laid_over s writes) writes) found
     → IsLeast ComesBefore (IsOutOfOrder pit (laid_over s writes)) found
 least-after pit s writes found ordered least =
     least-same ComesBefore (IsOutNear pit (laid_over s writes) writes) (IsOutOfOrder pit (laid_over s writes)) found least (λ p near. near.0) (λ p out. near-out pit s writes p ordered out)
 
 -- ---- cells
-
-some-resource : (periods resources cell : ℕ) → cell < periods * resources → 0 < resources
-some-resource periods zero cell within = absurd (omega (arith, within, mul-zero periods))
-some-resource periods (suc n) cell within = omega arith
 
 -- the period and the resource of a cell
 place : (pit : Pit) (cell x y : ℕ) → cell < pit.periods * pit.resources → y < pit.resources → cell_of pit y x ≡ cell → (x ≡ cell / pit.resources) × (y ≡ cell % pit.resources)
@@ -135,44 +127,32 @@ place pit cell x y within ly is =
     (same, same_resource pit.resources (cell % pit.resources) y (cell / pit.resources) x (whole ∙ sym is) (sym same))
 
 -- a cell whose load is within its limit is not over it
-pub cell-within : (pit : Pit) (lim : ℕ → ℕ → Option ℤ) (cells : List (ℕ × ℤ)) (cell m n : ℕ) (load limit : ℤ) → m ≡ pit.resources → n ≡ pit.resources → cell < pit.periods * pit.resources
-    → lookup (nat_eq cell) cells ≡ Some load → lim (cell % n) (cell / m) ≡ Some limit → is_within load (Some limit) ≡ true → (p : ℕ × ℕ) → IsOverAt pit lim cells p → cell_of pit p.1 p.0 ≡ cell → ⊥
-cell-within pit lim cells cell m n load limit m_is n_is within at upper fits p over is =
-    let there = place pit cell p.0 p.1 within over.1 is in
+pub cell-within : (pit : Pit) (limits : ℕ → Option ℤ) (cells : List (ℕ × ℤ)) (cell : ℕ) (load limit : ℤ) → lookup (nat_eq cell) cells ≡ Some load → limits cell ≡ Some limit
+    → is_within load (Some limit) ≡ true → (p : ℕ × ℕ) → IsOverAt pit (at_cell pit limits) cells p → cell_of pit p.1 p.0 ≡ cell → ⊥
+cell-within pit limits cells cell load limit at upper fits p over is =
     let same : over.2.0 ≡ load = same_Some _ _ (sym over.2.1 ∙ (ap (λ (k : ℕ). lookup (nat_eq k) cells) is ∙ at)) in
-    let limit_is : lim p.1 p.0 ≡ Some limit = rw (there.0, there.1) (subst (λ (k : ℕ). lim (cell % pit.resources) (cell / k) ≡ Some limit) m_is (subst (λ (k : ℕ). lim (cell % k) (cell / m) ≡ Some limit) n_is upper)) in
+    let limit_is : at_cell pit limits p.1 p.0 ≡ Some limit = ap limits is ∙ upper in
     true≢false (sym fits ∙ (ap (λ (z : ℤ). is_within z (Some limit)) (sym same) ∙ (ap (λ (l : Option ℤ). is_within over.2.0 l) (sym limit_is) ∙ over.2.2)))
 
 -- nor is one that has no limit
-pub cell-unlimited : (pit : Pit) (lim : ℕ → ℕ → Option ℤ) (cells : List (ℕ × ℤ)) (cell m n : ℕ) → m ≡ pit.resources → n ≡ pit.resources → cell < pit.periods * pit.resources
-    → lim (cell % n) (cell / m) ≡ None → (p : ℕ × ℕ) → IsOverAt pit lim cells p → cell_of pit p.1 p.0 ≡ cell → ⊥
-cell-unlimited pit lim cells cell m n m_is n_is within upper p over is =
-    let there = place pit cell p.0 p.1 within over.1 is in
-    let limit_is : lim p.1 p.0 ≡ None = rw (there.0, there.1) (subst (λ (k : ℕ). lim (cell % pit.resources) (cell / k) ≡ None) m_is (subst (λ (k : ℕ). lim (cell % k) (cell / m) ≡ None) n_is upper)) in
+pub cell-unlimited : (pit : Pit) (limits : ℕ → Option ℤ) (cells : List (ℕ × ℤ)) (cell : ℕ) → limits cell ≡ None → (p : ℕ × ℕ) → IsOverAt pit (at_cell pit limits) cells p → cell_of pit p.1 p.0 ≡ cell → ⊥
+cell-unlimited pit limits cells cell upper p over is =
+    let limit_is : at_cell pit limits p.1 p.0 ≡ None = ap limits is ∙ upper in
     true≢false (ap (λ (l : Option ℤ). is_within over.2.0 l) (sym limit_is) ∙ over.2.2)
 
 -- and one whose load is above its limit is
-pub cell-over : (pit : Pit) (lim : ℕ → ℕ → Option ℤ) (cells : List (ℕ × ℤ)) (cell m n : ℕ) (load limit : ℤ) → m ≡ pit.resources → n ≡ pit.resources → cell < pit.periods * pit.resources
-    → lookup (nat_eq cell) cells ≡ Some load → lim (cell % n) (cell / m) ≡ Some limit → is_within load (Some limit) ≡ false
-    → IsLeastOf ComesBefore (λ p. IsOverAt pit lim cells p × (cell_of pit p.1 p.0 ≡ cell)) (cell / m, cell % n)
-cell-over pit lim cells cell m n load limit m_is n_is within at upper fails = rw (m_is, n_is) (record {
-  passes = ((period, mod-lt cell some, (load, ap (λ (k : ℕ). lookup (nat_eq k) cells) whole ∙ at, over)), whole);
+pub cell-over : (pit : Pit) (limits : ℕ → Option ℤ) (cells : List (ℕ × ℤ)) (cell m n : ℕ) (load limit : ℤ) → m ≡ pit.resources → n ≡ pit.resources → cell < pit.periods * pit.resources
+    → lookup (nat_eq cell) cells ≡ Some load → limits cell ≡ Some limit → is_within load (Some limit) ≡ false
+    → IsLeastOf ComesBefore (λ p. IsOverAt pit (at_cell pit limits) cells p × (cell_of pit p.1 p.0 ≡ cell)) (cell / m, cell % n)
+cell-over pit limits cells cell m n load limit m_is n_is within at upper fails = rw (m_is, n_is) (record {
+  passes = ((known.1, known.0, (load, ap (λ (k : ℕ). lookup (nat_eq k) cells) known.2 ∙ at, ap (is_within load) (ap limits known.2 ∙ upper) ∙ fails)), known.2);
   first = λ p is before.
       let there = place pit cell p.0 p.1 within is.0.1 is.1 in
       elim before [ inl less ↦ omega (arith, less, there.0) | inr same ↦ omega (arith, same.1, there.1) ];
 })
   where
-    some : 0 < pit.resources
-    some = some-resource pit.periods pit.resources cell within
-
-    whole : cell / pit.resources * pit.resources + cell % pit.resources ≡ cell
-    whole = div-add-mod' cell pit.resources
-
-    period : cell / pit.resources < pit.periods
-    period = elim (leb_tells pit.periods (cell / pit.resources)) [ inl past ↦ absurd (omega (arith, mul-le-mul_right pit.resources past.1, whole, within)) | inr below ↦ below.1 ]
-
-    over : is_within load (lim (cell % pit.resources) (cell / pit.resources)) ≡ false
-    over = ap (λ (l : Option ℤ). is_within load l) (subst (λ (k : ℕ). lim (cell % pit.resources) (cell / k) ≡ Some limit) m_is (subst (λ (k : ℕ). lim (cell % k) (cell / m) ≡ Some limit) n_is upper)) ∙ fails
+    known : (cell % pit.resources < pit.resources) × (cell / pit.resources < pit.periods) × (cell_of pit (cell % pit.resources) (cell / pit.resources) ≡ cell)
+    known = place-known pit cell within
 
 -- one more cell
 pub over-next-cell : (pit : Pit) (lim : ℕ → ℕ → Option ℤ) (cells : List (ℕ × ℤ)) (i : ℕ) (least found : Option (ℕ × ℕ)) → i < length cells
@@ -196,14 +176,18 @@ over-all-cells pit lim cells n least whole is =
 -- ---- the loads that the writes leave
 
 -- the load of a cell that was moved is that of the schedule after the writes
-cell-load : (pit : Pit) (tally : Tallied) (writes : Commit) (kept : List ℤ) (cells : List (ℕ × ℤ)) (r t : ℕ) (load : ℤ) → AreMoved pit tally writes kept cells → r < pit.resources → t < pit.periods
+cell-load : (pit : Pit) (tally : Tallied) (writes : Writes) (kept : List ℤ) (cells : List (ℕ × ℤ)) (r t : ℕ) (load : ℤ) → AreMoved pit tally writes kept cells → r < pit.resources → t < pit.periods
     → lookup (nat_eq (cell_of pit r t)) cells ≡ Some load → load ≡ load_of pit (laid_over (by_block tally.periods) writes) r t
 cell-load pit tally writes kept cells r t load moved lr lt at = ap (λ (x : Option ℤ). unwrap_or x (cell_load kept (cell_of pit r t))) (sym at) ∙ moved.loads r t lr lt
 
--- a load that is above its limit was moved
-over-cell : (pit : Pit) (tally : Tallied) (writes : Commit) (kept : List ℤ) (cells : List (ℕ × ℤ)) (lim : ℕ → ℕ → Option ℤ) (p : ℕ × ℕ) → IsTally pit tally → AreMoved pit tally writes kept cells
-    → IsUnderLimits pit (by_block tally.periods) lim → IsOverLimit pit (laid_over (by_block tally.periods) writes) lim p → IsOverAt pit lim cells p
-over-cell pit tally writes kept cells lim p is moved under over = by (lookup (nat_eq (cell_of pit p.1 p.0)) cells) refl
+-- the limits are as before but for cells that are among those that are moved
+abbrev pub IsRevisedAt : Pit → (ℕ → ℕ → Option ℤ) → (ℕ → ℕ → Option ℤ) → List (ℕ × ℤ) → Type 0
+IsRevisedAt pit old lim cells = (r t : ℕ) → lookup (nat_eq (cell_of pit r t)) cells ≡ None → lim r t ≡ old r t
+
+-- a load that is above its limit was moved, or its limit revised
+over-cell : (pit : Pit) (tally : Tallied) (writes : Writes) (kept : List ℤ) (cells : List (ℕ × ℤ)) (old lim : ℕ → ℕ → Option ℤ) (p : ℕ × ℕ) → IsTally pit tally → AreMoved pit tally writes kept cells
+    → IsRevisedAt pit old lim cells → IsUnderLimits pit (by_block tally.periods) old → IsOverLimit pit (laid_over (by_block tally.periods) writes) lim p → IsOverAt pit lim cells p
+over-cell pit tally writes kept cells old lim p is moved revised under over = by (lookup (nat_eq (cell_of pit p.1 p.0)) cells) refl
   where
     by : (x : Option ℤ) → lookup (nat_eq (cell_of pit p.1 p.0)) cells ≡ x → IsOverAt pit lim cells p
     by (Some load) e = (over.0, over.1, (load, e, ap (λ (z : ℤ). is_within z (lim p.1 p.0)) (cell-load pit tally writes kept cells p.1 p.0 load moved over.1 over.0 e) ∙ over.2))
@@ -212,30 +196,92 @@ over-cell pit tally writes kept cells lim p is moved under over = by (lookup (na
         sym (is.totals.each p.1 p.0 over.1 over.0)
         ∙ (ap (λ (loads : List ℤ). cell_load loads (cell_of pit p.1 p.0)) (sym moved.same)
         ∙ (ap (λ (x : Option ℤ). unwrap_or x (cell_load kept (cell_of pit p.1 p.0))) (sym e) ∙ moved.loads p.1 p.0 over.1 over.0)) in
-        absurd (true≢false (sym (under p.0 p.1 over.0 over.1) ∙ (ap (λ (z : ℤ). is_within z (lim p.1 p.0)) loads ∙ over.2)))
+        let limit_is = ap (λ (l : Option ℤ). is_within (load_of pit (by_block tally.periods) p.1 p.0) l) (sym (revised p.1 p.0 e)) in
+        absurd (true≢false (sym (under p.0 p.1 over.0 over.1) ∙ (limit_is ∙ (ap (λ (z : ℤ). is_within z (lim p.1 p.0)) loads ∙ over.2))))
 
 -- so the least of the moved cells is the least load of all that is above its limit
-over-after : (pit : Pit) (tally : Tallied) (writes : Commit) (kept : List ℤ) (cells : List (ℕ × ℤ)) (lim : ℕ → ℕ → Option ℤ) (found : Option (ℕ × ℕ)) → IsTally pit tally → AreMoved pit tally writes kept cells
-    → IsUnderLimits pit (by_block tally.periods) lim → IsLeast ComesBefore (IsOverAt pit lim cells) found
+over-after : (pit : Pit) (tally : Tallied) (writes : Writes) (kept : List ℤ) (cells : List (ℕ × ℤ)) (old lim : ℕ → ℕ → Option ℤ) (found : Option (ℕ × ℕ)) → IsTally pit tally → AreMoved pit tally writes kept cells
+    → IsRevisedAt pit old lim cells → IsUnderLimits pit (by_block tally.periods) old → IsLeast ComesBefore (IsOverAt pit lim cells) found
     → IsLeast ComesBefore (IsOverLimit pit (laid_over (by_block tally.periods) writes) lim) found
-over-after pit tally writes kept cells lim found is moved under least =
+over-after pit tally writes kept cells old lim found is moved revised under least =
     least-same ComesBefore (IsOverAt pit lim cells) (IsOverLimit pit (laid_over (by_block tally.periods) writes) lim) found least
     (λ p over. (over.0, over.1, ap (λ (z : ℤ). is_within z (lim p.1 p.0)) (sym (cell-load pit tally writes kept cells p.1 p.0 over.2.0 moved over.1 over.0 over.2.1)) ∙ over.2.2))
-    (λ p over. over-cell pit tally writes kept cells lim p is moved under over)
+    (λ p over. over-cell pit tally writes kept cells old lim p is moved revised under over)
+
+-- ---- cells that are revised
+
+-- loads that are looked at at the revised cells are those that the writes leave
+pub moved-looked : (pit : Pit) (tally : Tallied) (writes : Writes) (revised : List (ℕ × Option ℤ)) (kept new_kept : List ℤ) (cells new : List (ℕ × ℤ)) → AreMoved pit tally writes kept cells
+    → LooksAt revised kept cells new_kept new → AreMoved pit tally writes new_kept new
+moved-looked pit tally writes revised kept new_kept cells new moved looks = record {
+  same = looks.same ∙ moved.same;
+  loads = λ r t lr lt. ap (λ (ks : List ℤ). laid_over (cell_load ks) new (cell_of pit r t)) looks.same ∙ (looks.loads (cell_of pit r t) ∙ moved.loads r t lr lt);
+  in_range = λ k is. subst (λ (ks : List ℤ). k < length ks) (sym looks.same) (looks.in_range k is);
+}
+
+-- a cell that isn't looked at has the limit that it had
+pub revised-looked : (pit : Pit) (limits : ℕ → Option ℤ) (revised : List (ℕ × Option ℤ)) (cells : List (ℕ × ℤ)) → ((k : ℕ) → IsNamed revised k → IsNamed cells k)
+    → IsRevisedAt pit (at_cell pit limits) (at_cell pit (laid_over limits revised)) cells
+revised-looked pit limits revised cells named r t none =
+    elim (cases_Bool (is_some (lookup (nat_eq (cell_of pit r t)) revised))) [
+      | inl is ↦ absurd (true≢false (sym (named (cell_of pit r t) is) ∙ ap (λ (x : Option ℤ). is_some x) none))
+      | inr absent ↦ laid_over-absent limits revised (cell_of pit r t) absent
+    ]
+
+pub looks-none : (kept : List ℤ) (cells : List (ℕ × ℤ)) → ((k : ℕ) → IsNamed cells k → k < length kept) → LooksAt [] kept cells kept cells
+looks-none kept cells below = record {
+  same = refl;
+  loads = λ k. refl;
+  named = λ k is. absurd (cc (is));
+  in_range = below;
+}
+
+-- one more revised cell is looked at
+pub looks-more : (revised : List (ℕ × Option ℤ)) (i : ℕ) (d : ℕ × Option ℤ) (kept now_kept new_kept : List ℤ) (cells now new : List (ℕ × ℤ)) → i < length revised → (get_or revised i d).0 < length kept
+    → LooksAt (take i revised) kept cells now_kept now → new_kept ≡ now_kept → SetsCell now (get_or revised i d).0 (laid_over (cell_load now_kept) now (get_or revised i d).0) new
+    → LooksAt (take (i + 1) revised) kept cells new_kept new
+looks-more revised i d kept now_kept new_kept cells now new within below looks stays sets = record {
+  same = stays ∙ looks.same;
+  loads = λ k. same-load-at k ∙ looks.loads k;
+  named = λ k is. elim (named-before revised i k d within is) [
+    | inl before ↦ kept-named k (looks.named k before)
+    | inr here ↦ ap (λ (x : Option ℤ). is_some x) (sets k ∙ cond-true _ _ _ (same-eq (get_or revised i d).0 k (sym here)))
+  ];
+  in_range = named-set now new (get_or revised i d).0 (length kept) _ sets below looks.in_range;
+}
+  where
+    at : ℕ
+    at = (get_or revised i d).0
+
+    same-load-at : (k : ℕ) → laid_over (cell_load kept) new k ≡ laid_over (cell_load kept) now k
+    same-load-at k =
+        elim (eqb_tells at k) [
+          | inl here ↦
+              ap (λ (x : Option ℤ). unwrap_or x (cell_load kept k)) (sets k ∙ cond-true _ _ _ here.0)
+              ∙ (ap (λ (ks : List ℤ). laid_over (cell_load ks) now at) looks.same ∙ ap (λ (n : ℕ). laid_over (cell_load kept) now n) here.1)
+          | inr there ↦ ap (λ (x : Option ℤ). unwrap_or x (cell_load kept k)) (sets k ∙ cond-false _ _ _ there.0)
+        ]
+
+    kept-named : (k : ℕ) → IsNamed now k → IsNamed new k
+    kept-named k is =
+        elim (eqb_tells at k) [
+          | inl here ↦ ap (λ (x : Option ℤ). is_some x) (sets k ∙ cond-true _ _ _ here.0)
+          | inr there ↦ ap (λ (x : Option ℤ). is_some x) (sets k ∙ cond-false _ _ _ there.0) ∙ is
+        ]
 
 -- ---- the first breach that the writes leave
 
-pub over-found : (pit : Pit) (tally : Tallied) (writes : Commit) (kept : List ℤ) (cells : List (ℕ × ℤ)) (lim : ℕ → ℕ → Option ℤ) (found : Option Breach) → IsTally pit tally → AreMoved pit tally writes kept cells
-    → IsUnderLimits pit (by_block tally.periods) lim → IsOrdered pit (laid_over (by_block tally.periods) writes)
+pub over-found : (pit : Pit) (tally : Tallied) (writes : Writes) (kept : List ℤ) (cells : List (ℕ × ℤ)) (old lim : ℕ → ℕ → Option ℤ) (found : Option Breach) → IsTally pit tally → AreMoved pit tally writes kept cells
+    → IsRevisedAt pit old lim cells → IsUnderLimits pit (by_block tally.periods) old → IsOrdered pit (laid_over (by_block tally.periods) writes)
     → IfNone found (IsLeast ComesBefore (IsOverAt pit lim cells) None) → IfSome found (IsLeastOver pit lim cells) → IsFirstBreach pit (laid_over (by_block tally.periods) writes) lim found
-over-found pit tally writes kept cells lim None is moved under ordered none some = record {
+over-found pit tally writes kept cells old lim None is moved revised under ordered none some = record {
   ordered = ordered;
-  within = within-from_none pit (laid_over (by_block tally.periods) writes) lim (over-after pit tally writes kept cells lim None is moved under none);
+  within = within-from_none pit (laid_over (by_block tally.periods) writes) lim (over-after pit tally writes kept cells old lim None is moved revised under none);
 }
-over-found pit tally writes kept cells lim (Some (Precedence block before)) is moved under ordered none some = absurd some
-over-found pit tally writes kept cells lim (Some (Over r t load top)) is moved under ordered none some = record {
+over-found pit tally writes kept cells old lim (Some (Precedence block before)) is moved revised under ordered none some = absurd some
+over-found pit tally writes kept cells old lim (Some (Over r t load top)) is moved revised under ordered none some = record {
   ordered = ordered;
-  least = over-after pit tally writes kept cells lim (Some (t, r)) is moved under some.0;
+  least = over-after pit tally writes kept cells old lim (Some (t, r)) is moved revised under some.0;
   load_is = cell-load pit tally writes kept cells r t load moved some.0.passes.1 some.0.passes.0 some.1;
   limit_is = some.2;
 }

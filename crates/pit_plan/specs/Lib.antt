@@ -4,6 +4,7 @@ pub mod Standing
 pub mod Breaches
 pub mod Shortfalls
 pub mod Totals
+pub mod Limits
 pub mod Touched
 pub mod InsidePlan
 pub mod InsideSchedule

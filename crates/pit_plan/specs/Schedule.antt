@@ -1,16 +1,35 @@
--- Schedules: what a list of commits leaves, and what that loads and earns.
+-- Schedules: what a list of commits leaves, and what that loads and earns; and the limits that are then in force.
 use Rattle.std.specs.Prelude.{ℕ, ◌+◌, ℤ, pos, ◌*ℤ◌, Bool, true, false, nat_eq, nat_le, int_le, List, [], ◌∷◌, fold, Option, Some, None, unwrap_or, is_some, slice_index_or, if◌then◌else◌, Contains}
 use Rattle.std.specs.Map.{lookup}
+use Rattle.pit_num.specs.Fitting.{pair_eq, writes_of}
 use Rattle.pit_model.specs.Pit.{Pit, profit_of, factor_of, coefs_of, preds_of, upper_of}
 use Rattle.pit_plan.specs.Sums.{total}
 
--- A commit gives blocks a period or none. It names each block at most once.
-abbrev pub Commit : Type 0
-Commit = List (ℕ × Option ℕ)
+-- blocks, each with a period or none
+abbrev pub Writes : Type 0
+Writes = List (ℕ × Option ℕ)
+
+-- resources in periods, each with an upper limit or none
+abbrev pub Revisions : Type 0
+Revisions = List ((ℕ × ℕ) × Option ℤ)
+
+-- A commit gives blocks a period or none, and resources in periods an upper limit or none. It names each block, and each resource in a
+-- period, at most once.
+pub record Commit : Type 0 where
+  pub writes : Writes
+  pub revises : Revisions
+
+-- the commit of a schedule, which revises no limit
+abbrev pub commit_of_schedule : List (ℕ × ℕ) → Commit
+commit_of_schedule schedule = record { writes = writes_of schedule; revises = [] }
 
 -- what a commit says of a block, if it names it
 abbrev pub write_of : Commit → ℕ → Option (Option ℕ)
-write_of commit b = lookup (nat_eq b) commit
+write_of commit b = lookup (nat_eq b) commit.writes
+
+-- what a commit says of the limit of a resource in a period, if it names that
+abbrev pub revision_of : Commit → ℕ → ℕ → Option (Option ℤ)
+revision_of commit r t = lookup (pair_eq (r, t)) commit.revises
 
 -- what the last commit that names the block says, and none if no commit names it
 unfoldable pub held_period : List Commit → ℕ → Option ℕ
@@ -57,9 +76,9 @@ earned_in pit b (Some t) = profit_of pit b *ℤ factor_of pit t
 abbrev pub value_of : Pit → (ℕ → Option ℕ) → ℤ
 value_of pit schedule = total (λ b. earned_in pit b (schedule b)) pit.blocks
 
--- the upper limit in force after the commits
-abbrev pub limit_of : Pit → List Commit → ℕ → ℕ → Option ℤ
-limit_of pit commits r t = upper_of pit r t
+-- the upper limit in force after the commits: what the last one that revises it says, and the pit's if no commit revises it
+unfoldable pub limit_of : Pit → List Commit → ℕ → ℕ → Option ℤ
+limit_of pit commits r t = fold (λ before commit. unwrap_or (revision_of commit r t) before) (upper_of pit r t) commits
 
 -- b is a block that has a among its predecessors
 abbrev pub IsPred : Pit → ℕ → ℕ → Type 0

@@ -7,9 +7,9 @@ use Rattle.pit_plan.specs.Schedule.{by_block, load_of, value_of}
 abbrev pub cell_load : List ℤ → ℕ → ℤ
 cell_load loads cell = slice_index_or loads cell (pos 0)
 
--- the load of a resource in a period, by the loads of cells
-abbrev pub load_at : Pit → (ℕ → ℤ) → ℕ → ℕ → ℤ
-load_at pit loads r t = loads (cell_of pit r t)
+-- what the cell of a resource in a period has
+abbrev pub at_cell : {X : Type 0} → Pit → (ℕ → X) → ℕ → ℕ → X
+at_cell pit cells r t = cells (cell_of pit r t)
 
 -- the loads, by resource and period, are those of the schedule
 abbrev pub AreLoads : Pit → (ℕ → Option ℕ) → (ℕ → ℕ → ℤ) → Type 0
@@ -17,7 +17,7 @@ AreLoads pit schedule loads = (r t : ℕ) → r < pit.resources → t < pit.peri
 
 -- what is kept is that of the schedule
 pub record AreTotals (pit : Pit) (schedule : ℕ → Option ℕ) (loads : List ℤ) (sum : ℤ) : Type 0 where
-  pub each : AreLoads pit schedule (load_at pit (cell_load loads))
+  pub each : AreLoads pit schedule (at_cell pit (cell_load loads))
   pub value : sum ≡ value_of pit schedule
 
 -- a schedule with its loads and its value

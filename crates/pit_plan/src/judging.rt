@@ -1,15 +1,17 @@
-//! The first breach that a schedule would have after writes, found where these touch it.
+//! The first breach that a schedule would have after writes and revisions, found where these touch it.
 ghost use Rattle.std.specs.Prelude.{◌≡◌, ◌≢◌, ℕ, ◌+◌, ◌*◌, ◌<◌, true, None, pos, length, take, slice_index_or, IfNone, IfOk, IfSome, OnOk, All, AllPairs};
 ghost use Rattle.indexmap.specs.IndexMap.{index_map_len};
-ghost use Rattle.pit_num.specs.Fitting.{Fits};
+ghost use Rattle.pit_num.specs.Fitting.{Fits, RevisionsFit, revisions_of};
 ghost use Rattle.pit_num.specs.Least.{ComesBefore, IsLeast};
-ghost use Rattle.pit_model.specs.Pit.{cell_of, upper_of};
+ghost use Rattle.pit_model.specs.Pit.{cell_of};
 ghost use Rattle.pit_plan.specs.Schedule.{by_block};
 ghost use Rattle.pit_plan.specs.Breaches.{IsFirstBreach, IsGood, IsOutOfOrder};
-ghost use Rattle.pit_plan.specs.Totals.{cell_load, IsTally};
-ghost use Rattle.pit_plan.specs.Touched.{laid_over, lesser_of, IsOutNear, IsOverAt, IsLeastOver, IsNamed, AreMoved};
+ghost use Rattle.pit_plan.specs.Totals.{cell_load, at_cell, IsTally};
+ghost use Rattle.pit_plan.specs.Limits.{cell_limit, by_cell};
+ghost use Rattle.pit_plan.specs.Touched.{laid_over, lesser_of, IsOutNear, IsOverAt, IsLeastOver, IsNamed, AreMoved, SetsCell, LooksAt};
 
 use crate::breach::Breach;
+use crate::limits::Limits;
 use crate::loads::{Loads, plus, shift};
 use crate::schedule::{Schedule, first_late, keeps_order};
 use crate::tally::Tally;
@@ -23,6 +25,8 @@ type Written<A> = IndexMap<u32, Option<u32>, BuildHasherDefault<FoldHasher>, A>;
 
 type Cells<A> = IndexMap<u32, i128, BuildHasherDefault<FoldHasher>, A>;
 
+type Revised<A> = IndexMap<u32, Option<i64>, BuildHasherDefault<FoldHasher>, A>;
+
 /// Periods with writes laid over them.
 #[derive(Drop)]
 struct Overlay<'a, A: Allocator + Copy + Drop> {
@@ -35,17 +39,31 @@ impl<'a, A: Allocator + Copy + Drop> Schedule for Overlay<'a, A> {
 
     ghost count = { λ s. length s.periods.now };
 
-    ghost limit_at = { λ s. upper_of };
-
     fn period(&self, b: u32) -> Option<u32> {
         match self.writes.get(&b) {
             Some(period) => *period,
             None => self.periods[b as usize],
         }
     }
+}
 
-    fn limit<B: Allocator + Copy + Drop>(&self, pit: &Instance<B>, r: u32, t: u32) -> Option<i64> {
-        pit.upper(r, t)
+/// Limits of which some are revised, each of these by its cell.
+#[derive(Drop)]
+struct RevisedLimits<'a, A: Allocator + Copy + Drop> {
+    kept: &'a [Option<i64>],
+    cells: Revised<A>,
+}
+
+impl<'a, A: Allocator + Copy + Drop> Limits for RevisedLimits<'a, A> {
+    ghost limit_in = { λ limits. laid_over (cell_limit limits.kept.now) limits.cells.entries };
+
+    ghost cells = { λ limits. length limits.kept.now };
+
+    fn limit(&self, cell: u32) -> Option<i64> {
+        match self.cells.get(&cell) {
+            Some(limit) => *limit,
+            None => self.kept[cell as usize],
+        }
     }
 }
 
@@ -72,18 +90,24 @@ impl<'a, A: Allocator + Copy + Drop> Loads for MovedLoads<'a, A> {
     }
 }
 
-/// The first breach that the schedule would have after the writes, where it has none before them. Looks at the written blocks, at their
-/// predecessors and successors, and at the loads that they move; takes the memory of the writes and of these loads.
+/// The first breach that the schedule would have after the writes and the revisions, where it has none before them. Looks at the written
+/// blocks, at their predecessors and successors, and at the loads that are moved or revised; takes the memory of the writes, of the
+/// revisions and of these loads.
 pub(crate) fn first_breach_after<A: Allocator + Copy + Drop>(
     alloc: A,
     pit: &Instance<A>,
     tally: &Tally<A>,
+    limits: &[Option<i64>],
     writes: &[(u32, Option<u32>)],
+    revises: &[(u32, u32, Option<i64>)],
 ) -> Result<Option<Breach>, NoMemory>
     requires tally { IsTally pit.now tally.now }
-    requires fits { Fits pit.now.blocks pit.now.periods writes.now }
-    ensures { IfOk result (λ breach. IsGood pit.now (by_block tally.now.periods) (upper_of pit.now)
-        → IsFirstBreach pit.now (laid_over (by_block tally.now.periods) writes.now) (upper_of pit.now) breach) }
+    requires limits { length limits.now ≡ pit.now.periods * pit.now.resources }
+    requires writes { Fits pit.now.blocks pit.now.periods writes.now }
+    requires revises { RevisionsFit pit.now.resources pit.now.periods (revisions_of revises.now) }
+    ensures { IfOk result (λ breach. IsGood pit.now (by_block tally.now.periods) (at_cell pit.now (cell_limit limits.now))
+        → IsFirstBreach pit.now (laid_over (by_block tally.now.periods) writes.now)
+        (at_cell pit.now (laid_over (cell_limit limits.now) (by_cell pit.now (revisions_of revises.now)))) breach) }
 {
     let after = Overlay {
         periods: &tally.periods,
@@ -92,8 +116,13 @@ pub(crate) fn first_breach_after<A: Allocator + Copy + Drop>(
     if let Some((block, before)) = first_out_near(pit, &after, writes) {
         return Ok(Some(Breach::Precedence { block, before }));
     }
-    let loads = moved_loads(alloc, pit, tally, writes)?;
-    Ok(first_over_in(pit, &after, &loads.cells))
+    let revised = RevisedLimits {
+        kept: limits,
+        cells: revised(alloc, pit, revises)?,
+    };
+    let mut loads = moved_loads(alloc, pit, tally, writes)?;
+    look_at_revised(pit, revises, &mut loads)?;
+    Ok(first_over_in(pit, &revised, &loads.cells))
 }
 
 /// The writes, by block.
@@ -107,6 +136,22 @@ fn written<A: Allocator + Copy + Drop>(
     let mut map = IndexMap::with_capacity(alloc, writes.len())?;
     for (block, period) in writes {
         map.insert(*block, *period)?;
+    }
+    Ok(map)
+}
+
+/// The revised limits, by cell.
+fn revised<A: Allocator + Copy + Drop>(
+    alloc: A,
+    pit: &Instance<A>,
+    revises: &[(u32, u32, Option<i64>)],
+) -> Result<Revised<A>, NoMemory>
+    requires { RevisionsFit pit.now.resources pit.now.periods (revisions_of revises.now) }
+    ensures { IfOk result (λ map. map.entries ≡ by_cell pit.now (revisions_of revises.now)) }
+{
+    let mut map = IndexMap::with_capacity(alloc, revises.len())?;
+    for (resource, period, limit) in revises {
+        map.insert(pit.cell(*resource, *period), *limit)?;
     }
     Ok(map)
 }
@@ -221,6 +266,37 @@ fn move_block<'a, A: Allocator + Copy + Drop>(
     Ok(())
 }
 
+/// Takes each revised cell among those that are moved, with the load that it has.
+fn look_at_revised<'a, A: Allocator + Copy + Drop>(
+    pit: &Instance<A>,
+    revises: &[(u32, u32, Option<i64>)],
+    loads: &mut MovedLoads<'a, A>,
+) -> Result<(), NoMemory>
+    requires fits { RevisionsFit pit.now.resources pit.now.periods (revisions_of revises.now) }
+    requires each { length loads.old.kept.now ≡ pit.now.periods * pit.now.resources }
+    requires in_range { (cell : ℕ) → IsNamed loads.old.cells.entries cell → cell < length loads.old.kept.now }
+    ensures { OnOk result (LooksAt (by_cell pit.now (revisions_of revises.now)) loads.old.kept.now loads.old.cells.entries loads.new.kept.now loads.new.cells.entries) }
+{
+    for (resource, period, _) in revises {
+        look_at(loads, pit.cell(*resource, *period))?;
+    }
+    Ok(())
+}
+
+/// Takes a cell among those that are moved, with the load that it has.
+fn look_at<'a, A: Allocator + Copy + Drop>(
+    loads: &mut MovedLoads<'a, A>,
+    cell: u32,
+) -> Result<(), NoMemory>
+    requires within { cell < length loads.old.kept.now }
+    ensures stays { OnOk result (loads.new.kept.now ≡ loads.old.kept.now) }
+    ensures sets { OnOk result (SetsCell loads.old.cells.entries cell (laid_over (cell_load loads.old.kept.now) loads.old.cells.entries cell) loads.new.cells.entries) }
+{
+    let load = load_in(loads.kept, &loads.cells, cell);
+    loads.cells.insert(cell, load)?;
+    Ok(())
+}
+
 /// The load of a cell: as it was moved, or else as it is kept.
 fn load_in<A: Allocator + Copy + Drop>(kept: &[i128], cells: &Cells<A>, cell: u32) -> i128
     requires { cell < length kept.now }
@@ -233,18 +309,20 @@ fn load_in<A: Allocator + Copy + Drop>(kept: &[i128], cells: &Cells<A>, cell: u3
 }
 
 /// The least period, and in it the least resource, of a cell whose load is above its limit.
-fn first_over_in<S: Schedule, A: Allocator + Copy + Drop>(
+fn first_over_in<L: Limits, A: Allocator + Copy + Drop>(
     pit: &Instance<A>,
-    schedule: &S,
+    limits: &L,
     cells: &Cells<A>,
 ) -> Option<Breach>
-    requires { (cell : ℕ) → IsNamed cells.now.entries cell → cell < pit.now.periods * pit.now.resources }
-    ensures none { IfNone result (IsLeast ComesBefore (IsOverAt pit.now (S.limit_at schedule.now pit.now) cells.now.entries) None) }
-    ensures some { IfSome result (IsLeastOver pit.now (S.limit_at schedule.now pit.now) cells.now.entries) }
+    requires limits { L.cells limits.now ≡ pit.now.periods * pit.now.resources }
+    requires cells { (cell : ℕ) → IsNamed cells.now.entries cell → cell < pit.now.periods * pit.now.resources }
+    ensures none { IfNone result (IsLeast ComesBefore (IsOverAt pit.now (at_cell pit.now (L.limit_in limits.now)) cells.now.entries) None) }
+    ensures some { IfSome result (IsLeastOver pit.now (at_cell pit.now (L.limit_in limits.now)) cells.now.entries) }
 {
-    let (period, resource) = least_over(pit, schedule, cells)?;
-    let load = *cells.get(&pit.cell(resource, period))?;
-    let limit = schedule.limit(pit, resource, period)?;
+    let (period, resource) = least_over(pit, limits, cells)?;
+    let cell = pit.cell(resource, period);
+    let load = *cells.get(&cell)?;
+    let limit = limits.limit(cell)?;
     Some(Breach::Over {
         resource,
         period,
@@ -254,38 +332,39 @@ fn first_over_in<S: Schedule, A: Allocator + Copy + Drop>(
 }
 
 /// The least period, and in it the least resource, of a cell whose load is above its limit.
-fn least_over<S: Schedule, A: Allocator + Copy + Drop>(
+fn least_over<L: Limits, A: Allocator + Copy + Drop>(
     pit: &Instance<A>,
-    schedule: &S,
+    limits: &L,
     cells: &Cells<A>,
 ) -> Option<(u32, u32)>
-    requires { (cell : ℕ) → IsNamed cells.now.entries cell → cell < pit.now.periods * pit.now.resources }
-    ensures { IsLeast ComesBefore (IsOverAt pit.now (S.limit_at schedule.now pit.now) cells.now.entries) result }
+    requires limits { L.cells limits.now ≡ pit.now.periods * pit.now.resources }
+    requires cells { (cell : ℕ) → IsNamed cells.now.entries cell → cell < pit.now.periods * pit.now.resources }
+    ensures { IsLeast ComesBefore (IsOverAt pit.now (at_cell pit.now (L.limit_in limits.now)) cells.now.entries) result }
 {
     let mut least: Option<(u32, u32)> = None;
     for i in 0..cells.len() {
-        least = lesser(least, over_at(pit, schedule, cells, i));
+        least = lesser(least, over_at(pit, limits, cells, i));
     }
     least
 }
 
 /// The period and the resource of a cell, if its load is above its limit.
-fn over_at<S: Schedule, A: Allocator + Copy + Drop>(
+fn over_at<L: Limits, A: Allocator + Copy + Drop>(
     pit: &Instance<A>,
-    schedule: &S,
+    limits: &L,
     cells: &Cells<A>,
     i: usize,
 ) -> Option<(u32, u32)>
+    requires limits { L.cells limits.now ≡ pit.now.periods * pit.now.resources }
     requires within { i < index_map_len cells.now }
     requires cells { (cell : ℕ) → IsNamed cells.now.entries cell → cell < pit.now.periods * pit.now.resources }
-    ensures { IsLeast ComesBefore (λ p. IsOverAt pit.now (S.limit_at schedule.now pit.now) cells.now.entries p
+    ensures { IsLeast ComesBefore (λ p. IsOverAt pit.now (at_cell pit.now (L.limit_in limits.now)) cells.now.entries p
         × (cell_of pit.now p.1 p.0 ≡ (slice_index_or cells.now.entries i (0, pos 0)).0)) result }
 {
     let (cell, load) = cells.get_index(i)?;
-    let (t, r) = (*cell / pit.resources(), *cell % pit.resources());
-    let limit = schedule.limit(pit, r, t)?;
+    let limit = limits.limit(*cell)?;
     if *load <= i128::from(limit) {
         return None;
     }
-    Some((t, r))
+    Some((*cell / pit.resources(), *cell % pit.resources()))
 }

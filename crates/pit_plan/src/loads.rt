@@ -3,7 +3,7 @@ ghost use Rattle.std.specs.Prelude.{◌≡◌, ℕ, ℤ, ◌*◌, ◌<◌, ◌^�
 ghost use Rattle.std.specs.Int.{w128};
 ghost use Rattle.pit_num.specs.Within.{IsWithin};
 ghost use Rattle.pit_plan.specs.Schedule.{coef_of};
-ghost use Rattle.pit_plan.specs.Totals.{load_at, Raises, MovesIn, moved_by};
+ghost use Rattle.pit_plan.specs.Totals.{at_cell, Raises, MovesIn, moved_by};
 
 use pit_model::Instance;
 use pit_num::NoMemory;
@@ -47,11 +47,11 @@ pub(crate) fn shift<L: Loads, A: Allocator + Copy + Drop>(
     requires sound { L.is_sound loads.old }
     requires cells { length (L.base loads.old) ≡ pit.now.periods * pit.now.resources }
     requires room { IfSome period (λ t. (r : ℕ) → r < pit.now.resources
-        → FitsSigned w128 (load_at pit.now (L.load_in loads.old) r t +ℤ moved_by up (coef_of pit.now b r))) }
+        → FitsSigned w128 (at_cell pit.now (L.load_in loads.old) r t +ℤ moved_by up (coef_of pit.now b r))) }
     ensures sound { OnOk result (L.is_sound loads.new) }
     ensures stays { OnOk result (L.base loads.new ≡ L.base loads.old) }
-    ensures moves { OnOk result (MovesIn pit.now (load_at pit.now (L.load_in loads.old)) period (λ r. moved_by up (coef_of pit.now b r))
-        (load_at pit.now (L.load_in loads.new))) }
+    ensures moves { OnOk result (MovesIn pit.now (at_cell pit.now (L.load_in loads.old)) period (λ r. moved_by up (coef_of pit.now b r))
+        (at_cell pit.now (L.load_in loads.new))) }
     ensures refused { IfErr result (λ e. L.can_refuse ≡ true) }
 {
     let Some(t) = period else {

@@ -1,14 +1,17 @@
-ghost use Rattle.std.specs.Prelude.{◌≡◌, ◌<◌, ◌++◌, ◌∷◌, [], List, IfOk, IfErr, OnOk, OnErr, IsOk, length, replicate, All};
-ghost use Rattle.pit_num.specs.Fitting.{Fits};
+ghost use Rattle.std.specs.Prelude.{◌≡◌, ℕ, ◌*◌, ◌<◌, ◌++◌, ◌∷◌, [], List, IfOk, IfErr, OnOk, OnErr, IsOk, length, replicate, All};
+ghost use Rattle.pit_num.specs.Fitting.{Fits, RevisionsFit, revisions_of};
+ghost use Rattle.pit_model.specs.Pit.{upper_of};
 ghost use Rattle.pit_plan.specs.Schedule.{Commit, held_period, load_of, value_of};
-ghost use Rattle.pit_plan.specs.Standing.{StandsFor, period_of, version_of, Adds};
+ghost use Rattle.pit_plan.specs.Standing.{StandsFor, period_of, version_of, limit_in_force, Adds};
 ghost use Rattle.pit_plan.specs.InsidePlan.{with_writes};
-ghost use Rattle.pit_plan.specs.Totals.{IsTally};
+ghost use Rattle.pit_plan.specs.Totals.{IsTally, at_cell};
+ghost use Rattle.pit_plan.specs.Limits.{cell_limit};
 ghost use Rattle.pit_plan.specs.Breaches.{IsBreachOf, IsGoodNow};
 ghost use Rattle.pit_plan.specs.Shortfalls.{shortfalls_of};
 
 use crate::breach::Breach;
 use crate::judging::first_breach_after;
+use crate::limits::{Limits, limits_of, revise};
 use crate::schedule;
 use crate::short::Short;
 use crate::tally::Tally;
@@ -23,13 +26,16 @@ pub const COMMITS_MAX: u32 = 4_294_967_295;
 /// Which block of a pit is mined in which period, as a list of commits leaves it.
 ///
 /// Writes are blocks, each with its new period or none. They fit where blocks and periods are in range and no block stands twice.
-/// The body keeps each block's period and version, each load, and the value.
+/// Revisions are resources and periods, each pair with its new upper limit in millionths, or none where there is to be no limit. They fit
+/// where both are in range and no pair stands twice.
+/// The body keeps each block's period and version, each load and limit, and the value.
 #[derive(Drop)]
 pub struct Plan<A: Allocator + Drop> {
     pit: Instance<A>,
     commits: u32,
     tally: Tally<A>,
     versions: Vec<u32, A>,
+    limits: Vec<Option<i64>, A>,
 }
 
 impl<A: Allocator + Drop> Model for Plan<A> {
@@ -38,9 +44,15 @@ impl<A: Allocator + Drop> Model for Plan<A> {
 
     ghost Value = { Standing };
 
-    ghost view = { λ plan. record { pit = plan.pit; commits = plan.commits; periods = plan.tally.periods; versions = plan.versions.items } };
+    ghost view = { λ plan. record {
+      pit = plan.pit;
+      commits = plan.commits;
+      periods = plan.tally.periods;
+      versions = plan.versions.items;
+      limits = plan.limits.items;
+    } };
 
-    ghost invariant = { λ plan. IsPlanKept plan.pit plan.tally plan.versions.items };
+    ghost invariant = { λ plan. IsPlanKept plan.pit plan.tally plan.versions.items plan.limits.items };
 }
 
 impl<A: Allocator + Copy + Drop> Plan<A> {
@@ -51,11 +63,12 @@ impl<A: Allocator + Copy + Drop> Plan<A> {
     {
         match nothing(alloc, &pit) {
             Err(no_memory) => Err((pit, no_memory)),
-            Ok((tally, versions)) => Ok(Plan {
+            Ok((tally, versions, limits)) => Ok(Plan {
                 pit,
                 commits: 0,
                 tally,
                 versions,
+                limits,
             }),
         }
     }
@@ -108,6 +121,16 @@ impl<A: Allocator + Copy + Drop> Plan<A> {
         schedule::load(&self.pit, &self.tally, r, t)
     }
 
+    /// The upper limit in force on the load of a resource in a period, in millionths, or none: what the last commit that revised it
+    /// gave, and the pit's least upper bound where no commit did.
+    pub fn limit(&self, r: u32, t: u32) -> Option<i64>
+        requires resource { r < self.now.pit.resources }
+        requires period { t < self.now.pit.periods }
+        ensures { result ≡ limit_in_force self.now r t }
+    {
+        self.limits.limit(self.pit.cell(r, t))
+    }
+
     /// The discounted profit, in units of 10^-18, which is exact.
     pub fn value(&self) -> i128
         ensures { (commits : List Commit) → StandsFor self.now commits
@@ -117,36 +140,54 @@ impl<A: Allocator + Copy + Drop> Plan<A> {
     }
 
     /// The first breach of the plan: the least pair of a block and its predecessor that is out of order; else the load of the
-    /// least period, and in it of the least resource, that is above its limit.
+    /// least period, and in it of the least resource, that is above the limit in force.
     pub fn check(&self) -> Option<Breach>
         ensures { (commits : List Commit) → StandsFor self.now commits
             → IsBreachOf self.now.pit commits result }
     {
-        schedule::first_breach(&self.pit, &self.tally)
+        schedule::first_breach(&self.pit, &self.tally, &self.limits)
     }
 
-    /// The first breach that the plan would have after the writes. Takes the memory of the writes and of the
-    /// loads that they move.
-    pub fn judge(&self, writes: &[(u32, Option<u32>)]) -> Result<Option<Breach>, NoMemory>
-        requires fits { Fits self.now.pit.blocks self.now.pit.periods writes.now }
+    /// The first breach that the plan would have after the writes and the revisions. Takes the memory of these, and of the loads that
+    /// they move and revise.
+    pub fn judge(
+        &self,
+        writes: &[(u32, Option<u32>)],
+        revises: &[(u32, u32, Option<i64>)],
+    ) -> Result<Option<Breach>, NoMemory>
+        requires writes { Fits self.now.pit.blocks self.now.pit.periods writes.now }
+        requires revises { RevisionsFit self.now.pit.resources self.now.pit.periods (revisions_of revises.now) }
         requires good { IsGoodNow self.now }
         ensures { IfOk result (λ breach. (commits : List Commit) → StandsFor self.now commits
-            → IsBreachOf self.now.pit (commits ++ writes.now ∷ []) breach) }
+            → IsBreachOf self.now.pit (commits ++ (record { writes = writes.now; revises = revisions_of revises.now }) ∷ []) breach) }
     {
-        first_breach_after(*self.versions.allocator(), &self.pit, &self.tally, writes)
+        first_breach_after(
+            *self.versions.allocator(),
+            &self.pit,
+            &self.tally,
+            &self.limits,
+            writes,
+            revises,
+        )
     }
 
-    /// Adds the writes as one more commit. Takes no memory, and is never refused.
-    pub fn apply(&mut self, writes: &[(u32, Option<u32>)]) -> Result<(), NoMemory>
-        requires fits { Fits self.old.pit.blocks self.old.pit.periods writes.now }
+    /// Adds the writes and the revisions as one more commit. Takes no memory, and is never refused.
+    pub fn apply(
+        &mut self,
+        writes: &[(u32, Option<u32>)],
+        revises: &[(u32, u32, Option<i64>)],
+    ) -> Result<(), NoMemory>
+        requires writes { Fits self.old.pit.blocks self.old.pit.periods writes.now }
+        requires revises { RevisionsFit self.old.pit.resources self.old.pit.periods (revisions_of revises.now) }
         requires room { self.old.commits < COMMITS_MAX }
-        ensures ok { OnOk result (Adds self.old writes.now self.new) }
+        ensures ok { OnOk result (Adds self.old (record { writes = writes.now; revises = revisions_of revises.now }) self.new) }
         ensures err { OnErr result (self.new ≡ self.old) }
         ensures done { IsOk result }
     {
         self.commits += 1;
         self.tally.write(&self.pit, writes);
         write_versions(&mut self.versions, writes, self.commits);
+        revise(&self.pit, &mut self.limits, revises);
         Ok(())
     }
 
@@ -159,18 +200,21 @@ impl<A: Allocator + Copy + Drop> Plan<A> {
     }
 }
 
-/// No period and the version 0 for each block.
+/// No period and the version 0 for each block, and the limits of the pit.
 fn nothing<A: Allocator + Copy + Drop>(
     alloc: A,
     pit: &Instance<A>,
-) -> Result<(Tally<A>, Vec<u32, A>), NoMemory>
+) -> Result<(Tally<A>, Vec<u32, A>, Vec<Option<i64>, A>), NoMemory>
     ensures tally { IfOk result (λ parts. IsTally pit.now parts.0) }
     ensures periods { IfOk result (λ parts. parts.0.periods ≡ replicate pit.now.blocks None) }
     ensures versions { IfOk result (λ parts. parts.1.items ≡ replicate pit.now.blocks 0) }
+    ensures len { IfOk result (λ parts. length parts.2.items ≡ pit.now.periods * pit.now.resources) }
+    ensures limits { IfOk result (λ parts. (r t : ℕ) → r < pit.now.resources → t < pit.now.periods → at_cell pit.now (cell_limit parts.2.items) r t ≡ upper_of pit.now r t) }
 {
     let tally = Tally::none(alloc, pit)?;
     let versions = vec![in alloc; 0; pit.blocks() as usize]?;
-    Ok((tally, versions))
+    let limits = limits_of(alloc, pit)?;
+    Ok((tally, versions, limits))
 }
 
 /// Gives each written block the number of the commit.

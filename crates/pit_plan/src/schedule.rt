@@ -1,23 +1,24 @@
 //! What a schedule, which is a period or none for each block, loads, earns and breaks.
-ghost use Rattle.std.specs.Prelude.{◌≡◌, ℕ, ℤ, ◌<◌, ◌^◌, ◌++◌, length, Option, IfSome, IfOk, OnOk, All};
+ghost use Rattle.std.specs.Prelude.{◌≡◌, ℕ, ◌*◌, ◌<◌, ◌^◌, ◌++◌, length, Option, IfSome, IfOk, OnOk, All};
 ghost use Rattle.std.specs.List.Sorted.{IsStrictlyIncreasing};
 ghost use Rattle.pit_num.specs.Least.{ComesBefore, IsLeast};
 ghost use Rattle.pit_num.specs.Within.{IsWithin};
-ghost use Rattle.pit_model.specs.Pit.{Pit, upper_of, lower_of};
+ghost use Rattle.pit_model.specs.Pit.{lower_of};
 ghost use Rattle.pit_plan.specs.Schedule.{by_block, load_of, earned_in, in_order, is_within};
-ghost use Rattle.pit_plan.specs.Totals.{IsTally};
+ghost use Rattle.pit_plan.specs.Totals.{IsTally, at_cell};
 ghost use Rattle.pit_plan.specs.Breaches.{IsFirstBreach, IsOutOfOrder, IsOverLimit};
 ghost use Rattle.pit_plan.specs.Shortfalls.{shortfalls_of, shorts_in, short_at};
 ghost use Rattle.pit_plan.specs.InsideSchedule.{IsLate};
 
 use crate::breach::Breach;
+use crate::limits::Limits;
 use crate::short::Short;
 use crate::tally::Tally;
 use pit_model::Instance;
 use pit_num::NoMemory;
 use std::alloc::Allocator;
 
-/// The periods of so many blocks, and the limits that are in force.
+/// The periods of so many blocks.
 pub(crate) trait Schedule {
     /// The period of each block.
     ghost period_at: { Self → ℕ → Option ℕ };
@@ -25,17 +26,9 @@ pub(crate) trait Schedule {
     /// How many blocks there are.
     ghost count: { Self → ℕ };
 
-    /// The upper limit of the load of a resource in a period, in a pit.
-    ghost limit_at: { Self → Pit → ℕ → ℕ → Option ℤ };
-
     fn period(&self, b: u32) -> Option<u32>
         requires { b < count self.now }
         ensures { result ≡ period_at self.now b };
-
-    fn limit<A: Allocator + Copy + Drop>(&self, pit: &Instance<A>, r: u32, t: u32) -> Option<i64>
-        requires resource { r < pit.now.resources }
-        requires period { t < pit.now.periods }
-        ensures { result ≡ limit_at self.now pit.now r t };
 }
 
 /// The load of a resource in a period.
@@ -116,35 +109,39 @@ fn first_out_of_order<A: Allocator + Copy + Drop>(
 }
 
 /// Whether the load of a resource in a period is at most its limit.
-fn keeps_limit<A: Allocator + Copy + Drop>(
+fn keeps_limit<L: Limits, A: Allocator + Copy + Drop>(
     pit: &Instance<A>,
     tally: &Tally<A>,
+    limits: &L,
     r: u32,
     t: u32,
 ) -> bool
     requires tally { IsTally pit.now tally.now }
+    requires limits { L.cells limits.now ≡ pit.now.periods * pit.now.resources }
     requires resource { r < pit.now.resources }
     requires period { t < pit.now.periods }
-    ensures { result ≡ is_within (load_of pit.now (by_block tally.now.periods) r t) (upper_of pit.now r t) }
+    ensures { result ≡ is_within (load_of pit.now (by_block tally.now.periods) r t) (at_cell pit.now (L.limit_in limits.now) r t) }
 {
-    match tally.limit(pit, r, t) {
+    match limits.limit(pit.cell(r, t)) {
         Some(limit) => load(pit, tally, r, t) <= i128::from(limit),
         None => true,
     }
 }
 
 /// The least resource whose load in the period is above its limit.
-fn first_over_in<A: Allocator + Copy + Drop>(
+fn first_over_in<L: Limits, A: Allocator + Copy + Drop>(
     pit: &Instance<A>,
     tally: &Tally<A>,
+    limits: &L,
     t: u32,
 ) -> Option<u32>
     requires tally { IsTally pit.now tally.now }
+    requires limits { L.cells limits.now ≡ pit.now.periods * pit.now.resources }
     requires period { t < pit.now.periods }
-    ensures { IsLeast ◌<◌ (λ r. IsOverLimit pit.now (by_block tally.now.periods) (upper_of pit.now) (t, r)) result }
+    ensures { IsLeast ◌<◌ (λ r. IsOverLimit pit.now (by_block tally.now.periods) (at_cell pit.now (L.limit_in limits.now)) (t, r)) result }
 {
     for r in 0..pit.resources() {
-        if !keeps_limit(pit, tally, r, t) {
+        if !keeps_limit(pit, tally, limits, r, t) {
             return Some(r);
         }
     }
@@ -152,12 +149,17 @@ fn first_over_in<A: Allocator + Copy + Drop>(
 }
 
 /// The least period, and in it the least resource, whose load is above its limit.
-fn first_over<A: Allocator + Copy + Drop>(pit: &Instance<A>, tally: &Tally<A>) -> Option<(u32, u32)>
-    requires { IsTally pit.now tally.now }
-    ensures { IsLeast ComesBefore (IsOverLimit pit.now (by_block tally.now.periods) (upper_of pit.now)) result }
+fn first_over<L: Limits, A: Allocator + Copy + Drop>(
+    pit: &Instance<A>,
+    tally: &Tally<A>,
+    limits: &L,
+) -> Option<(u32, u32)>
+    requires tally { IsTally pit.now tally.now }
+    requires limits { L.cells limits.now ≡ pit.now.periods * pit.now.resources }
+    ensures { IsLeast ComesBefore (IsOverLimit pit.now (by_block tally.now.periods) (at_cell pit.now (L.limit_in limits.now))) result }
 {
     for t in 0..pit.periods() {
-        if let Some(r) = first_over_in(pit, tally, t) {
+        if let Some(r) = first_over_in(pit, tally, limits, t) {
             return Some((t, r));
         }
     }
@@ -165,18 +167,20 @@ fn first_over<A: Allocator + Copy + Drop>(pit: &Instance<A>, tally: &Tally<A>) -
 }
 
 /// The first breach of the schedule.
-pub(crate) fn first_breach<A: Allocator + Copy + Drop>(
+pub(crate) fn first_breach<L: Limits, A: Allocator + Copy + Drop>(
     pit: &Instance<A>,
     tally: &Tally<A>,
+    limits: &L,
 ) -> Option<Breach>
-    requires { IsTally pit.now tally.now }
-    ensures { IsFirstBreach pit.now (by_block tally.now.periods) (upper_of pit.now) result }
+    requires tally { IsTally pit.now tally.now }
+    requires limits { L.cells limits.now ≡ pit.now.periods * pit.now.resources }
+    ensures { IsFirstBreach pit.now (by_block tally.now.periods) (at_cell pit.now (L.limit_in limits.now)) result }
 {
     if let Some((block, before)) = first_out_of_order(pit, tally) {
         return Some(Breach::Precedence { block, before });
     }
-    let (period, resource) = first_over(pit, tally)?;
-    let limit = tally.limit(pit, resource, period)?;
+    let (period, resource) = first_over(pit, tally, limits)?;
+    let limit = limits.limit(pit.cell(resource, period))?;
     Some(Breach::Over {
         resource,
         period,

@@ -2,10 +2,9 @@
 ghost use Rattle.std.specs.Prelude.{◌≡◌, ℕ, ◌*◌, ◌<◌, ◌+ℤ◌, ◌-ℤ◌, false, None, length, replicate, slice_index_or, slice_set, pos, FitsSigned, IfOk, IfSome};
 ghost use Rattle.std.specs.Int.{w128};
 ghost use Rattle.pit_num.specs.Fitting.{Fits};
-ghost use Rattle.pit_model.specs.Pit.{upper_of};
 ghost use Rattle.pit_plan.specs.Schedule.{by_block, coef_of};
 ghost use Rattle.pit_plan.specs.InsidePlan.{with_writes};
-ghost use Rattle.pit_plan.specs.Totals.{cell_load, load_at, MovesIn, moved_by, IsTally};
+ghost use Rattle.pit_plan.specs.Totals.{cell_load, at_cell, MovesIn, moved_by, IsTally};
 
 use crate::loads::{Loads, plus, shift};
 use crate::schedule::{Schedule, earned};
@@ -35,14 +34,8 @@ impl<A: Allocator + Drop> Schedule for Tally<A> {
 
     ghost count = { λ tally. length tally.periods };
 
-    ghost limit_at = { λ tally. upper_of };
-
     fn period(&self, b: u32) -> Option<u32> {
         self.periods[b as usize]
-    }
-
-    fn limit<B: Allocator + Copy + Drop>(&self, pit: &Instance<B>, r: u32, t: u32) -> Option<i64> {
-        pit.upper(r, t)
     }
 }
 
@@ -132,10 +125,10 @@ fn shift_kept<A: Allocator + Copy + Drop>(
     requires period { IfSome period (λ t. t < pit.now.periods) }
     requires len { length loads.old.items ≡ pit.now.periods * pit.now.resources }
     requires room { IfSome period (λ t. (r : ℕ) → r < pit.now.resources
-        → FitsSigned w128 (load_at pit.now (cell_load loads.old.items) r t +ℤ moved_by up (coef_of pit.now b r))) }
+        → FitsSigned w128 (at_cell pit.now (cell_load loads.old.items) r t +ℤ moved_by up (coef_of pit.now b r))) }
     ensures len { length loads.new.items ≡ length loads.old.items }
-    ensures moves { MovesIn pit.now (load_at pit.now (cell_load loads.old.items)) period (λ r. moved_by up (coef_of pit.now b r))
-        (load_at pit.now (cell_load loads.new.items)) }
+    ensures moves { MovesIn pit.now (at_cell pit.now (cell_load loads.old.items)) period (λ r. moved_by up (coef_of pit.now b r))
+        (at_cell pit.now (cell_load loads.new.items)) }
 {
     let _never_refused = shift(pit, loads, b, period, up);
 }

@@ -1,4 +1,4 @@
-use Rattle.pit_plan.proofs.Commits.{held_period-nil, held_period-push, last_number-nil, last_number-push}
+use Rattle.pit_plan.proofs.Commits.{held_period-nil, held_period-push, last_number-nil, last_number-push, limit_of-nil, limit_of-push}
 use Rattle.pit_plan.proofs.laws.commits_follow.Goals as goal
 
 pub returns-clause-held_none : goal.returns-clause-held_none
@@ -12,3 +12,9 @@ returns-clause-last_none c = last_number-nil
 
 pub returns-clause-last_more : goal.returns-clause-last_more
 returns-clause-last_more c = last_number-push
+
+pub returns-clause-limit_none : goal.returns-clause-limit_none
+returns-clause-limit_none c = limit_of-nil
+
+pub returns-clause-limit_more : goal.returns-clause-limit_more
+returns-clause-limit_more c = limit_of-push

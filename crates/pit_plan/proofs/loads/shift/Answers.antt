@@ -4,7 +4,7 @@ use Rattle.std.specs.Int.{w64, w128}
 use Rattle.std.proofs.lemmas.List.{take_all}
 use Rattle.pit_model.specs.Pit.{AreCoefs, coefs_of, cell_of}
 use Rattle.pit_plan.specs.Schedule.{coef_in, coef_of}
-use Rattle.pit_plan.specs.Totals.{load_at, moved_by, Moves, MovesIn, Raises}
+use Rattle.pit_plan.specs.Totals.{at_cell, moved_by, Moves, MovesIn, Raises}
 use Rattle.pit_plan.proofs.Named.{once-from_rising}
 use Rattle.pit_plan.proofs.Cells.{moves-one, moves-more, room-more}
 use Rattle.pit_plan.proofs.loads.shift.Goals as goal
@@ -23,9 +23,9 @@ add-requires-clause-room g c =
     let moved : to_z w64 (of_z w64 c.moved.result) ≡ moved_by c.args.up (get_or (coefs_of pit c.args.b) k (0, pos 0)).1 = search rules in
     let cell : c.cell.result ≡ cell_of pit (get_or (coefs_of pit c.args.b) k (0, pos 0)).0 t = c.cell.ensures.cell ∙ ap (λ (xs : List (ℕ × ℤ)). cell_of pit (get_or xs k (0, pos 0)).0 t) is in
     rw (moved, cell)
-    (room-more pit (load_at pit (g.L.Loads.load_in c.args.loads.now)) (load_at pit (g.L.Loads.load_in c.loop-r.loads)) c.args.b t c.args.up k (0, pos 0) (once-from_rising _ sound.rising) within
+    (room-more pit (at_cell pit (g.L.Loads.load_in c.args.loads.now)) (at_cell pit (g.L.Loads.load_in c.loop-r.loads)) c.args.b t c.args.up k (0, pos 0) (once-from_rising _ sound.rising) within
     (sound.in_range k (0, pos 0) within)
-    (subst (λ (p : Option ℕ). IfSome p (λ u. (r : ℕ) → r < pit.resources → FitsSigned w128 (load_at pit (g.L.Loads.load_in c.args.loads.now) r u +ℤ moved_by c.args.up (coef_of pit c.args.b r)))) c.in-Some.is c.requires.room)
+    (subst (λ (p : Option ℕ). IfSome p (λ u. (r : ℕ) → r < pit.resources → FitsSigned w128 (at_cell pit (g.L.Loads.load_in c.args.loads.now) r u +ℤ moved_by c.args.up (coef_of pit c.args.b r)))) c.in-Some.is c.requires.room)
     c.loop-r.invariant.moves)
 
 pub loop-r-preserved : goal.loop-r-preserved
@@ -45,14 +45,14 @@ loop-r-preserved g c =
     record {
       sound = c.in_ok-add.ensures.sound;
       stays = c.in_ok-add.ensures.stays ∙ c.loop-r.invariant.stays;
-      moves = moves-more pit (load_at pit (g.L.Loads.load_in c.args.loads.now)) t c.args.up (coefs_of pit c.args.b) k (0, pos 0) (load_at pit (g.L.Loads.load_in c.loop-r.loads))
-          (load_at pit (g.L.Loads.load_in c.add.new.self)) (once-from_rising _ sound.rising) within lr c.loop-r.invariant.moves
+      moves = moves-more pit (at_cell pit (g.L.Loads.load_in c.args.loads.now)) t c.args.up (coefs_of pit c.args.b) k (0, pos 0) (at_cell pit (g.L.Loads.load_in c.loop-r.loads))
+          (at_cell pit (g.L.Loads.load_in c.add.new.self)) (once-from_rising _ sound.rising) within lr c.loop-r.invariant.moves
           (moves-one pit (g.L.Loads.load_in c.loop-r.loads) (g.L.Loads.load_in c.add.new.self) pair.0 t (moved_by c.args.up pair.1) lr raises);
     }
 
 pub returns-clause-moves : goal.returns-clause-moves
 returns-clause-moves g c =
     let pit = c.args.pit.now in
-    subst (λ (p : Option ℕ). MovesIn pit (load_at pit (g.L.Loads.load_in c.args.loads.now)) p (λ r. moved_by c.args.up (coef_of pit c.args.b r)) (load_at pit (g.L.Loads.load_in c.loop-r.loads))) (sym c.in-Some.is)
-    (subst (λ (xs : List (ℕ × ℤ)). Moves pit (load_at pit (g.L.Loads.load_in c.args.loads.now)) c.in-Some.t (λ r. moved_by c.args.up (coef_in xs r)) (load_at pit (g.L.Loads.load_in c.loop-r.loads)))
+    subst (λ (p : Option ℕ). MovesIn pit (at_cell pit (g.L.Loads.load_in c.args.loads.now)) p (λ r. moved_by c.args.up (coef_of pit c.args.b r)) (at_cell pit (g.L.Loads.load_in c.loop-r.loads))) (sym c.in-Some.is)
+    (subst (λ (xs : List (ℕ × ℤ)). Moves pit (at_cell pit (g.L.Loads.load_in c.args.loads.now)) c.in-Some.t (λ r. moved_by c.args.up (coef_in xs r)) (at_cell pit (g.L.Loads.load_in c.loop-r.loads)))
     (take_all c.loop-r.r-index (coefs_of pit c.args.b) (subst (λ (xs : List (ℕ × ℤ)). length xs ≤ c.loop-r.r-index) c.coefs-r-items.ensures.value c.loop-r-test.false)) c.loop-r.invariant.moves)

@@ -1,8 +1,8 @@
 use Rattle.std.proofs.Common.{ℕ, subst, sym, ◌∙◌, arith, inl, inr}
 use Rattle.std.proofs.lemmas.Bool.{true≢false}
 use Rattle.std.proofs.lemmas.Bool.Decides.{eqb_tells}
-use Rattle.pit_model.specs.Pit.{upper_of}
 use Rattle.pit_plan.specs.Schedule.{by_block}
+use Rattle.pit_plan.specs.Totals.{at_cell}
 use Rattle.pit_plan.specs.Breaches.{IsOverLimit}
 use Rattle.pit_plan.proofs.schedule.first_over_in.Goals as goal
 
@@ -16,7 +16,7 @@ pub loop-r-preserved : goal.loop-r-preserved
 loop-r-preserved g c = λ r below over.
     elim (eqb_tells r c.loop-r.r) [
       | inl last ↦
-          let here = subst (λ (k : ℕ). IsOverLimit c.args.pit.now (by_block c.args.tally.now.periods) (upper_of c.args.pit.now) (c.args.t, k)) last.1 over in
+          let here = subst (λ (k : ℕ). IsOverLimit c.args.pit.now (by_block c.args.tally.now.periods) (at_cell c.args.pit.now (g.L.Limits.limit_in c.args.limits.now)) (c.args.t, k)) last.1 over in
           true≢false (sym c.if-not-keeps_limit.false ∙ (c.keeps_limit.ensures ∙ here.2))
       | inr other ↦ c.loop-r.invariant r (omega (arith, below, other.1)) over
     ]

@@ -2,8 +2,8 @@ use Rattle.std.proofs.Common.{◌≡◌, ◌+ℤ◌, ℤ, refl, subst, ◌∙◌
 use Rattle.std.specs.Int.{w128}
 use Rattle.std.proofs.lemmas.Int.{to_z-of_z}
 use Rattle.pit_plan.specs.Totals.{cell_load}
-use Rattle.pit_plan.specs.Touched.{laid_over}
-use Rattle.pit_plan.proofs.Touched.{SetsCell, raises-cell, named-set}
+use Rattle.pit_plan.specs.Touched.{laid_over, SetsCell}
+use Rattle.pit_plan.proofs.Touched.{raises-cell, named-set}
 use Rattle.pit_plan.proofs.judging.MovedLoadsLoads.add.Goals as goal
 
 pub plus-load-requires : goal.plus-load-requires

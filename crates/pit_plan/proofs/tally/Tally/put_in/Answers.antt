@@ -2,7 +2,7 @@ use Rattle.std.proofs.Common.{◌≡◌, ◌+ℤ◌, true, refl, None, sym, ◌�
 use Rattle.std.specs.Int.{w128}
 use Rattle.std.proofs.lemmas.Int.{to_z-of_z}
 use Rattle.pit_plan.specs.Schedule.{by_block, earned_in}
-use Rattle.pit_plan.specs.Totals.{Tallied, IsTally, cell_load, load_at}
+use Rattle.pit_plan.specs.Totals.{Tallied, IsTally, cell_load, at_cell}
 use Rattle.pit_plan.proofs.Moved.{put, room-for, sum-in, tally-set}
 use Rattle.pit_plan.proofs.tally.Tally.put_in.Goals as goal
 
@@ -11,7 +11,7 @@ shift_kept-requires-clause-room g c =
     let pit = c.args.pit.now in
     let tally = subst (IsTally pit) (sym c.self.view_is) c.requires.tally in
     let none = subst (λ (s : Tallied). by_block s.periods c.args.b ≡ None) (sym c.self.view_is) c.requires.none in
-    room-for pit (by_block c.self.inside.periods.items) c.args.b c.args.period true (load_at pit (cell_load c.self.inside.loads.items)) c.blocks-blocks.ensures.sound c.requires.known none
+    room-for pit (by_block c.self.inside.periods.items) c.args.b c.args.period true (at_cell pit (cell_load c.self.inside.loads.items)) c.blocks-blocks.ensures.sound c.requires.known none
     tally.totals.each c.requires.in_range
 
 pub plus-self-inside-requires : goal.plus-self-inside-requires

@@ -3,7 +3,7 @@ use Rattle.std.specs.Int.{w128}
 use Rattle.std.proofs.lemmas.Int.{to_z-of_z}
 use Rattle.std.proofs.lemmas.List.{get_or_default}
 use Rattle.pit_plan.specs.Schedule.{by_block, earned_in}
-use Rattle.pit_plan.specs.Totals.{IsTally, cell_load, load_at}
+use Rattle.pit_plan.specs.Totals.{IsTally, cell_load, at_cell}
 use Rattle.pit_plan.proofs.Moved.{taken, room-for, sum-out, period-in_range, tally-set}
 use Rattle.pit_plan.proofs.tally.Tally.take_out.Goals as goal
 
@@ -19,7 +19,7 @@ shift_kept-requires-clause-room g c =
     let pit = c.args.pit.now in
     let tally = subst (IsTally pit) (sym c.self.view_is) c.requires.tally in
     let is = get_or_default c.self.inside.periods.items c.args.b None c.index-old.result.now (omega (arith, c.requires.known, tally.each_period)) ∙ sym c.index-old.ensures in
-    room-for pit (by_block c.self.inside.periods.items) c.args.b c.index-old.result.now false (load_at pit (cell_load c.self.inside.loads.items)) c.blocks-blocks.ensures.sound c.requires.known is
+    room-for pit (by_block c.self.inside.periods.items) c.args.b c.index-old.result.now false (at_cell pit (cell_load c.self.inside.loads.items)) c.blocks-blocks.ensures.sound c.requires.known is
     tally.totals.each (period-in_range pit _ c.args.b c.index-old.result.now tally c.requires.known is)
 
 pub earned-requires-clause-period : goal.earned-requires-clause-period
