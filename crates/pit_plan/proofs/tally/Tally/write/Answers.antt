@@ -11,7 +11,7 @@ loop-block-init g c = (sym (with_writes-none (λ w. w.1) c.args.self.now.periods
 pub put_in-requires-clause-none : goal.put_in-requires-clause-none
 put_in-requires-clause-none g c =
     let w = get_or c.args.writes.now c.loop-block.block-index (0, None) in
-    let below = c.requires.fits.blocks c.loop-block.block-index (0, None) c.loop-block-test.true in
+    let below = c.requires.fits.keys c.loop-block.block-index (0, None) c.loop-block-test.true in
     ap (λ (ps : List (Option ℕ)). by_block ps w.0) c.take_out.ensures.periods
     ∙ get_or-set_same c.loop-block.self.periods w.0 None None (omega (arith, below, c.loop-block.invariant.1.each_period))
 
