@@ -1,11 +1,12 @@
 -- What an insert leaves of a set.
-use Rattle.std.proofs.Common.{◌≡◌, ◌≢◌, ℕ, zero, suc, ◌<◌, Bool, true, false, true≢false, cond, List, [], ◌∷◌, ◌++◌, Option, Some, Result, Ok, Err, OnOk, OnErr, refl, sym, ap, subst, ◌∙◌, nat_eq, arith}
+use Rattle.std.proofs.Common.{◌≡◌, ◌≢◌, ℕ, zero, suc, ◌<◌, ◌≤◌, ℤ, Bool, true, false, true≢false, cond, List, [], ◌∷◌, ◌++◌, Option, Some, Result, Ok, Err, OnOk, OnErr, refl, sym, ap, subst, ◌∙◌, nat_eq, arith}
 use Rattle.std.specs.Prelude.{All, AllPairs, IfErr, IfSome, is_some}
 use Rattle.std.proofs.lemmas.Bool.Decides.{Decides-eqb}
 use Rattle.std.proofs.lemmas.List.Elements.{All-cons, All-nil, All-head, All-tail}
 use Rattle.std.proofs.lemmas.List.Kept.{AllPairs-cons}
 use Rattle.indexmap.specs.IndexMap.{IndexMap, insert_entry, spare}
-use Rattle.pit_num.specs.Fitting.{Fits}
+use Rattle.pit_num.specs.Fitting.{AreKeyed, Fits, RevisionsFit, pair_eq}
+use Rattle.pit_num.proofs.CallerLemmas.{Decides-pair_eq}
 use Rattle.pit_tx.specs.Sets.{with_read, with_write, at_key}
 use Rattle.pit_tx.specs.Refusals.{IsFurther}
 use Rattle.pit_tx.specs.Kept.{IsSetKept}
@@ -66,47 +67,61 @@ insert_entry-some eq (p ∷ ps) key value none = by (eq key p.0) none
     by true none = cc
     by false none = cc
 
--- ---- blocks, each with a period or none
-
--- pairs that fit do so after an insert, if the new pair does
-Fits-insert_entry : (blocks periods : ℕ) (pairs : List (ℕ × Option ℕ)) (b : ℕ) (v : Option ℕ)
-    → Fits blocks periods pairs → b < blocks → IfSome v (λ t. t < periods) → Fits blocks periods (insert_entry nat_eq pairs b v)
-Fits-insert_entry blocks periods pairs b v fit block period = record {
-  blocks = All-insert_entry nat_eq (λ p. p.0 < blocks) pairs b v (λ p h. h) block fit.blocks;
-  periods = All-insert_entry nat_eq (λ p. IfSome p.1 (λ t. t < periods)) pairs b v (λ p h. period) period fit.periods;
-  once = once-insert_entry nat_eq (λ k. (Decides-eqb k k).1 refl) pairs b v fit.once;
+-- keyed pairs are so after an insert, if the new key and value pass their tests
+pub AreKeyed-insert_entry : {K V : Type 0} (eq : K → K → Bool) (same : (k : K) → eq k k ≡ true) (IsKey : K → Type 0) (IsValue : V → Type 0) (pairs : List (K × V)) (key : K) (value : V)
+    → IsKey key → IsValue value → AreKeyed IsKey IsValue pairs → AreKeyed IsKey IsValue (insert_entry eq pairs key value)
+AreKeyed-insert_entry {K} {V} eq same IsKey IsValue pairs key value is_key is_value keyed = record {
+  keys = All-insert_entry eq (λ (p : K × V). IsKey p.0) pairs key value (λ p h. h) is_key keyed.keys;
+  values = All-insert_entry eq (λ (p : K × V). IsValue p.1) pairs key value (λ p h. is_value) is_value keyed.values;
+  once = once-insert_entry eq same pairs key value keyed.once;
 }
 
-IsSetKept-insert : {S : Type 0} (blocks periods : ℕ) (old new : IndexMap ℕ (Option ℕ) S) (b : ℕ) (v : Option ℕ)
-    → new.entries ≡ with_write nat_eq old.entries b v → IsSetKept blocks periods old → b < blocks → IfSome v (λ t. t < periods) → IsSetKept blocks periods new
-IsSetKept-insert blocks periods old new b v inserted kept block period = record {
-  fit = subst (Fits blocks periods) (sym inserted) (Fits-insert_entry blocks periods old.entries b v kept.fit block period);
-  room = λ none. absurd (insert_entry-some nat_eq old.entries b v (sym inserted ∙ none));
-}
+-- ---- what a set keeps
 
-IsSetKept-same : {S : Type 0} (blocks periods : ℕ) (old new : IndexMap ℕ (Option ℕ) S) → new.entries ≡ old.entries → (new.entries ≡ [] → 0 < spare new) → IsSetKept blocks periods old → IsSetKept blocks periods new
-IsSetKept-same blocks periods old new same room kept = record { fit = subst (Fits blocks periods) (sym same) kept.fit; room = room }
+-- an empty set that has room
+pub IsSetKept-empty : {K V S : Type 0} (DoFit : List (K × V) → Type 0) (set : IndexMap K V S) → set.entries ≡ [] → 1 ≤ spare set → DoFit [] → IsSetKept DoFit set
+IsSetKept-empty DoFit set none room fit = record { fit = subst DoFit (sym none) fit; room = λ empty. room }
 
--- a set keeps what it keeps over a write, whatever is answered
-pub IsSetKept-write : {S T : Type 0} (blocks periods : ℕ) (old new : IndexMap ℕ (Option ℕ) S) (b : ℕ) (v : Option ℕ) (result : Result T WorkError)
-    → OnOk result (new.entries ≡ with_write nat_eq old.entries b v) → OnErr result (new.entries ≡ old.entries) → IfErr result (λ e. (e ≡ NoMemory) × IsFurther nat_eq old.entries b)
-    → IsSetKept blocks periods old → b < blocks → IfSome v (λ t. t < periods) → IsSetKept blocks periods new
-IsSetKept-write blocks periods old new b v (Ok done) inserted same memory kept block period = IsSetKept-insert blocks periods old new b v inserted kept block period
-IsSetKept-write blocks periods old new b v (Err e) inserted same memory kept block period = IsSetKept-same blocks periods old new same (λ none. absurd (memory.1.others (sym same ∙ none))) kept
+module _ {K V S : Type 0} (eq : K → K → Bool) (DoFit : List (K × V) → Type 0) (old new : IndexMap K V S) (key : K) (value : V) where
+  IsSetKept-insert : new.entries ≡ with_write eq old.entries key value → DoFit (insert_entry eq old.entries key value) → IsSetKept DoFit new
+  IsSetKept-insert inserted fit = record {
+    fit = subst DoFit (sym inserted) fit;
+    room = λ none. absurd (insert_entry-some eq old.entries key value (sym inserted ∙ none));
+  }
 
--- and over a read
-pub IsSetKept-read : {S T : Type 0} (blocks periods : ℕ) (old new : IndexMap ℕ (Option ℕ) S) (b : ℕ) (v : Option ℕ) (result : Result T WorkError)
-    → OnOk result (new.entries ≡ with_read nat_eq old.entries b v) → OnErr result (new.entries ≡ old.entries) → IfErr result (λ e. (e ≡ NoMemory) × IsFurther nat_eq old.entries b)
-    → IsSetKept blocks periods old → b < blocks → IfSome v (λ t. t < periods) → IsSetKept blocks periods new
-IsSetKept-read blocks periods old new b v (Err e) noted same memory kept block period = IsSetKept-same blocks periods old new same (λ none. absurd (memory.1.others (sym same ∙ none))) kept
-IsSetKept-read {S} {T} blocks periods old new b v (Ok done) noted same memory kept block period = by (is_some (at_key nat_eq old.entries b)) refl noted
-  where
-    some : (pairs : List (ℕ × Option ℕ)) → is_some (at_key nat_eq pairs b) ≡ true → pairs ≡ [] → ⊥
-    some [] found none = cc
-    some (p ∷ ps) found none = cc
+  IsSetKept-same : new.entries ≡ old.entries → (new.entries ≡ [] → 0 < spare new) → IsSetKept DoFit old → IsSetKept DoFit new
+  IsSetKept-same same room kept = record { fit = subst DoFit (sym same) kept.fit; room = room }
 
-    by : (x : Bool) → is_some (at_key nat_eq old.entries b) ≡ x → new.entries ≡ cond x old.entries (old.entries ++ (b, v) ∷ []) → IsSetKept blocks periods new
-    by true found is = IsSetKept-same blocks periods old new is (λ none. absurd (some old.entries found (sym is ∙ none))) kept
-    by false absent is = IsSetKept-insert blocks periods old new b v (is ∙ sym (insert_entry-absent nat_eq old.entries b v absent)) kept block period
+  -- over a write, whatever is answered
+  pub IsSetKept-write : {T : Type 0} (result : Result T WorkError) → OnOk result (new.entries ≡ with_write eq old.entries key value) → OnErr result (new.entries ≡ old.entries)
+      → IfErr result (λ e. (e ≡ NoMemory) × IsFurther eq old.entries key) → IsSetKept DoFit old → DoFit (insert_entry eq old.entries key value) → IsSetKept DoFit new
+  IsSetKept-write (Ok done) inserted same memory kept fit = IsSetKept-insert inserted fit
+  IsSetKept-write (Err e) inserted same memory kept fit = IsSetKept-same same (λ none. absurd (memory.1.others (sym same ∙ none))) kept
+
+  -- and over a read
+  pub IsSetKept-read : {T : Type 0} (result : Result T WorkError) → OnOk result (new.entries ≡ with_read eq old.entries key value) → OnErr result (new.entries ≡ old.entries)
+      → IfErr result (λ e. (e ≡ NoMemory) × IsFurther eq old.entries key) → IsSetKept DoFit old → DoFit (insert_entry eq old.entries key value) → IsSetKept DoFit new
+  IsSetKept-read (Err e) noted same memory kept fit = IsSetKept-same same (λ none. absurd (memory.1.others (sym same ∙ none))) kept
+  IsSetKept-read (Ok done) noted same memory kept fit = by (is_some (at_key eq old.entries key)) refl noted
+    where
+      some : (pairs : List (K × V)) → is_some (at_key eq pairs key) ≡ true → pairs ≡ [] → ⊥
+      some [] found none = cc
+      some (p ∷ ps) found none = cc
+
+      by : (x : Bool) → is_some (at_key eq old.entries key) ≡ x → new.entries ≡ cond x old.entries (old.entries ++ (key, value) ∷ []) → IsSetKept DoFit new
+      by true found is = IsSetKept-same is (λ none. absurd (some old.entries found (sym is ∙ none))) kept
+      by false absent is = IsSetKept-insert (is ∙ sym (insert_entry-absent eq old.entries key value absent)) fit
+
+-- ---- what the tests are of a block with a period or none, and of a resource in a period with a limit or none
+
+pub Fits-insert_entry : (block_count period_count : ℕ) (pairs : List (ℕ × Option ℕ)) (b : ℕ) (period : Option ℕ) → b < block_count → IfSome period (λ t. t < period_count)
+    → Fits block_count period_count pairs → Fits block_count period_count (insert_entry nat_eq pairs b period)
+Fits-insert_entry block_count period_count pairs b period below within =
+    AreKeyed-insert_entry nat_eq (λ k. (Decides-eqb k k).1 refl) (λ (k : ℕ). k < block_count) (λ (v : Option ℕ). IfSome v (λ t. t < period_count)) pairs b period below within
+
+pub RevisionsFit-insert_entry : (resource_count period_count : ℕ) (revisions : List ((ℕ × ℕ) × Option ℤ)) (key : ℕ × ℕ) (upper : Option ℤ) → (key.0 < resource_count) × (key.1 < period_count)
+    → RevisionsFit resource_count period_count revisions → RevisionsFit resource_count period_count (insert_entry pair_eq revisions key upper)
+RevisionsFit-insert_entry resource_count period_count revisions key upper within =
+    AreKeyed-insert_entry pair_eq (λ k. (Decides-pair_eq k k).1 refl) (λ (k : ℕ × ℕ). (k.0 < resource_count) × (k.1 < period_count)) (λ (v : Option ℤ). Unit {0}) revisions key upper within tt
 
 pub ruleset inserted = (insert_entry-absent)

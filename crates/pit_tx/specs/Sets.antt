@@ -1,21 +1,24 @@
 -- What contracts see of a transaction's sets.
-use Rattle.std.specs.Prelude.{ℕ, ◌≤◌, ◌++◌, List, [], ◌∷◌, Bool, Option, nat_eq, is_some, if◌then◌else◌}
+use Rattle.std.specs.Prelude.{ℕ, ◌≤◌, ℤ, ◌++◌, List, [], ◌∷◌, Bool, Option, nat_eq, is_some, if◌then◌else◌}
 use Rattle.std.specs.Map.{lookup}
 use Rattle.indexmap.specs.IndexMap.{insert_entry}
-use Rattle.pit_num.specs.Fitting.{Fits}
-use Rattle.pit_num.specs.declared.limits.TheConstants.{BLOCKS_MAX, PERIODS_MAX}
+use Rattle.pit_num.specs.Fitting.{Fits, RevisionsFit}
+use Rattle.pit_num.specs.declared.limits.TheConstants.{BLOCKS_MAX, PERIODS_MAX, RESOURCES_MAX}
 
 pub record Sets : Type 0 where
   -- who made it, for which of its jobs, and after how many commits
   pub planner : ℕ
   pub job : ℕ
   pub start : ℕ
-  -- how many blocks and periods there are
+  -- how many blocks, periods and resources there are
   pub blocks : ℕ
   pub periods : ℕ
+  pub resources : ℕ
   -- blocks, each with a period or none, in the order of first use
   pub reads : List (ℕ × Option ℕ)
   pub writes : List (ℕ × Option ℕ)
+  -- resources in periods, each with an upper limit or none, in the order of first use
+  pub revises : List ((ℕ × ℕ) × Option ℤ)
 
 -- keys, each with a value, in the order of first use
 module _ {K V : Type 0} (eq : K → K → Bool) where
@@ -45,5 +48,7 @@ IsPeriodCount periods = (1 ≤ periods) × (periods ≤ PERIODS_MAX)
 pub record AreSound (sets : Sets) : Type 0 where
   pub blocks : IsBlockCount sets.blocks
   pub periods : IsPeriodCount sets.periods
+  pub resources : sets.resources ≤ RESOURCES_MAX
   pub reads : Fits sets.blocks sets.periods sets.reads
   pub writes : Fits sets.blocks sets.periods sets.writes
+  pub revises : RevisionsFit sets.resources sets.periods sets.revises

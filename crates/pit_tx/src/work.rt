@@ -1,20 +1,20 @@
 //! The sets of a transaction, in the order of first use.
 ghost use Rattle.std.specs.Prelude.{◌≡◌, ◌<◌, ◌≤◌, [], nat_eq, IfOk, OnOk, OnErr, IfSome, IfNone, IsErrOf};
-ghost use Rattle.pit_num.specs.Fitting.{Fits};
+ghost use Rattle.pit_num.specs.Fitting.{Fits, RevisionsFit, pair_eq};
 ghost use Rattle.pit_num.specs.Refused.{IsRefusedBy};
-ghost use Rattle.pit_tx.specs.Refusals.{refusal_of, IsFurther};
+ghost use Rattle.pit_tx.specs.Refusals.{refusal_of, revision_refusal_of, IsFurther};
 ghost use Rattle.pit_tx.specs.Sets.{known_of, with_read, with_write, AreSound};
 
-use crate::access_set::{AccessSet, note_in, write_in};
 use crate::error::WorkError;
+use crate::keyed_set::{AccessSet, RevisionSet, note_in, write_in};
 use indexmap::IndexMap;
-use pit_num::{BLOCKS_MAX, NoMemory, PERIODS_MAX};
+use pit_num::{BLOCKS_MAX, NoMemory, PERIODS_MAX, RESOURCES_MAX};
 use std::alloc::Allocator;
 use std::marker::Model;
 
-/// The reads and the writes of a transaction, each a block with a period or none, in the order of first use. A transaction is
-/// what one planner does for one of its jobs, after so many commits. Only `new`, `note`, `put` and `clear` take memory, and a
-/// refused one leaves all as it was.
+/// The reads and the writes of a transaction, each a block with a period or none, and the upper limits that it revises, in the order
+/// of first use. A transaction is what one planner does for one of its jobs, after so many commits. Only `new`, `note`, `put`,
+/// `clear` and `revise` take memory, and a refused one leaves all as it was.
 #[derive(Drop)]
 pub struct Work<A: Allocator + Copy + Drop> {
     planner: u32,
@@ -22,8 +22,10 @@ pub struct Work<A: Allocator + Copy + Drop> {
     start: u32,
     blocks: u32,
     periods: u32,
+    resources: u32,
     reads: AccessSet<A>,
     writes: AccessSet<A>,
+    revises: RevisionSet<A>,
 }
 
 impl<A: Allocator + Copy + Drop> Model for Work<A> {
@@ -39,15 +41,17 @@ impl<A: Allocator + Copy + Drop> Model for Work<A> {
       start = w.start;
       blocks = w.blocks;
       periods = w.periods;
+      resources = w.resources;
       reads = w.reads.entries;
       writes = w.writes.entries;
+      revises = w.revises.entries;
     } };
 
-    ghost invariant = { λ w. AreSetsKept w.blocks w.periods w.reads w.writes };
+    ghost invariant = { λ w. AreSetsKept w.blocks w.periods w.resources w.reads w.writes w.revises };
 }
 
 impl<A: Allocator + Copy + Drop> Work<A> {
-    /// Empty sets over blocks and periods that are numbered from 0. Takes memory for one pair in each set.
+    /// Empty sets over blocks, periods and resources that are numbered from 0. Takes memory for one pair in each set.
     pub fn new(
         alloc: A,
         planner: u32,
@@ -55,31 +59,38 @@ impl<A: Allocator + Copy + Drop> Work<A> {
         start: u32,
         blocks: u32,
         periods: u32,
+        resources: u32,
     ) -> Result<Self, NoMemory>
         requires some_block { 1 ≤ blocks }
         requires few_blocks { blocks ≤ BLOCKS_MAX }
         requires some_period { 1 ≤ periods }
         requires few_periods { periods ≤ PERIODS_MAX }
+        requires few_resources { resources ≤ RESOURCES_MAX }
         ensures { IfOk result (λ w. w ≡ record {
           planner = planner;
           job = job;
           start = start;
           blocks = blocks;
           periods = periods;
+          resources = resources;
           reads = [];
           writes = [];
+          revises = [];
         }) }
     {
         let reads = IndexMap::with_capacity(alloc, 1)?;
         let writes = IndexMap::with_capacity(alloc, 1)?;
+        let revises = IndexMap::with_capacity(alloc, 1)?;
         Ok(Work {
             planner,
             job,
             start,
             blocks,
             periods,
+            resources,
             reads,
             writes,
+            revises,
         })
     }
 
@@ -118,6 +129,14 @@ impl<A: Allocator + Copy + Drop> Work<A> {
         ensures sound { AreSound self.now }
     {
         self.periods
+    }
+
+    /// The number of resources, 0 to 64.
+    pub fn resources(&self) -> u32
+        ensures count { result ≡ self.now.resources }
+        ensures sound { AreSound self.now }
+    {
+        self.resources
     }
 
     /// The own write of a block, else its first noted read (TL2 2006). A block out of range is not known.
@@ -165,6 +184,20 @@ impl<A: Allocator + Copy + Drop> Work<A> {
         self.write(b, None)
     }
 
+    /// Revises the upper limit of a resource in a period; `None` is no limit. A pair that was revised before keeps its place. Takes
+    /// memory where other pairs are revised, and not this one.
+    pub fn revise(&mut self, r: u32, t: u32, upper: Option<i64>) -> Result<(), WorkError>
+        ensures ok { OnOk result (self.new ≡ record self.old { revises = with_write pair_eq self.old.revises (r, t) upper }) }
+        ensures err { OnErr result (self.new ≡ self.old) }
+        ensures cause { IsRefusedBy WorkError.NoMemory result (revision_refusal_of self.old r t) }
+        ensures memory { IsErrOf result WorkError.NoMemory → IsFurther pair_eq self.old.revises (r, t) }
+    {
+        if let Some(error) = self.revision_refusal(r, t) {
+            return Err(error);
+        }
+        write_in(&mut self.revises, (r, t), upper)
+    }
+
     /// The read set: each block with what it was first seen to have.
     pub fn reads(&self) -> &AccessSet<A>
         ensures pairs { result.now.entries ≡ self.now.reads }
@@ -179,6 +212,14 @@ impl<A: Allocator + Copy + Drop> Work<A> {
         ensures fit { Fits self.now.blocks self.now.periods self.now.writes }
     {
         &self.writes
+    }
+
+    /// The revisions: each pair of a resource and a period with the upper limit that it was last given.
+    pub fn revises(&self) -> &RevisionSet<A>
+        ensures pairs { result.now.entries ≡ self.now.revises }
+        ensures fit { RevisionsFit self.now.resources self.now.periods self.now.revises }
+    {
+        &self.revises
     }
 
     /// Writes a block with a period or none.
@@ -206,5 +247,19 @@ impl<A: Allocator + Copy + Drop> Work<A> {
             Some(t) if t >= self.periods => Some(WorkError::NoPeriod),
             _ => None,
         }
+    }
+
+    /// Why a resource in a period can't be revised, if it can't.
+    fn revision_refusal(&self, r: u32, t: u32) -> Option<WorkError>
+        ensures due { result ≡ revision_refusal_of self.now r t }
+        ensures fits { IfNone result ((r < self.now.resources) × (t < self.now.periods)) }
+    {
+        if r >= self.resources {
+            return Some(WorkError::NoResource);
+        }
+        if t >= self.periods {
+            return Some(WorkError::NoPeriod);
+        }
+        None
     }
 }

@@ -1,4 +1,4 @@
-//! A set of pairs, in the order of first use.
+//! Sets of keys, each with a value, in the order of first use.
 ghost use Rattle.std.specs.Prelude.{◌≡◌, ◌<◌, [], OnOk, OnErr, IfErr};
 ghost use Rattle.indexmap.specs.IndexMap.{spare};
 ghost use Rattle.pit_tx.specs.Refusals.{IsFurther};
@@ -14,6 +14,9 @@ pub(crate) type KeyedSet<K, V, A> = IndexMap<K, V, BuildHasherDefault<FoldHasher
 
 /// A read set or a write set: blocks in the order of first use, each with a period or none.
 pub type AccessSet<A> = KeyedSet<u32, Option<u32>, A>;
+
+/// Revisions: a resource and a period in the order of first use, each pair with an upper limit or none.
+pub type RevisionSet<A> = KeyedSet<(u32, u32), Option<i64>, A>;
 
 /// Notes a key with a value, unless the key is there.
 #[tactic(auto, using(crate::proofs::Inserted::inserted))]
