@@ -4,7 +4,6 @@ pub mod GapMasks
 pub mod FirstLine
 pub mod States
 pub mod OneResult
-pub mod Small
 pub mod Ascii
 pub mod Firsts
 pub mod Facts
