@@ -1,4 +1,4 @@
-ghost use Rattle.std.specs.Prelude.{◌≡◌, ◌<◌, ◌++◌, ◌∷◌, [], List, IfOk, IfErr, OnOk, OnErr, IsOk, length, replicate, All};
+ghost use Rattle.std.specs.Prelude.{◌≡◌, ◌<◌, ◌++◌, ◌∷◌, [], List, IfOk, IfErr, IfSome, OnOk, OnErr, IsOk, length, replicate, All};
 ghost use Rattle.pit_num.specs.Fitting.{Fits};
 ghost use Rattle.pit_plan.specs.Schedule.{Commit, held_period, load_of, value_of};
 ghost use Rattle.pit_plan.specs.Standing.{StandsFor, period_of, version_of, Adds};
@@ -85,7 +85,8 @@ impl<A: Allocator + Copy + Drop> Plan<A> {
     /// The period of a block, or none.
     pub fn period(&self, b: u32) -> Option<u32>
         requires { b < self.now.pit.blocks }
-        ensures { result ≡ period_of self.now b }
+        ensures period { result ≡ period_of self.now b }
+        ensures in_range { IfSome result (λ t. t < self.now.pit.periods) }
     {
         self.tally.periods[b as usize]
     }
