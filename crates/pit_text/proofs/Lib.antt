@@ -16,5 +16,6 @@ pub mod Bodies
 pub mod Standing
 pub mod Solutions
 pub mod Headers
+pub mod Limited
 pub mod SolutionTexts
 pub mod CallerLemmas
