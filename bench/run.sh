@@ -1,5 +1,5 @@
 #!/usr/bin/env bash
-# Times `pit value` on two made-up pits, of 1,000,000 and 2,142,000 blocks: the best of three runs each, in turn.
+# Times `pit value` on two made-up pits, of 1,000,000 and 2,142,000 blocks: the best of three runs each.
 # usage: bench/run.sh PIT [TWIN]      PIT is the program; TWIN a native program that takes the same words, `TWIN value MODEL SOLUTION`
 # Prints seconds, peak memory, and the ratios to reading the bytes alone and to the twin. Wants python3 and GNU time.
 set -eu

@@ -17,8 +17,8 @@ const VERSION: &str = "0.1.0";
 
 const PIT_NOTES: &str = "\
 Blocks, periods and resources are numbered from 0. The model's discount rate is a fraction: 0.1 is
-10 % a period. A section or key of the model that is misspelt is skipped. docs/FORMATS.md has every
-form and fault line.
+10 % a period. A section of the model whose name is misspelt may be skipped with its lines.
+docs/FORMATS.md has every form and fault line.
 
 Status: 0 where all is well, 1 where `check` printed a breach or a shortfall, 2 where an input or
 the command line is refused, 3 where memory or a device is wanting. Of 2 and 3 a line on standard

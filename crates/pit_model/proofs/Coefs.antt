@@ -1,13 +1,12 @@
 -- What holds of the coefficients of a block.
-use Rattle.std.proofs.Common.{◌≡◌, ℕ, zero, suc, ◌+◌, ◌<◌, Bool, true, false, cond, ◌==◌, ◌||◌, nat_lt, ℤ, pos, List, [], ◌∷◌, map, refl, arith}
+use Rattle.std.proofs.Common.{◌≡◌, ℕ, zero, suc, ◌+◌, ◌<◌, Bool, true, false, cond, ◌==◌, ◌||◌, nat_lt, ℤ, pos, FitsSigned, List, [], ◌∷◌, map, refl, arith}
 use Rattle.std.specs.List.{All, AllPairs, list_any}
 use Rattle.std.specs.List.Sorted.{IsStrictlyIncreasing}
 use Rattle.std.proofs.lemmas.Bool.Decides.{nat_tests}
 use Rattle.std.proofs.lemmas.List.{get_or-map, length-map}
 use Rattle.std.proofs.lemmas.List.Elements.{All-cons, All-nil, All-head, All-tail}
 use Rattle.std.proofs.lemmas.List.Kept.{AllPairs-cons, AllPairs-from_increasing}
-use Rattle.pit_num.specs.Within.{IsWithin}
-use Rattle.pit_num.specs.declared.limits.TheConstants.{MICRO_LIMIT}
+use Rattle.std.specs.Int.{w64}
 use Rattle.pit_model.specs.Pit.{AreCoefs, with_pair}
 
 abbrev IsBefore : ℕ × ℤ → ℕ × ℤ → Type 0
@@ -73,9 +72,9 @@ increasing-AllPairs pairs rising k within =
     omega arith
 
 -- a pair of a resource that isn't there yet keeps the coefficients sound
-pub AreCoefs-with_pair : (resources : ℕ) (pairs : List (ℕ × ℤ)) (r : ℕ) (v : ℤ) → AreCoefs resources pairs → r < resources → IsWithin MICRO_LIMIT v → list_any (λ pair. pair.0 == r) pairs ≡ false → AreCoefs resources (with_pair pairs (r, v))
+pub AreCoefs-with_pair : (resources : ℕ) (pairs : List (ℕ × ℤ)) (r : ℕ) (v : ℤ) → AreCoefs resources pairs → r < resources → FitsSigned w64 v → list_any (λ pair. pair.0 == r) pairs ≡ false → AreCoefs resources (with_pair pairs (r, v))
 AreCoefs-with_pair resources pairs r v sound resource value absent = record {
   rising = increasing-AllPairs (with_pair pairs (r, v)) (AllPairs-with_pair pairs (r, v) absent (AllPairs-increasing pairs sound.rising));
   in_range = All-with_pair (λ pair. pair.0 < resources) pairs (r, v) resource sound.in_range;
-  small = All-with_pair (λ pair. IsWithin MICRO_LIMIT pair.1) pairs (r, v) value sound.small;
+  small = All-with_pair (λ pair. FitsSigned w64 pair.1) pairs (r, v) value sound.small;
 }

@@ -11,3 +11,6 @@ pub mod Placings
 pub mod Successions
 pub mod Ends
 pub mod Tightest
+pub mod Cells
+pub mod Limits
+pub mod CallerLemmas

@@ -1,11 +1,11 @@
 -- Which pits are sound.
-use Rattle.std.proofs.Common.{◌≡◌, ℕ, ◌≤◌, ◌*◌, ℤ, pos, List, [], Option, None, Some, unwrap_or, sym, ◌∙◌, subst, ◌==◌, ◌<◌, false, length, arith}
+use Rattle.std.proofs.Common.{◌≡◌, ℕ, ◌≤◌, ◌*◌, ℤ, pos, FitsSigned, List, [], Option, None, Some, unwrap_or, sym, ◌∙◌, subst, ◌==◌, ◌<◌, false, length, arith}
 use Rattle.std.specs.List.{list_any}
 use Rattle.std.proofs.Math.ListN.{length-set}
 use Rattle.std.proofs.lemmas.Int.{ints}
 use Rattle.std.proofs.lemmas.List.{length-replicate}
-use Rattle.pit_num.specs.Within.{IsWithin}
-use Rattle.pit_num.specs.declared.limits.TheConstants.{BLOCKS_MAX, PERIODS_MAX, RESOURCES_MAX, RATE_MAX, MICRO_LIMIT}
+use Rattle.std.specs.Int.{w64}
+use Rattle.pit_num.specs.declared.limits.TheConstants.{BLOCKS_MAX, PERIODS_MAX, RESOURCES_MAX, RATE_MAX}
 use Rattle.pit_model.specs.Pit.{Pit, IsSound, AreCoefs, ArePreds, coefs_of, empty_pit, with_pair, with_coef, preds_from, with_preds}
 use Rattle.pit_model.proofs.Rows.{get_or-replicate_default, set-each}
 use Rattle.pit_model.proofs.Coefs.{AreCoefs-with_pair}
@@ -24,7 +24,7 @@ IsSound-empty blocks periods resources rate b p r i = record {
   each_preds = length-replicate blocks None;
   each_bound = length-replicate (periods * resources) (None, None);
   each_place = length-replicate blocks None;
-  profits = λ block. subst (λ (o : Option ℤ). IsWithin MICRO_LIMIT (unwrap_or o (pos 0))) (sym (get_or-replicate_default blocks block None)) (record { low = omega (arith, ints); high = omega (arith, ints) });
+  profits = λ block. subst (λ (o : Option ℤ). FitsSigned w64 (unwrap_or o (pos 0))) (sym (get_or-replicate_default blocks block None)) (omega (arith, ints));
   coefs = λ block. subst (λ (row : List (ℕ × ℤ)). AreCoefs resources row) (sym (get_or-replicate_default blocks block [])) (record { rising = λ k within. absurd (omega arith); in_range = λ k d within. absurd (omega arith); small = λ k d within. absurd (omega arith) });
   preds = λ block. subst (λ (o : Option (List ℕ)). ArePreds blocks block (unwrap_or o [])) (sym (get_or-replicate_default blocks block None)) (record { rising = λ k within. absurd (omega arith); in_range = λ k d within. absurd (omega arith); others = λ k d within. absurd (omega arith) });
 }
@@ -32,7 +32,7 @@ IsSound-empty blocks periods resources rate b p r i = record {
 pub IsSound-from_empty : (pit : Pit) (blocks periods resources rate : ℕ) → pit ≡ empty_pit blocks periods resources rate → (1 ≤ blocks) × (blocks ≤ BLOCKS_MAX) → (1 ≤ periods) × (periods ≤ PERIODS_MAX) → resources ≤ RESOURCES_MAX → rate ≤ RATE_MAX → IsSound pit
 IsSound-from_empty pit blocks periods resources rate is b p r i = subst IsSound (sym is) (IsSound-empty blocks periods resources rate b p r i)
 
-pub IsSound-with_coef : (pit : Pit) (block resource : ℕ) (value : ℤ) → IsSound pit → block < pit.blocks → resource < pit.resources → IsWithin MICRO_LIMIT value → list_any (λ pair. pair.0 == resource) (coefs_of pit block) ≡ false → IsSound (with_coef pit block resource value)
+pub IsSound-with_coef : (pit : Pit) (block resource : ℕ) (value : ℤ) → IsSound pit → block < pit.blocks → resource < pit.resources → FitsSigned w64 value → list_any (λ pair. pair.0 == resource) (coefs_of pit block) ≡ false → IsSound (with_coef pit block resource value)
 IsSound-with_coef pit block resource value sound b r v absent = record {
   some_block = sound.some_block;
   few_blocks = sound.few_blocks;

@@ -1,12 +1,11 @@
 -- An instance of MineLib's problem CPIT (2013): what is known of a pit.
-use Rattle.std.specs.Prelude.{◌≡◌, ◌≢◌, ℕ, ℤ, pos, ◌<◌, ◌≤◌, ◌+◌, ◌*◌, ◌==◌, ◌&&◌, not, nat_lt, Bool, true, false, List, [], ◌∷◌, map, length, replicate, slice_set, slice_index_or, Option, Some, None, unwrap_or, if◌then◌else◌, int_lt}
-use Rattle.std.specs.Int.{int_min, int_max}
+use Rattle.std.specs.Prelude.{◌≡◌, ◌≢◌, ℕ, ℤ, pos, ◌<◌, ◌≤◌, ◌+◌, ◌*◌, ◌==◌, ◌&&◌, not, nat_lt, Bool, true, false, List, [], ◌∷◌, map, length, replicate, slice_set, slice_index_or, Option, Some, None, unwrap_or, if◌then◌else◌, int_lt, FitsSigned}
+use Rattle.std.specs.Int.{int_min, int_max, w64}
 use Rattle.std.specs.List.{All, filter, list_any, range_with_len}
 use Rattle.std.specs.List.Sorted.{IsStrictlyIncreasing}
 use Rattle.pit_num.specs.Factor.{factor}
 use Rattle.pit_num.specs.Least.{ComesBefore, IsLeastOf}
-use Rattle.pit_num.specs.Within.{IsWithin}
-use Rattle.pit_num.specs.declared.limits.TheConstants.{BLOCKS_MAX, PERIODS_MAX, RESOURCES_MAX, RATE_MAX, MICRO_LIMIT}
+use Rattle.pit_num.specs.declared.limits.TheConstants.{BLOCKS_MAX, PERIODS_MAX, RESOURCES_MAX, RATE_MAX}
 
 -- the facts of a pit; each list that is by block has one item for each block
 pub record Pit : Type 0 where
@@ -143,11 +142,11 @@ with_place pit block place = record pit { places = slice_set pit.places block (S
 
 -- ---- what holds of each pit
 
--- rising by resource, each in range and each coefficient small
+-- rising by resource, each in range, and each coefficient of 64 bits
 pub record AreCoefs (resources : ℕ) (pairs : List (ℕ × ℤ)) : Type 0 where
   pub rising : IsStrictlyIncreasing (map (λ pair. pair.0) pairs)
   pub in_range : All (λ pair. pair.0 < resources) pairs
-  pub small : All (λ pair. IsWithin MICRO_LIMIT pair.1) pairs
+  pub small : All (λ pair. FitsSigned w64 pair.1) pairs
 
 -- rising, each in range, and not the block itself
 pub record ArePreds (blocks block : ℕ) (preds : List ℕ) : Type 0 where
@@ -168,6 +167,6 @@ pub record IsSound (pit : Pit) : Type 0 where
   pub each_preds : length pit.preds ≡ pit.blocks
   pub each_bound : length pit.bounds ≡ pit.periods * pit.resources
   pub each_place : length pit.places ≡ pit.blocks
-  pub profits : (block : ℕ) → IsWithin MICRO_LIMIT (profit_of pit block)
+  pub profits : (block : ℕ) → FitsSigned w64 (profit_of pit block)
   pub coefs : (block : ℕ) → AreCoefs pit.resources (coefs_of pit block)
   pub preds : (block : ℕ) → ArePreds pit.blocks block (preds_of pit block)

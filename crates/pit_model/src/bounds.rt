@@ -1,10 +1,9 @@
 //! The bounds of the loads.
-ghost use Rattle.std.specs.Prelude.{◌≡◌, ℕ, ℤ, ◌<◌, ◌≤◌, ◌≤ℤ◌, ◌+◌, ◌*◌, List, Option, None};
-ghost use Rattle.std.specs.List.{fold};
-ghost use Rattle.pit_model.specs.Tightest.{IsTightest};
+ghost use Rattle.std.specs.Prelude.{◌≡◌, ℕ, ℤ, ◌<◌, ◌≤◌, ◌+◌, ◌*◌, List, [], ◌∷◌, ◌++◌};
+ghost use Rattle.pit_model.specs.Tightest.{LimitLine, with_line, AreTightest};
 ghost use Rattle.std.specs.Int.{int_max, int_min};
 ghost use Rattle.pit_num.specs.declared.limits.TheConstants.{PERIODS_MAX, RESOURCES_MAX};
-ghost use Rattle.pit_model.specs.Pit.{is_below_zero, tighter};
+ghost use Rattle.pit_model.specs.Pit.{Pit, is_below_zero, tighter, empty_pit, with_profit, with_coef, with_preds, with_place};
 ghost use Rattle.pit_model.specs.Pit.{tighter_bounds as tighter_bounds_of};
 ghost use Rattle.pit_model.specs.Refusals.{is_empty_interval as is_empty};
 
@@ -49,11 +48,16 @@ pub(crate) fn tighter_bounds(bounds: Bounds, lo: Option<i64>, hi: Option<i64>) -
     (greater(bounds.0, lo), lesser(bounds.1, hi))
 }
 
-/// A law of bounds, which are narrowed one after the other: of several upper bounds the least is kept, of several lower bounds the
-/// greatest, and none only where none is given.
+/// A law of bounds, in whatever order the facts of a pit are set: each resource in each period has the greatest lower and the least upper
+/// bound that the lines of limits for it give, and none where none of them gives one. Other facts change no bound.
 pub fn bounds_are_tightest()
-    ensures upper { (given : List (Option ℤ)) → IsTightest (λ x y. x ≤ℤ y) given (fold (tighter int_min) None given) }
-    ensures lower { (given : List (Option ℤ)) → IsTightest (λ x y. y ≤ℤ x) given (fold (tighter int_max) None given) }
+    ensures none { (blocks periods resources rate : ℕ) → AreTightest (empty_pit blocks periods resources rate) [] }
+    ensures line { (pit : Pit) (lines : List LimitLine) (line : LimitLine) → line.resource < pit.resources → line.period < pit.periods
+        → AreTightest pit lines → AreTightest (with_line pit line) (lines ++ line ∷ []) }
+    ensures profit { (pit : Pit) (lines : List LimitLine) (b : ℕ) (v : ℤ) → AreTightest pit lines → AreTightest (with_profit pit b v) lines }
+    ensures coef { (pit : Pit) (lines : List LimitLine) (b r : ℕ) (v : ℤ) → AreTightest pit lines → AreTightest (with_coef pit b r v) lines }
+    ensures preds { (pit : Pit) (lines : List LimitLine) (b : ℕ) (listed : List ℕ) → AreTightest pit lines → AreTightest (with_preds pit b listed) lines }
+    ensures place { (pit : Pit) (lines : List LimitLine) (b : ℕ) (place : ℤ × ℤ × ℤ) → AreTightest pit lines → AreTightest (with_place pit b place) lines }
 {}
 
 /// The greater of two bounds, where none is no bound.

@@ -1,7 +1,6 @@
-ghost use Rattle.std.specs.Prelude.{◌≡◌, ◌≤◌, ◌^◌, ◌<◌, false, nat_le, All, IfOk, IfErr, OnOk, OnErr, IsOk, MatchOption, IsErrOf};
+ghost use Rattle.std.specs.Prelude.{◌≡◌, ◌≤◌, ◌<◌, false, nat_le, All, IfOk, IfErr, OnOk, OnErr, IsOk, MatchOption, IsErrOf};
 ghost use Rattle.std.specs.List.{list_any};
-ghost use Rattle.pit_num.specs.Within.{IsWithin};
-ghost use Rattle.pit_num.specs.declared.limits.TheConstants.{BLOCKS_MAX, PERIODS_MAX, RESOURCES_MAX, RATE_MAX, MICRO_LIMIT};
+ghost use Rattle.pit_num.specs.declared.limits.TheConstants.{BLOCKS_MAX, PERIODS_MAX, RESOURCES_MAX, RATE_MAX};
 ghost use Rattle.pit_model.specs.Pit.{empty_pit, with_profit, with_coef, with_preds, with_limit, with_place};
 ghost use Rattle.pit_model.specs.Refusals.{profit_refusal, coef_refusal, preds_refusal, limit_refusal, place_refusal};
 ghost use Rattle.pit_num.specs.Refused.{IsRefusedBy};
@@ -99,7 +98,6 @@ impl<A: Allocator + Copy + Drop> Builder<A> {
 
     /// Sets the profit of a block, in millionths. Takes no memory.
     pub fn set_profit(&mut self, b: u32, v: i64) -> Result<(), BuildError>
-        requires { IsWithin MICRO_LIMIT v }
         ensures ok { OnOk result (self.new ≡ with_profit self.old b v) }
         ensures err { OnErr result (self.new ≡ self.old) }
         ensures cause { MatchOption (profit_refusal self.old b) (IsOk result) (IsErrOf result) }
@@ -116,7 +114,6 @@ impl<A: Allocator + Copy + Drop> Builder<A> {
 
     /// Sets how much of a resource the mining of a block takes, in millionths.
     pub fn set_coef(&mut self, b: u32, r: u32, v: i64) -> Result<(), BuildError>
-        requires { IsWithin MICRO_LIMIT v }
         ensures ok { OnOk result (self.new ≡ with_coef self.old b r v) }
         ensures err { OnErr result (self.new ≡ self.old) }
         ensures cause { IsRefusedBy BuildError.NoMemory result (coef_refusal self.old b r) }

@@ -1,7 +1,5 @@
 ghost use Rattle.std.specs.Prelude.{◌≡◌, ◌<◌, ◌*◌, ◌^◌, pos, ◌≤ℤ◌, MatchOption};
 ghost use Rattle.pit_num.specs.Least.{IsLeast};
-ghost use Rattle.pit_num.specs.Within.{IsWithin};
-ghost use Rattle.pit_num.specs.declared.limits.TheConstants.{MICRO_LIMIT};
 ghost use Rattle.pit_model.specs.Pit.{IsSound, profit_of, factor_of, coefs_of, preds_of, succs_of, lower_of, upper_of, cell_of, place_of, IsUnmeetable, IsFirstUnmeetable, IsMeetable, AreCoefs, ArePreds};
 
 use crate::bounds::{Bounds, is_below_zero};
@@ -67,8 +65,7 @@ impl<A: Allocator + Copy + Drop> Instance<A> {
     /// The profit of a block, in millionths; 0 where none was set.
     pub fn profit(&self, b: u32) -> i64
         requires { b < self.now.blocks }
-        ensures value { result ≡ profit_of self.now b }
-        ensures small { IsWithin MICRO_LIMIT result }
+        ensures { result ≡ profit_of self.now b }
     {
         self.profits[b as usize].unwrap_or(0)
     }

@@ -2,7 +2,6 @@ pub mod Decimal
 pub mod Factor
 pub mod Rounding
 pub mod Printed
-pub mod Within
 pub mod Least
 pub mod Refused
 pub mod Fitting

@@ -15,7 +15,7 @@ pub enum NumError {
     Malformed,
     /// More digits than `DIGITS_MAX`, or in an exponent than `EXPONENT_DIGITS_MAX`; leading zeros count.
     TooLong,
-    /// A whole number of 2^32 or more; a decimal whose rounded magnitude is 10^18 millionths or more.
+    /// A whole number of 2^32 or more; a decimal whose rounded magnitude is `MICRO_LIMIT` millionths or more.
     TooLarge,
 }
 

@@ -1,8 +1,12 @@
 -- How large the terms of sums are.
-use Rattle.std.proofs.Common.{ℕ, suc, ◌≤◌, ◌*◌, ℤ, pos, negsuc, ◌*ℤ◌, ◌≤ℤ◌, arith}
+use Rattle.std.proofs.Common.{ℕ, suc, ◌≤◌, ◌*◌, ℤ, pos, negsuc, neg_ℤ, ◌*ℤ◌, ◌≤ℤ◌, arith}
 use Rattle.std.proofs.lemmas.Int.{ints}
 use Rattle.std.proofs.lemmas.Nat.{mul-le}
-use Rattle.pit_num.specs.Within.{IsWithin}
+
+-- from -m to m
+pub record IsWithin (m : ℕ) (z : ℤ) : Type 0 where
+  pub low : neg_ℤ (pos m) ≤ℤ z
+  pub high : z ≤ℤ pos m
 
 pub zero-within : (m : ℕ) → IsWithin m (pos 0)
 zero-within m = record { low = omega (arith, ints); high = omega (arith, ints) }

@@ -11,10 +11,10 @@ use Rattle.std.proofs.lemmas.List.Elements.{recursion_from_All}
 use Rattle.pit_num.specs.Fitting.{RevisionsFit, pair_eq, revisions_of}
 use Rattle.pit_num.proofs.CallerLemmas.{Decides-pair_eq}
 use Rattle.pit_model.specs.Pit.{Pit, cell_of}
+use Rattle.pit_model.proofs.CallerLemmas.{cells_apart, same_resource}
 use Rattle.pit_plan.specs.Schedule.{Revisions}
 use Rattle.pit_plan.specs.Limits.{by_cell}
 use Rattle.pit_plan.proofs.Named.{Once, same-eq, other-eq}
-use Rattle.pit_plan.proofs.Cells.{cells_apart, same_resource}
 
 pub cell-below : (pit : Pit) (r t : ℕ) → r < pit.resources → t < pit.periods → cell_of pit r t < pit.periods * pit.resources
 cell-below pit r t lr lt = omega (arith, mul-add-lt t pit.resources r pit.periods lt lr)

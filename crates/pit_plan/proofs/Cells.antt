@@ -7,26 +7,12 @@ use Rattle.std.proofs.lemmas.Nat.{div-add-mod'}
 use Rattle.std.proofs.lemmas.Int.{ints}
 use Rattle.std.proofs.lemmas.List.{get_or-set_same, get_or-set_other}
 use Rattle.std.proofs.lemmas.Bool.{cond-true, cond-false}
-use Rattle.std.proofs.lemmas.Bool.Decides.{leb_tells, eqb_tells}
+use Rattle.std.proofs.lemmas.Bool.Decides.{eqb_tells}
 use Rattle.pit_model.specs.Pit.{Pit, coefs_of, cell_of}
+use Rattle.pit_model.proofs.CallerLemmas.{cells_apart, same_resource}
 use Rattle.pit_plan.specs.Schedule.{coef_in, coef_of}
 use Rattle.pit_plan.specs.Totals.{cell_load, at_cell, moved_by, Moves, MovesOne, Raises}
 use Rattle.pit_plan.proofs.Named.{Once, absent-before, lookup-at, laid_over-more, same-eq, other-eq}
-
--- another period or resource stands in another cell
-pub cells_apart : (n r q t u : ℕ) → r < n → q < n → t * n + r ≡ u * n + q → t ≡ u
-cells_apart n r q t u lr lq e =
-    elim (leb_tells (suc t) u) [
-      | inl below ↦ absurd (omega (arith, mul-le-mul_right n below.1, e))
-      | inr above ↦
-          elim (leb_tells (suc u) t) [
-            | inl more ↦ absurd (omega (arith, mul-le-mul_right n more.1, e))
-            | inr less ↦ omega (arith, above.1, less.1)
-          ]
-    ]
-
-pub same_resource : (n r q t u : ℕ) → t * n + r ≡ u * n + q → t ≡ u → q ≡ r
-same_resource n r q t u e same = omega (arith, subst (λ (k : ℕ). t * n + r ≡ k * n + q) (sym same) e)
 
 pub some-resource : (periods resources cell : ℕ) → cell < periods * resources → 0 < resources
 some-resource periods zero cell within = absurd (omega (arith, within, mul-zero periods))

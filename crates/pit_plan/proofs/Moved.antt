@@ -4,15 +4,14 @@ use Rattle.std.specs.Prelude.{nat_eq, slice_set, unwrap_or, replicate, IfSome}
 use Rattle.std.specs.Map.{lookup}
 use Rattle.std.specs.List.{AllByRecursion}
 use Rattle.std.proofs.lemmas.List.Elements.{recursion_from_All, All-set, All-replicate}
-use Rattle.std.specs.Int.{w128}
+use Rattle.std.specs.Int.{w64, w128}
 use Rattle.std.proofs.lemmas.Int.{ints}
 use Rattle.std.proofs.lemmas.List.{get_or-set_same, get_or-set_other, get_or-replicate, length-replicate}
 use Rattle.std.proofs.lemmas.Nat.{mul-add-lt}
 use Rattle.std.proofs.lemmas.Bool.Decides.{eqb_tells}
-use Rattle.pit_num.specs.Within.{IsWithin}
 use Rattle.pit_model.specs.Pit.{Pit, IsSound, coefs_of, profit_of, factor_of}
 use Rattle.pit_num.proofs.CallerLemmas.{factor_le}
-use Rattle.pit_plan.proofs.Bounds.{zero-within, product-within}
+use Rattle.pit_plan.proofs.Bounds.{IsWithin, zero-within, product-within}
 use Rattle.pit_plan.specs.Sums.{total}
 use Rattle.pit_plan.specs.Schedule.{by_block, coef_in, coef_of, share, load_of, earned_in, value_of, is_in}
 use Rattle.pit_plan.specs.Totals.{cell_load, at_cell, AreLoads, AreTotals, Tallied, IsTally, MovesIn, moved_by, with_block}
@@ -75,26 +74,29 @@ total-within f m (suc n) each =
 
 -- ---- how large totals are
 
-coef_in-within : (pairs : List (ℕ × ℤ)) (r : ℕ) → AllByRecursion (λ pair. IsWithin (10 ^ 18) pair.1) pairs → IsWithin (10 ^ 18) (coef_in pairs r)
-coef_in-within [] r each = zero-within (10 ^ 18)
+of_64_bits : (z : ℤ) → FitsSigned w64 z → IsWithin (2 ^ 63) z
+of_64_bits z fits = record { low = omega (arith, ints, fits); high = omega (arith, ints, fits) }
+
+coef_in-within : (pairs : List (ℕ × ℤ)) (r : ℕ) → AllByRecursion (λ pair. FitsSigned w64 pair.1) pairs → IsWithin (2 ^ 63) (coef_in pairs r)
+coef_in-within [] r each = zero-within (2 ^ 63)
 coef_in-within (pair ∷ more) r each =
-    elim (nat_eq r pair.0) as (λ x. IsWithin (10 ^ 18) (unwrap_or (cond x (Some pair.1) (lookup (nat_eq r) more)) (pos 0))) [ true ↦ each.0 | false ↦ coef_in-within more r each.1 ]
+    elim (nat_eq r pair.0) as (λ x. IsWithin (2 ^ 63) (unwrap_or (cond x (Some pair.1) (lookup (nat_eq r) more)) (pos 0))) [ true ↦ of_64_bits pair.1 each.0 | false ↦ coef_in-within more r each.1 ]
 
-share-within : (pit : Pit) (s : ℕ → Option ℕ) (r t b : ℕ) → IsSound pit → IsWithin (10 ^ 18) (share pit s r t b)
+share-within : (pit : Pit) (s : ℕ → Option ℕ) (r t b : ℕ) → IsSound pit → IsWithin (2 ^ 63) (share pit s r t b)
 share-within pit s r t b sound =
-    let coef = coef_in-within (coefs_of pit b) r (recursion_from_All (λ pair. IsWithin (10 ^ 18) pair.1) (coefs_of pit b) (sound.coefs b).small) in
-    elim (is_in (s b) t) as (λ x. IsWithin (10 ^ 18) (cond x (coef_of pit b r) (pos 0))) [ true ↦ coef | false ↦ zero-within (10 ^ 18) ]
+    let coef = coef_in-within (coefs_of pit b) r (recursion_from_All (λ pair. FitsSigned w64 pair.1) (coefs_of pit b) (sound.coefs b).small) in
+    elim (is_in (s b) t) as (λ x. IsWithin (2 ^ 63) (cond x (coef_of pit b r) (pos 0))) [ true ↦ coef | false ↦ zero-within (2 ^ 63) ]
 
-earned-within : (pit : Pit) (b : ℕ) (p : Option ℕ) → IsSound pit → IsWithin (10 ^ 30) (earned_in pit b p)
-earned-within pit b None sound = zero-within (10 ^ 30)
+earned-within : (pit : Pit) (b : ℕ) (p : Option ℕ) → IsSound pit → IsWithin (2 ^ 63 * 10 ^ 12) (earned_in pit b p)
+earned-within pit b None sound = zero-within (2 ^ 63 * 10 ^ 12)
 earned-within pit b (Some t) sound =
-    product-within (10 ^ 18) (10 ^ 12) (profit_of pit b) (factor_of pit t) (sound.profits b) (omega (arith, ints)) (omega (arith, ints, factor_le pit.rate t))
+    product-within (2 ^ 63) (10 ^ 12) (profit_of pit b) (factor_of pit t) (of_64_bits (profit_of pit b) (sound.profits b)) (omega (arith, ints)) (omega (arith, ints, factor_le pit.rate t))
 
-load-within : (pit : Pit) (s : ℕ → Option ℕ) (r t : ℕ) → IsSound pit → IsWithin (pit.blocks * 10 ^ 18) (load_of pit s r t)
-load-within pit s r t sound = total-within (share pit s r t) (10 ^ 18) pit.blocks (λ b. share-within pit s r t b sound)
+load-within : (pit : Pit) (s : ℕ → Option ℕ) (r t : ℕ) → IsSound pit → IsWithin (pit.blocks * 2 ^ 63) (load_of pit s r t)
+load-within pit s r t sound = total-within (share pit s r t) (2 ^ 63) pit.blocks (λ b. share-within pit s r t b sound)
 
-value-within : (pit : Pit) (s : ℕ → Option ℕ) → IsSound pit → IsWithin (pit.blocks * 10 ^ 30) (value_of pit s)
-value-within pit s sound = total-within (λ b. earned_in pit b (s b)) (10 ^ 30) pit.blocks (λ b. earned-within pit b (s b) sound)
+value-within : (pit : Pit) (s : ℕ → Option ℕ) → IsSound pit → IsWithin (pit.blocks * (2 ^ 63 * 10 ^ 12)) (value_of pit s)
+value-within pit s sound = total-within (λ b. earned_in pit b (s b)) (2 ^ 63 * 10 ^ 12) pit.blocks (λ b. earned-within pit b (s b) sound)
 
 -- ---- a block that moves
 

@@ -127,6 +127,12 @@ load-of inside plan periods r t load is same found commits =
     subst (λ (p : Standing). StandsFor p commits → load ≡ load_of p.pit (held_period commits) r t) is
     (λ st. found ∙ (ap (λ (ps : List (Option ℕ)). load_of inside.pit (by_block ps) r t) same ∙ same-load inside.pit (by_block inside.periods) (held_period commits) r t st.period))
 
+pub value-of : (inside plan : Standing) (periods : List (Option ℕ)) (worth : ℤ) → inside ≡ plan → periods ≡ inside.periods → worth ≡ value_of inside.pit (by_block periods)
+    → (commits : List Commit) → StandsFor plan commits → worth ≡ value_of plan.pit (held_period commits)
+value-of inside plan periods worth is same found commits =
+    subst (λ (p : Standing). StandsFor p commits → worth ≡ value_of p.pit (held_period commits)) is
+    (λ st. found ∙ (ap (λ (ps : List (Option ℕ)). value_of inside.pit (by_block ps)) same ∙ same-value inside.pit (by_block inside.periods) (held_period commits) st.period))
+
 pub shortfalls-of : (inside plan : Standing) (periods : List (Option ℕ)) (shorts : List Short) → inside ≡ plan → periods ≡ inside.periods → shorts ≡ shortfalls_of inside.pit (by_block periods)
     → (commits : List Commit) → StandsFor plan commits → shorts ≡ shortfalls_of plan.pit (held_period commits)
 shortfalls-of inside plan periods shorts is same found commits =

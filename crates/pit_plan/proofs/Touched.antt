@@ -22,7 +22,8 @@ use Rattle.pit_plan.proofs.Least.{least-lesser}
 use Rattle.pit_plan.proofs.Good.{within-from_none}
 use Rattle.pit_plan.proofs.Same.{same-load}
 use Rattle.pit_plan.proofs.Named.{Once, absent-before, laid_over-more, named-keeps, named-own, named-before, same-eq}
-use Rattle.pit_plan.proofs.Cells.{cells_apart, same_resource, some-resource, place-known}
+use Rattle.pit_plan.proofs.Cells.{place-known}
+use Rattle.pit_model.proofs.CallerLemmas.{cells_apart, same_resource}
 
 -- ---- a cell that is set
 

@@ -83,8 +83,8 @@ impl<'a, A: Allocator + Copy + Drop> Loads for MovedLoads<'a, A> {
 
     ghost can_refuse = { true };
 
-    fn add(&mut self, cell: u32, term: i64) -> Result<(), NoMemory> {
-        let load = plus(load_in(self.kept, &self.cells, cell), i128::from(term));
+    fn add(&mut self, cell: u32, term: i128) -> Result<(), NoMemory> {
+        let load = plus(load_in(self.kept, &self.cells, cell), term);
         self.cells.insert(cell, load)?;
         Ok(())
     }

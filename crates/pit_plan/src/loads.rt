@@ -1,7 +1,6 @@
 //! Loads, which are moved as blocks go from one period to another.
-ghost use Rattle.std.specs.Prelude.{◌≡◌, ℕ, ℤ, ◌*◌, ◌<◌, ◌^◌, ◌+ℤ◌, true, length, Bool, List, FitsSigned, IfErr, IfSome, OnOk};
+ghost use Rattle.std.specs.Prelude.{◌≡◌, ℕ, ℤ, ◌*◌, ◌<◌, ◌+ℤ◌, true, length, Bool, List, FitsSigned, IfErr, IfSome, OnOk};
 ghost use Rattle.std.specs.Int.{w128};
-ghost use Rattle.pit_num.specs.Within.{IsWithin};
 ghost use Rattle.pit_plan.specs.Schedule.{coef_of};
 ghost use Rattle.pit_plan.specs.Totals.{at_cell, Raises, MovesIn, moved_by};
 
@@ -24,7 +23,7 @@ pub(crate) trait Loads {
     ghost can_refuse: { Bool };
 
     /// Adds to the load of a cell.
-    fn add(&mut self, cell: u32, term: i64) -> Result<(), NoMemory>
+    fn add(&mut self, cell: u32, term: i128) -> Result<(), NoMemory>
         requires sound { is_sound self.old }
         requires within { cell < length (base self.old) }
         requires room { FitsSigned w128 (load_in self.old cell +ℤ term) }
@@ -72,9 +71,9 @@ pub(crate) fn plus(sum: i128, term: i128) -> i128
 }
 
 /// A coefficient, or its opposite.
-fn moved(up: bool, coef: i64) -> i64
-    requires { IsWithin (10 ^ 18) coef }
+fn moved(up: bool, coef: i64) -> i128
     ensures { result ≡ moved_by up coef }
 {
-    if up { coef } else { -coef }
+    let term = i128::from(coef);
+    if up { term } else { -term }
 }

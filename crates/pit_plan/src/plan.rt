@@ -1,4 +1,4 @@
-ghost use Rattle.std.specs.Prelude.{◌≡◌, ℕ, ◌*◌, ◌<◌, ◌++◌, ◌∷◌, [], List, IfOk, IfErr, OnOk, OnErr, IsOk, length, replicate, All};
+ghost use Rattle.std.specs.Prelude.{◌≡◌, ℕ, ◌*◌, ◌<◌, ◌++◌, ◌∷◌, [], List, IfOk, IfErr, IfSome, OnOk, OnErr, IsOk, length, replicate, All};
 ghost use Rattle.pit_num.specs.Fitting.{Fits, RevisionsFit, revisions_of};
 ghost use Rattle.pit_model.specs.Pit.{upper_of};
 ghost use Rattle.pit_plan.specs.Schedule.{Commit, held_period, load_of, value_of};
@@ -98,7 +98,8 @@ impl<A: Allocator + Copy + Drop> Plan<A> {
     /// The period of a block, or none.
     pub fn period(&self, b: u32) -> Option<u32>
         requires { b < self.now.pit.blocks }
-        ensures { result ≡ period_of self.now b }
+        ensures period { result ≡ period_of self.now b }
+        ensures in_range { IfSome result (λ t. t < self.now.pit.periods) }
     {
         self.tally.periods[b as usize]
     }

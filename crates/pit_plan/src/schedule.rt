@@ -1,8 +1,7 @@
 //! What a schedule, which is a period or none for each block, loads, earns and breaks.
-ghost use Rattle.std.specs.Prelude.{◌≡◌, ℕ, ◌*◌, ◌<◌, ◌^◌, ◌++◌, length, Option, IfSome, IfOk, OnOk, All};
+ghost use Rattle.std.specs.Prelude.{◌≡◌, ℕ, ◌*◌, ◌<◌, ◌++◌, length, Option, IfSome, IfOk, OnOk, All};
 ghost use Rattle.std.specs.List.Sorted.{IsStrictlyIncreasing};
 ghost use Rattle.pit_num.specs.Least.{ComesBefore, IsLeast};
-ghost use Rattle.pit_num.specs.Within.{IsWithin};
 ghost use Rattle.pit_model.specs.Pit.{lower_of};
 ghost use Rattle.pit_plan.specs.Schedule.{by_block, load_of, earned_in, in_order, is_within};
 ghost use Rattle.pit_plan.specs.Totals.{IsTally, at_cell};
@@ -54,8 +53,7 @@ pub(crate) fn earned<A: Allocator + Copy + Drop>(
 ) -> i128
     requires known { b < pit.now.blocks }
     requires period { IfSome period (λ t. t < pit.now.periods) }
-    ensures value { result ≡ earned_in pit.now b period }
-    ensures small { IsWithin (10 ^ 30) result }
+    ensures { result ≡ earned_in pit.now b period }
 {
     match period {
         Some(t) => i128::from(pit.profit(b)) * i128::from(pit.factor(t)),

@@ -107,7 +107,7 @@ impl<A: Allocator + Drop> Loads for Vec<i128, A> {
 
     ghost can_refuse = { false };
 
-    fn add(&mut self, cell: u32, term: i64) -> Result<(), NoMemory> {
+    fn add(&mut self, cell: u32, term: i128) -> Result<(), NoMemory> {
         add_at(self, cell as usize, term);
         Ok(())
     }
@@ -142,10 +142,10 @@ fn minus(sum: i128, term: i128) -> i128
 }
 
 /// Adds to a cell.
-fn add_at<A: Allocator + Drop>(loads: &mut Vec<i128, A>, at: usize, term: i64)
+fn add_at<A: Allocator + Drop>(loads: &mut Vec<i128, A>, at: usize, term: i128)
     requires within { at < length loads.old.items }
     requires room { FitsSigned w128 (slice_index_or loads.old.items at (pos 0) +ℤ term) }
     ensures { loads.new.items ≡ slice_set loads.old.items at (slice_index_or loads.old.items at (pos 0) +ℤ term) }
 {
-    loads[at] += i128::from(term);
+    loads[at] += term;
 }

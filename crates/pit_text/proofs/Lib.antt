@@ -4,7 +4,6 @@ pub mod GapMasks
 pub mod FirstLine
 pub mod States
 pub mod OneResult
-pub mod Small
 pub mod Ascii
 pub mod Firsts
 pub mod Facts
@@ -17,5 +16,6 @@ pub mod Bodies
 pub mod Standing
 pub mod Solutions
 pub mod Headers
+pub mod Limited
 pub mod SolutionTexts
 pub mod CallerLemmas

@@ -13,5 +13,6 @@ pub mod Precedence
 pub mod Blocks
 pub mod Solution
 pub mod Model
+pub mod LimitLines
 pub mod Draft
 pub mod SolutionText

@@ -1,8 +1,6 @@
 -- What a line of a section says by itself, and what it makes of a pit.
-use Rattle.std.specs.Prelude.{ℕ, ℤ, if◌then◌else◌, List, [], ◌∷◌, Result, Ok, Err, Option, None, codes, ⊤}
+use Rattle.std.specs.Prelude.{ℕ, ℤ, if◌then◌else◌, List, [], ◌∷◌, Result, Ok, Err, Option, None, codes}
 use Rattle.std.specs.Str.{bytes_eq}
-use Rattle.pit_num.specs.Within.{IsWithin}
-use Rattle.pit_num.specs.declared.limits.TheConstants.{MICRO_LIMIT}
 use Rattle.pit_model.specs.Pit.{Pit, with_profit, with_coef, with_limit}
 use Rattle.pit_model.specs.Refusals.{profit_refusal, coef_refusal, limit_refusal}
 use Rattle.pit_model.specs.declared.error.BuildError.{BuildError}
@@ -82,9 +80,3 @@ abbrev pub section_fact_refusal : Pit → SectionFact → Option BuildError
 section_fact_refusal pit (Profit block value) = profit_refusal pit block
 section_fact_refusal pit (Coefficient block resource value) = coef_refusal pit block resource
 section_fact_refusal pit (Limit resource period lo hi) = limit_refusal pit resource period lo hi
-
--- a profit and a coefficient are below 10^12, in millionths
-abbrev pub IsSmall : SectionFact → Type 0
-IsSmall (Profit block value) = IsWithin MICRO_LIMIT value
-IsSmall (Coefficient block resource value) = IsWithin MICRO_LIMIT value
-IsSmall (Limit resource period lo hi) = ⊤

@@ -1,6 +1,4 @@
-ghost use Rattle.std.specs.Prelude.{◌≡◌, ◌^◌, ℕ, ℤ, List, Ok, Err, IfOk, MatchResult, ◌⊎◌};
-ghost use Rattle.pit_num.specs.Within.{IsWithin};
-ghost use Rattle.pit_num.specs.declared.limits.TheConstants.{MICRO_LIMIT};
+ghost use Rattle.std.specs.Prelude.{◌≡◌, ℕ, ℤ, List, Ok, Err, MatchResult, ◌⊎◌};
 ghost use Rattle.pit_text.specs.Cutting.{cut_of};
 ghost use Rattle.pit_text.specs.Left.{fields_left};
 ghost use Rattle.pit_text.specs.Stands.{StandsFor, FailsFirst};
@@ -50,8 +48,7 @@ fn read_line<A: Allocator + Copy + Drop>(
 /// The block and the place of a line.
 #[tactic(auto, unfolding(crate::specs::Blocks::place_line))]
 fn place(mut fields: Fields<'_>) -> Result<(u32, (i64, i64, i64)), Cause>
-    ensures value { result ≡ place_line (fields_left fields.entry) }
-    ensures small { IfOk result (λ read. IsWithin MICRO_LIMIT read.1.0 × IsWithin MICRO_LIMIT read.1.1 × IsWithin MICRO_LIMIT read.1.2) }
+    ensures { result ≡ place_line (fields_left fields.entry) }
 {
     let (Some(first), Some(x), Some(y), Some(z)) = (
         fields.next(),

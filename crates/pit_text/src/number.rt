@@ -1,7 +1,5 @@
-ghost use Rattle.std.specs.Prelude.{◌≡◌, ◌^◌, if◌then◌else◌, IfOk};
+ghost use Rattle.std.specs.Prelude.{◌≡◌, if◌then◌else◌};
 ghost use Rattle.pit_text.specs.declared.error.Cause.TheVariants.{BadNumber, NotAscii};
-ghost use Rattle.pit_num.specs.Within.{IsWithin};
-ghost use Rattle.pit_num.specs.declared.limits.TheConstants.{MICRO_LIMIT};
 ghost use Rattle.pit_text.specs.Numbers.{is_ascii, whole_field, decimal_field};
 
 use super::error::Cause;
@@ -21,8 +19,7 @@ pub(crate) fn whole(field: &[u8]) -> Result<u32, Cause>
 /// The decimal in a field, in millionths.
 #[tactic(auto, unfolding(crate::specs::Numbers::decimal_field), using(crate::proofs::Ascii::reads))]
 pub(crate) fn decimal(field: &[u8]) -> Result<i64, Cause>
-    ensures value { result ≡ decimal_field field.now }
-    ensures small { IfOk result (IsWithin MICRO_LIMIT) }
+    ensures { result ≡ decimal_field field.now }
 {
     match micro_from_bytes(field) {
         Ok(n) => Ok(n),

@@ -1,7 +1,7 @@
-ghost use Rattle.std.specs.Prelude.{◌≡◌, ◌∷◌, IfOk, OnOk, OnErr};
+ghost use Rattle.std.specs.Prelude.{◌≡◌, ◌∷◌, OnOk, OnErr};
 ghost use Rattle.pit_num.specs.Refused.{IsRefusedBy};
 ghost use Rattle.pit_text.specs.Left.{fields_left};
-ghost use Rattle.pit_text.specs.SectionFacts.{profit_line, coefficient_line, limit_line, kind_by, kind_field, bounds_by, section_fact_of, with_section_fact, section_fact_refusal, IsSmall};
+ghost use Rattle.pit_text.specs.SectionFacts.{profit_line, coefficient_line, limit_line, kind_by, kind_field, bounds_by, section_fact_of, with_section_fact, section_fact_refusal};
 
 use super::bound::{lower, upper};
 use super::error::Cause;
@@ -39,8 +39,7 @@ pub(crate) fn section_fact_of(
     first: &[u8],
     fields: Fields<'_>,
 ) -> Result<SectionFact, Cause>
-    ensures value { result ≡ section_fact_of section (first.now ∷ fields_left fields.entry) }
-    ensures small { IfOk result IsSmall }
+    ensures { result ≡ section_fact_of section (first.now ∷ fields_left fields.entry) }
 {
     match section {
         Section::Objective => profit(first, fields),
@@ -51,8 +50,7 @@ pub(crate) fn section_fact_of(
 
 #[tactic(auto, unfolding(crate::specs::SectionFacts::profit_line))]
 fn profit(first: &[u8], mut fields: Fields<'_>) -> Result<SectionFact, Cause>
-    ensures value { result ≡ profit_line (first.now ∷ fields_left fields.entry) }
-    ensures small { IfOk result IsSmall }
+    ensures { result ≡ profit_line (first.now ∷ fields_left fields.entry) }
 {
     let (Some(second), None) = (fields.next(), fields.next()) else {
         return Err(Cause::FieldCount);
@@ -64,8 +62,7 @@ fn profit(first: &[u8], mut fields: Fields<'_>) -> Result<SectionFact, Cause>
 
 #[tactic(auto, unfolding(crate::specs::SectionFacts::coefficient_line))]
 fn coefficient(first: &[u8], mut fields: Fields<'_>) -> Result<SectionFact, Cause>
-    ensures value { result ≡ coefficient_line (first.now ∷ fields_left fields.entry) }
-    ensures small { IfOk result IsSmall }
+    ensures { result ≡ coefficient_line (first.now ∷ fields_left fields.entry) }
 {
     let (Some(second), Some(third), None) = (fields.next(), fields.next(), fields.next()) else {
         return Err(Cause::FieldCount);
@@ -78,8 +75,7 @@ fn coefficient(first: &[u8], mut fields: Fields<'_>) -> Result<SectionFact, Caus
 
 #[tactic(auto, unfolding(crate::specs::SectionFacts::limit_line))]
 fn limit(first: &[u8], mut fields: Fields<'_>) -> Result<SectionFact, Cause>
-    ensures value { result ≡ limit_line (first.now ∷ fields_left fields.entry) }
-    ensures small { IfOk result IsSmall }
+    ensures { result ≡ limit_line (first.now ∷ fields_left fields.entry) }
 {
     let (Some(second), Some(third), Some(bound)) = (fields.next(), fields.next(), fields.next())
     else {
@@ -145,7 +141,6 @@ pub(crate) fn add<A: Allocator + Copy + Drop>(
     builder: &mut Builder<A>,
     fact: SectionFact,
 ) -> Result<(), BuildError>
-    requires { IsSmall fact }
     ensures ok { OnOk result (builder.new ≡ with_section_fact builder.old fact) }
     ensures err { OnErr result (builder.new ≡ builder.old) }
     ensures cause { IsRefusedBy BuildError.NoMemory result (section_fact_refusal builder.old fact) }

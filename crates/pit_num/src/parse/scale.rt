@@ -38,16 +38,16 @@ fn significand_value(whole: &[u8], fraction: &[u8]) -> u128
     requires fraction { IsTrue (are_digits fraction.now) }
     requires short { length whole.now + length fraction.now ≤ DIGITS_MAX }
     ensures value { result ≡ digits_value 10 (whole.now ++ fraction.now) }
-    ensures bound { result < 10 ^ 38 }
+    ensures bound { result < 10 ^ DIGITS_MAX }
 {
     digits_value(whole) * 10u128.pow(fraction.len() as u32) + digits_value(fraction)
 }
 
 /// In millionths, n times ten to `raises` over ten to `lowers`, where that is below the limit.
 fn scaled(n: u128, raises: u32, lowers: u32) -> Option<u64>
-    requires small { n < 10 ^ 38 }
-    requires raises { raises < 1000 }
-    requires lowers { lowers < 2000 }
+    requires small { n < 10 ^ DIGITS_MAX }
+    requires raises { raises < 10 ^ EXPONENT_DIGITS_MAX }
+    requires lowers { lowers < DIGITS_MAX + 10 ^ EXPONENT_DIGITS_MAX }
     ensures { result ≡ below_limit (nearest (n * 10 ^ raises * 10 ^ 6) (10 ^ lowers)) }
 {
     if lowers <= raises + 6 {
@@ -59,7 +59,7 @@ fn scaled(n: u128, raises: u32, lowers: u32) -> Option<u64>
 
 /// The number with so many zeros behind it, where that is below the limit.
 fn raised(n: u128, zeros: u32) -> Option<u64>
-    requires { n < 10 ^ 38 }
+    requires { n < 10 ^ DIGITS_MAX }
     ensures { result ≡ below_limit (n * 10 ^ zeros) }
 {
     let mut value = n;
@@ -78,10 +78,10 @@ fn raised(n: u128, zeros: u32) -> Option<u64>
 
 /// The number over ten to `places`, a half upwards, where that is below the limit.
 fn lowered(n: u128, places: u32) -> Option<u64>
-    requires { n < 10 ^ 38 }
+    requires { n < 10 ^ DIGITS_MAX }
     ensures { result ≡ below_limit (nearest n (10 ^ places)) }
 {
-    if places > 38 {
+    if places as usize > DIGITS_MAX {
         return Some(0);
     }
     let unit = 10u128.pow(places);

@@ -1,10 +1,20 @@
-use Rattle.std.proofs.Common.{◌≤ℤ◌}
-use Rattle.std.specs.Int.{int_min, int_max}
-use Rattle.pit_model.proofs.Tightest.{least, greatest, kept-tightest}
+use Rattle.pit_model.proofs.Limits.{tightest-empty, tightest-line}
 use Rattle.pit_model.proofs.bounds.bounds_are_tightest.Goals as goal
 
-pub returns-clause-upper : goal.returns-clause-upper
-returns-clause-upper c = kept-tightest (λ x y. x ≤ℤ y) int_min least
+pub returns-clause-none : goal.returns-clause-none
+returns-clause-none c = tightest-empty
 
-pub returns-clause-lower : goal.returns-clause-lower
-returns-clause-lower c = kept-tightest (λ x y. y ≤ℤ x) int_max greatest
+pub returns-clause-line : goal.returns-clause-line
+returns-clause-line c = tightest-line
+
+pub returns-clause-profit : goal.returns-clause-profit
+returns-clause-profit c pit lines b v was = record { each = was.each; lower = was.lower; upper = was.upper }
+
+pub returns-clause-coef : goal.returns-clause-coef
+returns-clause-coef c pit lines b r v was = record { each = was.each; lower = was.lower; upper = was.upper }
+
+pub returns-clause-preds : goal.returns-clause-preds
+returns-clause-preds c pit lines b listed was = record { each = was.each; lower = was.lower; upper = was.upper }
+
+pub returns-clause-place : goal.returns-clause-place
+returns-clause-place c pit lines b place was = record { each = was.each; lower = was.lower; upper = was.upper }

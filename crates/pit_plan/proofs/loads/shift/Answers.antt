@@ -1,6 +1,6 @@
 use Rattle.std.proofs.Common.{to_z, of_z, ◌≡◌, ◌<◌, ◌≤◌, ◌+ℤ◌, ℕ, ℤ, pos, FitsSigned, List, Option, length, get_or, ap, subst, sym, ◌∙◌, arith, rules}
 use Rattle.std.specs.Prelude.{IfSome}
-use Rattle.std.specs.Int.{w64, w128}
+use Rattle.std.specs.Int.{w128}
 use Rattle.std.proofs.lemmas.List.{take_all}
 use Rattle.pit_model.specs.Pit.{AreCoefs, coefs_of, cell_of}
 use Rattle.pit_plan.specs.Schedule.{coef_in, coef_of}
@@ -20,7 +20,7 @@ add-requires-clause-room g c =
     let t = c.in-Some.t in
     let sound = subst (AreCoefs pit.resources) is c.coefs-r-items.ensures.sound in
     let within = subst (λ (xs : List (ℕ × ℤ)). k < length xs) is c.loop-r-test.true in
-    let moved : to_z w64 (of_z w64 c.moved.result) ≡ moved_by c.args.up (get_or (coefs_of pit c.args.b) k (0, pos 0)).1 = search rules in
+    let moved : to_z w128 (of_z w128 c.moved.result) ≡ moved_by c.args.up (get_or (coefs_of pit c.args.b) k (0, pos 0)).1 = search rules in
     let cell : c.cell.result ≡ cell_of pit (get_or (coefs_of pit c.args.b) k (0, pos 0)).0 t = c.cell.ensures.cell ∙ ap (λ (xs : List (ℕ × ℤ)). cell_of pit (get_or xs k (0, pos 0)).0 t) is in
     rw (moved, cell)
     (room-more pit (at_cell pit (g.L.Loads.load_in c.args.loads.now)) (at_cell pit (g.L.Loads.load_in c.loop-r.loads)) c.args.b t c.args.up k (0, pos 0) (once-from_rising _ sound.rising) within
@@ -38,7 +38,7 @@ loop-r-preserved g c =
     let within = subst (λ (xs : List (ℕ × ℤ)). k < length xs) is c.loop-r-test.true in
     let pair = get_or (coefs_of pit c.args.b) k (0, pos 0) in
     let lr = sound.in_range k (0, pos 0) within in
-    let moved : to_z w64 (of_z w64 c.moved.result) ≡ moved_by c.args.up pair.1 = search rules in
+    let moved : to_z w128 (of_z w128 c.moved.result) ≡ moved_by c.args.up pair.1 = search rules in
     let cell : c.cell.result ≡ cell_of pit pair.0 t = c.cell.ensures.cell ∙ ap (λ (xs : List (ℕ × ℤ)). cell_of pit (get_or xs k (0, pos 0)).0 t) is in
     let raises = subst (λ (n : ℕ). Raises (g.L.Loads.load_in c.loop-r.loads) n (moved_by c.args.up pair.1) (g.L.Loads.load_in c.add.new.self)) cell
     (subst (λ (z : ℤ). Raises (g.L.Loads.load_in c.loop-r.loads) c.cell.result z (g.L.Loads.load_in c.add.new.self)) moved c.in_ok-add.ensures.raises) in

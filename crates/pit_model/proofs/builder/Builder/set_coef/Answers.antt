@@ -10,4 +10,4 @@ add-requires-clause-few g c = omega (arith, few_pairs c.self.inside.resources (s
 pub invariant_of-self-2 : goal.invariant_of-self-2
 invariant_of-self-2 g c =
     rw (c.in_ok-add.ensures.ok, to_z-of_z w64 c.args.v (search rules))
-    (IsSound-with_coef _ c.args.b c.args.r c.args.v c.self.invariant (omega arith) (omega arith) c.requires (search rules))
+    (IsSound-with_coef _ c.args.b c.args.r c.args.v c.self.invariant (omega arith) (omega arith) (search rules) (search rules))

@@ -7,9 +7,7 @@ use Rattle.pit_plan.proofs.Touched.{raises-cell, named-set}
 use Rattle.pit_plan.proofs.judging.MovedLoadsLoads.add.Goals as goal
 
 pub plus-load-requires : goal.plus-load-requires
-plus-load-requires g c =
-    let from : c.from.result ≡ c.args.term = search rules in
-    rw (to_z-of_z w128 c.load_in.result (search rules), to_z-of_z w128 c.from.result (search rules), c.load_in.ensures, from) c.requires.room
+plus-load-requires g c = rw (to_z-of_z w128 c.load_in.result (search rules), to_z-of_z w128 c.args.term (search rules), c.load_in.ensures) c.requires.room
 
 pub returns-clause-sound : goal.returns-clause-sound
 returns-clause-sound g c =
@@ -19,8 +17,7 @@ pub returns-clause-raises : goal.returns-clause-raises
 returns-clause-raises g c =
     let kept = cell_load c.args.self.now.kept.now in
     let cells = c.args.self.now.cells.entries in
-    let from : c.from.result ≡ c.args.term = search rules in
     let sum : c.plus-load.result ≡ laid_over kept cells c.args.cell +ℤ c.args.term =
-    c.plus-load.ensures ∙ rw (to_z-of_z w128 c.load_in.result (search rules), to_z-of_z w128 c.from.result (search rules), c.load_in.ensures, from) refl in
+    c.plus-load.ensures ∙ rw (to_z-of_z w128 c.load_in.result (search rules), to_z-of_z w128 c.args.term (search rules), c.load_in.ensures) refl in
     raises-cell kept cells c.insert.new.self.entries c.args.cell c.args.term
     (subst (λ (v : ℤ). SetsCell cells c.args.cell v c.insert.new.self.entries) (to_z-of_z w128 c.plus-load.result (search rules) ∙ sum) (λ n. c.in_ok-insert.ensures.updates.0 n))

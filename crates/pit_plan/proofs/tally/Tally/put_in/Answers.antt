@@ -19,7 +19,7 @@ plus-self-inside-requires g c =
     let pit = c.args.pit.now in
     let tally = subst (IsTally pit) (sym c.self.view_is) c.requires.tally in
     let none = subst (λ (s : Tallied). by_block s.periods c.args.b ≡ None) (sym c.self.view_is) c.requires.none in
-    rw (to_z-of_z w128 c.self.inside.worth (search rules), to_z-of_z w128 c.earned.result (search rules), c.earned.ensures.value)
+    rw (to_z-of_z w128 c.self.inside.worth (search rules), to_z-of_z w128 c.earned.result (search rules), c.earned.ensures)
     (sum-in pit (by_block c.self.inside.periods.items) c.args.b c.args.period c.self.inside.worth c.blocks-blocks.ensures.sound c.requires.known none tally.totals.value)
 
 pub returns-clause-tally : goal.returns-clause-tally
@@ -28,7 +28,7 @@ returns-clause-tally g c =
     let tally = subst (IsTally pit) (sym c.self.view_is) c.requires.tally in
     let none = subst (λ (s : Tallied). by_block s.periods c.args.b ≡ None) (sym c.self.view_is) c.requires.none in
     let more : c.plus-self-inside.result ≡ c.self.inside.worth +ℤ earned_in pit c.args.b c.args.period =
-    c.plus-self-inside.ensures ∙ rw (to_z-of_z w128 c.self.inside.worth (search rules), to_z-of_z w128 c.earned.result (search rules), c.earned.ensures.value) refl in
+    c.plus-self-inside.ensures ∙ rw (to_z-of_z w128 c.self.inside.worth (search rules), to_z-of_z w128 c.earned.result (search rules), c.earned.ensures) refl in
     rw (to_z-of_z w128 c.plus-self-inside.result (search rules))
     (tally-set pit _ c.args.b c.args.period c.shift_kept.new.loads.items c.plus-self-inside.result tally c.requires.known c.requires.in_range c.shift_kept.ensures.len
     (put pit (by_block c.self.inside.periods.items) c.args.b c.args.period c.self.inside.loads.items c.shift_kept.new.loads.items c.self.inside.worth c.plus-self-inside.result c.requires.known none tally.totals c.shift_kept.ensures.moves more))

@@ -34,7 +34,7 @@ minus-self-inside-requires g c =
     let pit = c.args.pit.now in
     let tally = subst (IsTally pit) (sym c.self.view_is) c.requires.tally in
     let is = get_or_default c.self.inside.periods.items c.args.b None c.index-old.result.now (omega (arith, c.requires.known, tally.each_period)) ∙ sym c.index-old.ensures in
-    rw (to_z-of_z w128 c.self.inside.worth (search rules), to_z-of_z w128 c.earned.result (search rules), c.earned.ensures.value)
+    rw (to_z-of_z w128 c.self.inside.worth (search rules), to_z-of_z w128 c.earned.result (search rules), c.earned.ensures)
     (sum-out pit (by_block c.self.inside.periods.items) c.args.b c.index-old.result.now c.self.inside.worth c.blocks-blocks.ensures.sound c.requires.known is tally.totals.value)
 
 pub returns-clause-tally : goal.returns-clause-tally
@@ -43,7 +43,7 @@ returns-clause-tally g c =
     let tally = subst (IsTally pit) (sym c.self.view_is) c.requires.tally in
     let is = get_or_default c.self.inside.periods.items c.args.b None c.index-old.result.now (omega (arith, c.requires.known, tally.each_period)) ∙ sym c.index-old.ensures in
     let less : c.minus-self-inside.result ≡ c.self.inside.worth -ℤ earned_in pit c.args.b c.index-old.result.now =
-    c.minus-self-inside.ensures ∙ rw (to_z-of_z w128 c.self.inside.worth (search rules), to_z-of_z w128 c.earned.result (search rules), c.earned.ensures.value) refl in
+    c.minus-self-inside.ensures ∙ rw (to_z-of_z w128 c.self.inside.worth (search rules), to_z-of_z w128 c.earned.result (search rules), c.earned.ensures) refl in
     rw (to_z-of_z w128 c.minus-self-inside.result (search rules))
     (tally-set pit _ c.args.b None c.shift_kept.new.loads.items c.minus-self-inside.result tally c.requires.known tt c.shift_kept.ensures.len
     (taken pit (by_block c.self.inside.periods.items) c.args.b c.index-old.result.now c.self.inside.loads.items c.shift_kept.new.loads.items c.self.inside.worth c.minus-self-inside.result c.requires.known is tally.totals c.shift_kept.ensures.moves less))

@@ -1,6 +1,6 @@
 use Rattle.std.proofs.Common.{◌≡◌, ◌+ℤ◌, ℕ, ℤ, pos, List, length, length-set, get_or, sym, ap, subst, ◌∙◌, arith, rules}
 use Rattle.std.specs.Prelude.{replicate, slice_set}
-use Rattle.std.specs.Int.{w64}
+use Rattle.std.specs.Int.{w128}
 use Rattle.std.proofs.lemmas.Int.{to_z-of_z}
 use Rattle.std.proofs.lemmas.List.{length-replicate}
 use Rattle.pit_plan.specs.Totals.{cell_load, Raises}
@@ -17,6 +17,6 @@ pub returns-clause-raises : goal.returns-clause-raises
 returns-clause-raises g c =
     let items = c.args.self.now.items in
     let set : c.add_at.new.loads.items ≡ slice_set items c.args.cell (get_or items c.args.cell (pos 0) +ℤ c.args.term) =
-    c.add_at.ensures ∙ ap (λ (z : ℤ). slice_set items c.args.cell (get_or items c.args.cell (pos 0) +ℤ z)) (to_z-of_z w64 c.args.term (search rules)) in
+    c.add_at.ensures ∙ ap (λ (z : ℤ). slice_set items c.args.cell (get_or items c.args.cell (pos 0) +ℤ z)) (to_z-of_z w128 c.args.term (search rules)) in
     subst (λ (xs : List ℤ). Raises (cell_load items) c.args.cell c.args.term (cell_load xs)) (sym set)
     (raises-set c.args.self.now.items c.args.cell c.args.term (omega (arith, c.requires.within, length-replicate (length c.args.self.now.items) (pos 0))))
