@@ -1,5 +1,5 @@
 //! The first breach that a schedule would have after writes, found where these touch it.
-ghost use Rattle.std.specs.Prelude.{◌≡◌, ◌≢◌, ℕ, ◌+◌, ◌*◌, ◌<◌, true, None, pos, length, take, slice_index_or, IfNone, IfOk, IfSome, OnOk, All, AllPairs};
+ghost use Rattle.std.specs.Prelude.{◌≡◌, ◌≢◌, ℕ, ◌+◌, ◌*◌, ◌<◌, true, None, pos, [], length, take, slice_index_or, IfNone, IfOk, IfErr, IfSome, OnOk, All, AllPairs};
 ghost use Rattle.indexmap.specs.IndexMap.{index_map_len};
 ghost use Rattle.pit_num.specs.Fitting.{Fits};
 ghost use Rattle.pit_num.specs.Least.{ComesBefore, IsLeast};
@@ -82,8 +82,9 @@ pub(crate) fn first_breach_after<A: Allocator + Copy + Drop>(
 ) -> Result<Option<Breach>, NoMemory>
     requires tally { IsTally pit.now tally.now }
     requires fits { Fits pit.now.blocks pit.now.periods writes.now }
-    ensures { IfOk result (λ breach. IsGood pit.now (by_block tally.now.periods) (upper_of pit.now)
+    ensures breach { IfOk result (λ breach. IsGood pit.now (by_block tally.now.periods) (upper_of pit.now)
         → IsFirstBreach pit.now (laid_over (by_block tally.now.periods) writes.now) (upper_of pit.now) breach) }
+    ensures refused { IfErr result (λ e. writes.now ≢ []) }
 {
     let after = Overlay {
         periods: &tally.periods,
@@ -102,7 +103,8 @@ fn written<A: Allocator + Copy + Drop>(
     writes: &[(u32, Option<u32>)],
 ) -> Result<Written<A>, NoMemory>
     requires { AllPairs (λ v w. v.0 ≢ w.0) writes.now }
-    ensures { IfOk result (λ map. map.entries ≡ writes.now) }
+    ensures entries { IfOk result (λ map. map.entries ≡ writes.now) }
+    ensures refused { IfErr result (λ e. writes.now ≢ []) }
 {
     let mut map = IndexMap::with_capacity(alloc, writes.len())?;
     for (block, period) in writes {
@@ -188,7 +190,8 @@ fn moved_loads<'a, A: Allocator + Copy + Drop>(
 ) -> Result<MovedLoads<'a, A>, NoMemory>
     requires tally { IsTally pit.now tally.now }
     requires fits { Fits pit.now.blocks pit.now.periods writes.now }
-    ensures { IfOk result (λ loads. AreMoved pit.now tally.now writes.now loads.kept.now loads.cells.entries) }
+    ensures moved { IfOk result (λ loads. AreMoved pit.now tally.now writes.now loads.kept.now loads.cells.entries) }
+    ensures refused { IfErr result (λ e. writes.now ≢ []) }
 {
     let mut loads = MovedLoads {
         kept: &tally.loads,

@@ -1,4 +1,4 @@
-ghost use Rattle.std.specs.Prelude.{◌≡◌, ◌<◌, ◌++◌, ◌∷◌, [], List, IfOk, IfErr, OnOk, OnErr, IsOk, length, replicate, All};
+ghost use Rattle.std.specs.Prelude.{◌≡◌, ◌≢◌, ◌<◌, ◌++◌, ◌∷◌, [], List, IfOk, IfErr, OnOk, OnErr, IsOk, length, replicate, All};
 ghost use Rattle.pit_num.specs.Fitting.{Fits};
 ghost use Rattle.pit_plan.specs.Schedule.{Commit, held_period, load_of, value_of};
 ghost use Rattle.pit_plan.specs.Standing.{StandsFor, period_of, version_of, Adds};
@@ -126,12 +126,13 @@ impl<A: Allocator + Copy + Drop> Plan<A> {
     }
 
     /// The first breach that the plan would have after the writes. Takes the memory of the writes and of the
-    /// loads that they move.
+    /// loads that they move, so none for no writes.
     pub fn judge(&self, writes: &[(u32, Option<u32>)]) -> Result<Option<Breach>, NoMemory>
         requires fits { Fits self.now.pit.blocks self.now.pit.periods writes.now }
         requires good { IsGoodNow self.now }
-        ensures { IfOk result (λ breach. (commits : List Commit) → StandsFor self.now commits
+        ensures breach { IfOk result (λ breach. (commits : List Commit) → StandsFor self.now commits
             → IsBreachOf self.now.pit (commits ++ writes.now ∷ []) breach) }
+        ensures refused { IfErr result (λ e. writes.now ≢ []) }
     {
         first_breach_after(*self.versions.allocator(), &self.pit, &self.tally, writes)
     }
@@ -150,10 +151,13 @@ impl<A: Allocator + Copy + Drop> Plan<A> {
         Ok(())
     }
 
-    /// Each load that is below its lower limit, by rising period, and in it by rising resource.
+    /// Each load that is below its lower limit, by rising period, and in it by rising resource. Takes the memory of these, so none where
+    /// there is none.
     pub fn shortfalls(&self) -> Result<Vec<Short, A>, NoMemory>
-        ensures { IfOk result (λ shorts. (commits : List Commit) → StandsFor self.now commits
+        ensures shorts { IfOk result (λ shorts. (commits : List Commit) → StandsFor self.now commits
             → shorts.items ≡ shortfalls_of self.now.pit (held_period commits)) }
+        ensures refused { IfErr result (λ e. (commits : List Commit) → StandsFor self.now commits
+            → shortfalls_of self.now.pit (held_period commits) ≢ []) }
     {
         schedule::shortfalls(*self.versions.allocator(), &self.pit, &self.tally)
     }
