@@ -6,7 +6,7 @@ use Rattle.pit_num.specs.Decimal.{whole_of, micro_of}
 use Rattle.pit_num.specs.declared.parse.NumError.{NumError}
 use Rattle.pit_num.specs.declared.limits.TheConstants.{BLOCKS_MAX, PERIODS_MAX, RESOURCES_MAX, RATE_MAX}
 use Rattle.pit_model.specs.Pit.{Pit, coefs_of}
-use Rattle.pit_model.specs.Refusals.{preds_refusal, is_empty_interval}
+use Rattle.pit_model.specs.Refusals.{preds_refusal, place_refusal, is_empty_interval}
 use Rattle.pit_model.specs.declared.error.BuildError.{BuildError}
 use Rattle.pit_model.specs.declared.error.BuildError.TheVariants.{BlockRange, ResourceRange, PeriodRange, Repeated, Interval, NoMemory}
 use Rattle.pit_text.specs.declared.error.Cause.{Cause}
@@ -30,6 +30,7 @@ use Rattle.pit_text.specs.Added.{pit_with, line_of_pit}
 use Rattle.pit_text.specs.SectionFacts.{profit_line, coefficient_line, limit_line, kind_by, kind_field, bounds_by, section_fact_of, section_fact_refusal}
 use Rattle.pit_text.specs.Model.{Fact, skipped, header, section, in_section, header_value, sections, section_of, last_of, missing_key, key_line, header_line, section_after, pit_of, new_section_fact, section_fact_line, body_line, line_by, model_line, model_end}
 use Rattle.pit_text.specs.Precedence.{wholes_of, listed_blocks, preds_line, new_preds, with_preds_fact, precedence_line}
+use Rattle.pit_text.specs.Blocks.{place_line, with_place_fact, new_place, block_line}
 use Rattle.pit_text.specs.Solution.{pair_in_range, whole_or_none, mined_pair, scheduled_pair, period_in, new_to, solution_line}
 
 abbrev pub IsOwn : {X : Type 0} → Result X Cause → Type 0
@@ -241,6 +242,25 @@ own_precedence_line given earlier fields =
     own_then (preds_line fields) (new_preds pit) (own_preds fields) (λ fact. own_unless (preds_refusal pit fact.0 fact.1) fact
     (three_refusals (nat_le pit.blocks fact.0) (list_any (λ a. nat_le pit.blocks a) fact.1) (is_some (slice_index_or pit.preds fact.0 None)) BlockRange BlockRange Repeated (λ is. cc) (λ is. cc) (λ is. cc)))
 
+-- ---- blocks
+
+own_place : (fields : List (List ℕ)) → IsOwn (place_line fields)
+unfolding place_line
+own_place [] = own_count
+own_place (b ∷ []) = own_count
+own_place (b ∷ x ∷ []) = own_count
+own_place (b ∷ x ∷ y ∷ []) = own_count
+own_place (b ∷ x ∷ y ∷ z ∷ fields) =
+    own_then (whole_field b) _ (own_whole b) (λ block. own_then (decimal_field x) _ (own_decimal x) (λ east. own_then (decimal_field y) _ (own_decimal y)
+    (λ north. own_then (decimal_field z) _ (own_decimal z) (λ height. own_ok (block, (east, north, height))))))
+
+own_block_line : (given : Pit) (earlier : List (ℕ × (ℤ × ℤ × ℤ))) (fields : List (List ℕ)) → IsOwn (block_line given earlier fields)
+unfolding line_of_pit
+own_block_line given earlier fields =
+    let pit = pit_with with_place_fact given earlier in
+    own_then (place_line fields) (new_place pit) (own_place fields)
+    (λ fact. own_unless (place_refusal pit fact.0) fact (two_refusals (nat_le pit.blocks fact.0) (is_some (slice_index_or pit.places fact.0 None)) BlockRange Repeated (λ is. cc) (λ is. cc)))
+
 -- ---- solutions
 
 own_pair : (blocks periods b t : ℕ) → IsOwn (pair_in_range blocks periods b t)
@@ -290,6 +310,9 @@ no_model_wants lines end place (inr fails) = no_wanting_end (missing_key fails.f
 
 pub no_order_wants : (given : Pit) (lines : List Cut) (place : ℕ) → FailsFirst (precedence_line given) lines place WantsMemory → ⊥
 no_order_wants given lines place fails = no_wanting_line (precedence_line given) (own_precedence_line given) lines place fails
+
+pub no_block_wants : (given : Pit) (lines : List Cut) (place : ℕ) → FailsFirst (block_line given) lines place WantsMemory → ⊥
+no_block_wants given lines place fails = no_wanting_line (block_line given) (own_block_line given) lines place fails
 
 pub no_solution_wants : (blocks periods : ℕ) (lines : List Cut) (place : ℕ) → FailsFirst (solution_line blocks periods) lines place WantsMemory → ⊥
 no_solution_wants blocks periods lines place fails = no_wanting_line (solution_line blocks periods) (own_solution_line blocks periods) lines place fails
