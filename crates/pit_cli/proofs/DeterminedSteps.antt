@@ -60,13 +60,13 @@ reading_fault source file NoMemory some p = absurd (some refl)
 reading_fault source file (Text f error) some p = absurd p
 reading_fault source file CannotWrite some p = absurd p
 
-text_fault : (file : Input) (IsBad : TextError → Type 0) (fault : CliFault) → fault ≢ NoMemory → IsTextFault file IsBad fault
+text_fault : (file : Input) (IsBad : TextError → Type 0) (IsStop : Type 0) (fault : CliFault) → fault ≢ NoMemory → IsTextFault file IsBad IsStop fault
     → (error : TextError) × (fault ≡ Text file error) × IsBad error
-text_fault file IsBad (Text f error) some p = (error, ap (λ (i : Input). Text i error) p.0, p.1)
-text_fault file IsBad NoMemory some p = absurd (some refl)
-text_fault file IsBad (TooLong f) some p = absurd p
-text_fault file IsBad (CannotRead f) some p = absurd p
-text_fault file IsBad CannotWrite some p = absurd p
+text_fault file IsBad IsStop (Text f error) some p = (error, ap (λ (i : Input). Text i error) p.0, p.1)
+text_fault file IsBad IsStop NoMemory some p = absurd (some refl)
+text_fault file IsBad IsStop (TooLong f) some p = absurd p
+text_fault file IsBad IsStop (CannotRead f) some p = absurd p
+text_fault file IsBad IsStop CannotWrite some p = absurd p
 
 -- what was read whole has no fault of reading
 unread : (source : Reading) (file : Input) (bytes : List ℕ) (fault : CliFault) → IsSome source.before → fault ≢ NoMemory → IsWhole source bytes → IsInputFault source file fault → ⊥
@@ -91,27 +91,27 @@ one_reading_fault source file fault other some also p q =
           ]
     ]
 
-module _ {A B : Type 0} (file : Input) (source : Reading) (Stands : A → List ℕ → B → Type 0) (IsBad : A → List ℕ → TextError → Type 0) (given : A) where
+module _ {A B : Type 0} (file : Input) (source : Reading) (Stands : A → List ℕ → B → Type 0) (IsBad : A → List ℕ → TextError → Type 0) (IsStop : A → List ℕ → Type 0) (given : A) where
   input_apart : IsSome source.before → ((bytes : List ℕ) → IsOneText (Stands given bytes) (IsBad given bytes))
-      → (value : B) (fault : CliFault) → fault ≢ NoMemory → (input_step file source Stands IsBad).Gives given value → (input_step file source Stands IsBad).Fails given fault → ⊥
+      → (value : B) (fault : CliFault) → fault ≢ NoMemory → (input_step file source Stands IsBad IsStop).Gives given value → (input_step file source Stands IsBad IsStop).Fails given fault → ⊥
   input_apart told one value fault some p (inl q) = unread source file p.0 fault told some p.1 q
   input_apart told one value fault some p (inr q) =
-      let bad = text_fault file (IsBad given q.0) fault some q.2 in
+      let bad = text_fault file (IsBad given q.0) (IsStop given q.0) fault some q.2 in
       (one q.0).apart value bad.0 (subst (λ (bytes : List ℕ). Stands given bytes value) (whole_once source p.0 q.0 told p.1 q.1) p.2) bad.2
 
   input_faults : IsSome source.before → ((bytes : List ℕ) → IsOneText (Stands given bytes) (IsBad given bytes))
       → (fault other : CliFault) → fault ≢ NoMemory → other ≢ NoMemory
-      → (input_step file source Stands IsBad).Fails given fault → (input_step file source Stands IsBad).Fails given other → fault ≡ other
+      → (input_step file source Stands IsBad IsStop).Fails given fault → (input_step file source Stands IsBad IsStop).Fails given other → fault ≡ other
   input_faults told one fault other some also (inl p) (inl q) = one_reading_fault source file fault other some also p q
   input_faults told one fault other some also (inl p) (inr q) = absurd (unread source file q.0 fault told some q.1 p)
   input_faults told one fault other some also (inr p) (inl q) = absurd (unread source file p.0 other told also p.1 q)
   input_faults told one fault other some also (inr p) (inr q) =
-      let bad = text_fault file (IsBad given p.0) fault some p.2 in
-      let also_bad = text_fault file (IsBad given q.0) other also q.2 in
+      let bad = text_fault file (IsBad given p.0) (IsStop given p.0) fault some p.2 in
+      let also_bad = text_fault file (IsBad given q.0) (IsStop given q.0) other also q.2 in
       let same : IsBad given q.0 bad.0 = subst (λ (bytes : List ℕ). IsBad given bytes bad.0) (whole_once source p.0 q.0 told p.1 q.1) bad.2 in
       bad.1 ∙ ap (λ (error : TextError). Text file error) ((one q.0).errors bad.0 also_bad.0 same also_bad.2) ∙ sym also_bad.1
 
-  pub input-determined : IsSome source.before → ((bytes : List ℕ) → IsOneText (Stands given bytes) (IsBad given bytes)) → IsDetermined (input_step file source Stands IsBad) given
+  pub input-determined : IsSome source.before → ((bytes : List ℕ) → IsOneText (Stands given bytes) (IsBad given bytes)) → IsDetermined (input_step file source Stands IsBad IsStop) given
   input-determined told one = record {
     values = λ value other p q.
         (one q.0).values value other (subst (λ (bytes : List ℕ). Stands given bytes value) (whole_once source p.0 q.0 told p.1 q.1) p.2) q.2;

@@ -4,3 +4,4 @@ pub mod Shorts
 pub mod Determined
 pub mod DeterminedSteps
 pub mod Runs
+pub mod Stops

@@ -19,7 +19,7 @@ use Rattle.pit_cli.specs.declared.status.Status.TheVariants.{Fine}
 use Rattle.pit_cli.specs.CheckText.{value_text, check_text, check_status}
 use Rattle.pit_cli.specs.Steps.{HasOneOutcome}
 use Rattle.pit_cli.specs.Devices.{Reading, Writing}
-use Rattle.pit_cli.specs.Inputs.{IsModel, IsBadModel, IsOrder, IsBadOrder, IsSolutionOf, IsBadSolution, model_step, order_step}
+use Rattle.pit_cli.specs.Inputs.{IsModel, IsBadModel, IsModelStop, IsOrder, IsBadOrder, IsOrderStop, IsSolutionOf, IsBadSolution, IsSolutionStop, model_step, order_step}
 use Rattle.pit_cli.specs.Value.{IsValued, value_step, fine_step, value_run}
 use Rattle.pit_cli.specs.Check.{Checks, IsChecked, ordered_pit_step, check_step, answer_step, check_run}
 use Rattle.pit_cli.proofs.Determined.{IsDetermined, in_turn-determined, shown_run}
@@ -33,7 +33,7 @@ model_text bytes =
     (one_whole_result model_line model_end (cut_of bytes) (end_line bytes))
 
 model-determined : (model : Reading) → IsSome model.before → IsDetermined (model_step model) tt
-model-determined model told = input-determined Model model (λ _. IsModel) (λ _. IsBadModel) tt told model_text
+model-determined model told = input-determined Model model (λ _. IsModel) (λ _. IsBadModel) (λ _. IsModelStop) tt told model_text
 
 order_text : (given : Pit) (bytes : List ℕ) → IsOneText (IsOrder given bytes) (IsBadOrder given bytes)
 order_text given bytes =
@@ -41,7 +41,7 @@ order_text given bytes =
     (one_result (precedence_line given) (cut_of bytes))
 
 order-determined : (precedence : Reading) (given : Pit) → IsSome precedence.before → IsDetermined (order_step precedence) given
-order-determined precedence given told = input-determined Precedence precedence IsOrder IsBadOrder given told (order_text given)
+order-determined precedence given told = input-determined Precedence precedence IsOrder IsBadOrder IsOrderStop given told (order_text given)
 
 solution_text : (pit : Pit) (bytes : List ℕ) → IsOneText (IsSolutionOf pit bytes) (IsBadSolution pit bytes)
 solution_text pit bytes =
@@ -60,7 +60,7 @@ valued_text pit bytes =
     }
 
 value-determined : (solution : Reading) (pit : Pit) → IsSome solution.before → IsDetermined (value_step solution) pit
-value-determined solution pit told = input-determined Solution solution IsValued IsBadSolution pit told (valued_text pit)
+value-determined solution pit told = input-determined Solution solution IsValued IsBadSolution IsSolutionStop pit told (valued_text pit)
 
 -- a value's text has its line feed at least
 value_some : (z : ℤ) → 0 < length (value_text z)
@@ -100,7 +100,7 @@ checked_text pit bytes =
     }
 
 check-determined : (solution : Reading) (pit : Pit) → IsSome solution.before → IsDetermined (check_step solution) pit
-check-determined solution pit told = input-determined Solution solution IsChecked IsBadSolution pit told (checked_text pit)
+check-determined solution pit told = input-determined Solution solution IsChecked IsBadSolution IsSolutionStop pit told (checked_text pit)
 
 ordered_pit-determined : (model precedence : Reading) → IsSome model.before → IsSome precedence.before → IsDetermined (ordered_pit_step model precedence) tt
 ordered_pit-determined model precedence told also =

@@ -10,7 +10,7 @@ use Rattle.pit_cli.specs.declared.status.Status.{Status}
 use Rattle.pit_cli.specs.CheckText.{check_text, check_status}
 use Rattle.pit_cli.specs.Steps.{Step, in_turn}
 use Rattle.pit_cli.specs.Devices.{Reading, Writing, input_step, write_step}
-use Rattle.pit_cli.specs.Inputs.{IsSolutionOf, IsBadSolution, model_step, order_step}
+use Rattle.pit_cli.specs.Inputs.{IsSolutionOf, IsBadSolution, IsSolutionStop, model_step, order_step}
 
 -- the text and the status say what the commits are worth, break and fall short of
 pub record Checks (pit : Pit) (commits : List Commit) (text : List ℕ) (status : Status) : Type 0 where
@@ -30,7 +30,7 @@ abbrev pub ordered_pit_step : Reading → Reading → Step (Unit {0}) Pit
 ordered_pit_step model precedence = in_turn (model_step model) (order_step precedence)
 
 abbrev pub check_step : Reading → Step Pit (List ℕ × Status)
-check_step solution = input_step Solution solution IsChecked IsBadSolution
+check_step solution = input_step Solution solution IsChecked IsBadSolution IsSolutionStop
 
 -- a text is written, and the status is the one beside it
 abbrev pub answer_step : Writing → Step (List ℕ × Status) Status

@@ -43,28 +43,28 @@ pub record IsTooLong (source : Reading) : Type 0 where
   pub taken : Consumes source.before source.after bytes
   pub sound : source.failed ≡ false
 
--- a fault of reading it
+-- a fault of reading it; memory is wanted only where bytes have come
 abbrev pub IsInputFault : Reading → Input → CliFault → Type 0
 IsInputFault source file (CannotRead f) = (f ≡ file) × (source.failed ≡ true)
 IsInputFault source file (TooLong f) = (f ≡ file) × IsTooLong source
-IsInputFault source file NoMemory = source.failed ≡ false
+IsInputFault source file NoMemory = (source.failed ≡ false) × ((bytes : List ℕ) × (0 < length bytes) × Consumes source.before source.after bytes)
 IsInputFault source file (Text f error) = ⊥
 IsInputFault source file CannotWrite = ⊥
 
--- a fault of its text, which has this first error
-abbrev pub IsTextFault : Input → (TextError → Type 0) → CliFault → Type 0
-IsTextFault file IsBad (Text f error) = (f ≡ file) × IsBad error
-IsTextFault file IsBad NoMemory = Unit {0}
-IsTextFault file IsBad (TooLong f) = ⊥
-IsTextFault file IsBad (CannotRead f) = ⊥
-IsTextFault file IsBad CannotWrite = ⊥
+-- a fault of its text, which has this first error, or where memory is wanted for what it says
+abbrev pub IsTextFault : Input → (TextError → Type 0) → Type 0 → CliFault → Type 0
+IsTextFault file IsBad IsStop (Text f error) = (f ≡ file) × IsBad error
+IsTextFault file IsBad IsStop NoMemory = IsStop
+IsTextFault file IsBad IsStop (TooLong f) = ⊥
+IsTextFault file IsBad IsStop (CannotRead f) = ⊥
+IsTextFault file IsBad IsStop CannotWrite = ⊥
 
--- an input is read whole, and its text stands for a value; or it can't be read, or its text is bad
-abbrev pub input_step : {A B : Type 0} → Input → Reading → (A → List ℕ → B → Type 0) → (A → List ℕ → TextError → Type 0) → Step A B
-input_step file source Stands IsBad = record {
+-- an input is read whole, and its text stands for a value; or it can't be read, or its text is bad, or memory is wanted for what it says
+abbrev pub input_step : {A B : Type 0} → Input → Reading → (A → List ℕ → B → Type 0) → (A → List ℕ → TextError → Type 0) → (A → List ℕ → Type 0) → Step A B
+input_step file source Stands IsBad IsStop = record {
   Gives = λ given value. (bytes : List ℕ) × IsWhole source bytes × Stands given bytes value;
   Fails = λ given fault.
-      IsInputFault source file fault ⊎ ((bytes : List ℕ) × IsWhole source bytes × IsTextFault file (IsBad given bytes) fault);
+      IsInputFault source file fault ⊎ ((bytes : List ℕ) × IsWhole source bytes × IsTextFault file (IsBad given bytes) (IsStop given bytes) fault);
   IsUntouched = Keeps source.before source.after;
 }
 

@@ -1,13 +1,13 @@
 -- The inputs: the words that faults name them with, and what their texts stand for.
-use Rattle.std.specs.Prelude.{◌≡◌, ℕ, List, codes}
+use Rattle.std.specs.Prelude.{◌≡◌, ◌⊎◌, ℕ, List, codes}
 use Rattle.pit_model.specs.Pit.{Pit}
 use Rattle.pit_text.specs.declared.error.TextError.{TextError}
 use Rattle.pit_text.specs.Cutting.{cut_of, end_line}
-use Rattle.pit_text.specs.Stands.{StandsFor, FailsFirst, StandsWhole, FailsWhole}
-use Rattle.pit_text.specs.Model.{model_line, model_end, pit_of}
+use Rattle.pit_text.specs.Stands.{StandsFor, StopsAt, FailsFirst, StandsWhole, FailsWhole}
+use Rattle.pit_text.specs.Model.{model_line, model_end, pit_of, ModelStops}
 use Rattle.pit_text.specs.Precedence.{precedence_line, pit_with_preds}
 use Rattle.pit_num.specs.Fitting.{IsSchedule}
-use Rattle.pit_text.specs.Solution.{solution_line, period_in, schedule_of}
+use Rattle.pit_text.specs.Solution.{solution_line, period_in, schedule_of, SolutionStops}
 use Rattle.pit_cli.specs.declared.input.Input.{Input}
 use Rattle.pit_cli.specs.declared.input.Input.TheVariants.{Model, Precedence, Solution}
 use Rattle.pit_cli.specs.Steps.{Step}
@@ -45,6 +45,20 @@ IsSolutionOf pit bytes = StandsAs (StandsFor (solution_line pit.blocks pit.perio
 abbrev pub IsBadSolution : Pit → List ℕ → TextError → Type 0
 IsBadSolution pit bytes error = FailsFirst (solution_line pit.blocks pit.periods) (cut_of bytes) error.line error.cause
 
+-- ---- where memory is wanted for what a text says: at a line, where none so far has a fault, or behind the whole text, which has none
+
+unfoldable pub IsModelStop : List ℕ → Type 0
+IsModelStop bytes = (place : ℕ) × ModelStops (cut_of bytes) (end_line bytes) place
+
+unfoldable pub IsOrderStop : Pit → List ℕ → Type 0
+IsOrderStop given bytes =
+    ((place : ℕ) × StopsAt (precedence_line given) (cut_of bytes) place) ⊎ ((facts : List (ℕ × List ℕ)) × StandsFor (precedence_line given) (cut_of bytes) facts)
+
+unfoldable pub IsSolutionStop : Pit → List ℕ → Type 0
+IsSolutionStop pit bytes = (place : ℕ) × SolutionStops pit.blocks pit.periods (cut_of bytes) (end_line bytes) place
+
+-- ---- schedules
+
 -- the blocks of a schedule rise, and blocks and periods are those of the pit
 abbrev pub IsScheduleOf : Pit → List (ℕ × ℕ) → Type 0
 IsScheduleOf pit schedule = IsSchedule pit.blocks pit.periods schedule
@@ -52,10 +66,10 @@ IsScheduleOf pit schedule = IsSchedule pit.blocks pit.periods schedule
 -- ---- the steps
 
 abbrev pub model_step : Reading → Step (Unit {0}) Pit
-model_step model = input_step Model model (λ _. IsModel) (λ _. IsBadModel)
+model_step model = input_step Model model (λ _. IsModel) (λ _. IsBadModel) (λ _. IsModelStop)
 
 abbrev pub order_step : Reading → Step Pit Pit
-order_step precedence = input_step Precedence precedence IsOrder IsBadOrder
+order_step precedence = input_step Precedence precedence IsOrder IsBadOrder IsOrderStop
 
 abbrev pub schedule_step : Reading → Step Pit (List (ℕ × ℕ))
-schedule_step solution = input_step Solution solution IsSolutionOf IsBadSolution
+schedule_step solution = input_step Solution solution IsSolutionOf IsBadSolution IsSolutionStop

@@ -8,7 +8,7 @@ use Rattle.pit_cli.specs.declared.status.Status.TheVariants.{Fine}
 use Rattle.pit_cli.specs.CheckText.{value_text}
 use Rattle.pit_cli.specs.Steps.{Step, in_turn}
 use Rattle.pit_cli.specs.Devices.{Reading, Writing, input_step, write_step}
-use Rattle.pit_cli.specs.Inputs.{IsSolutionOf, IsBadSolution, model_step}
+use Rattle.pit_cli.specs.Inputs.{IsSolutionOf, IsBadSolution, IsSolutionStop, model_step}
 
 -- a solution stands for a schedule of the pit, and the text is the value of its one commit
 pub record IsValued (pit : Pit) (bytes text : List ℕ) : Type 0 where
@@ -17,7 +17,7 @@ pub record IsValued (pit : Pit) (bytes text : List ℕ) : Type 0 where
   pub says : text ≡ value_text (value_of pit (held_period (commit_of_schedule schedule ∷ [])))
 
 abbrev pub value_step : Reading → Step Pit (List ℕ)
-value_step solution = input_step Solution solution IsValued IsBadSolution
+value_step solution = input_step Solution solution IsValued IsBadSolution IsSolutionStop
 
 -- a text is written of which nothing is wrong
 abbrev pub fine_step : Writing → Step (List ℕ) Status

@@ -1,7 +1,7 @@
 ghost use Rattle.std.specs.Prelude.{◌≡◌, IfOk, MatchResult};
 ghost use Rattle.pit_cli.specs.Steps.{IsResultOf};
 ghost use Rattle.pit_cli.specs.Devices.{reading_of, IsWhole, IsInputFault, IsTextFault};
-ghost use Rattle.pit_cli.specs.Inputs.{IsModel, IsBadModel, IsOrder, IsBadOrder, IsSolutionOf, IsBadSolution, IsScheduleOf, model_step, schedule_step};
+ghost use Rattle.pit_cli.specs.Inputs.{IsModel, IsBadModel, IsModelStop, IsOrder, IsBadOrder, IsOrderStop, IsSolutionOf, IsBadSolution, IsSolutionStop, IsScheduleOf, model_step, schedule_step};
 
 use super::fault::CliFault;
 use super::input::Input;
@@ -30,7 +30,7 @@ pub(crate) fn bytes_of<A: Allocator, R: Source>(
 
 /// The pit of a model, to which facts can be added.
 fn builder_of<A: Allocator + Copy + Drop>(alloc: A, model: &[u8]) -> Result<Builder<A>, CliFault>
-    ensures { MatchResult result (IsModel model.now) (IsTextFault Input.Model (IsBadModel model.now)) }
+    ensures { MatchResult result (IsModel model.now) (IsTextFault Input.Model (IsBadModel model.now) (IsModelStop model.now)) }
 {
     match read_model(alloc, model) {
         Ok(builder) => Ok(builder),
@@ -48,7 +48,7 @@ pub(crate) fn ordered<A: Allocator + Copy + Drop>(
     precedence: &[u8],
     given: Builder<A>,
 ) -> Result<Builder<A>, CliFault>
-    ensures { MatchResult result (IsOrder given precedence.now) (IsTextFault Input.Precedence (IsBadOrder given precedence.now)) }
+    ensures { MatchResult result (IsOrder given precedence.now) (IsTextFault Input.Precedence (IsBadOrder given precedence.now) (IsOrderStop given precedence.now)) }
 {
     match read_precedence(alloc, precedence, given) {
         Ok(builder) => Ok(builder),
@@ -80,7 +80,7 @@ fn schedule_of<A: Allocator + Copy + Drop>(
 ) -> Result<Vec<(u32, u32), A>, CliFault>
     ensures result { MatchResult result
         (λ schedule. IsSolutionOf instance.now solution.now schedule.items)
-        (IsTextFault Input.Solution (IsBadSolution instance.now solution.now)) }
+        (IsTextFault Input.Solution (IsBadSolution instance.now solution.now) (IsSolutionStop instance.now solution.now)) }
     ensures fits { IfOk result (λ schedule. IsScheduleOf instance.now schedule.items) }
 {
     match read_solution(alloc, solution, instance) {

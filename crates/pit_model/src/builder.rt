@@ -1,4 +1,4 @@
-ghost use Rattle.std.specs.Prelude.{◌≡◌, ◌≤◌, ◌<◌, false, nat_le, All, IfOk, IfErr, OnOk, OnErr, IsOk, MatchOption, IsErrOf};
+ghost use Rattle.std.specs.Prelude.{◌≡◌, ◌≤◌, ◌<◌, false, nat_le, None, is_some, slice_index_or, All, IfOk, IfErr, OnOk, OnErr, IsOk, MatchOption, IsErrOf};
 ghost use Rattle.std.specs.List.{list_any};
 ghost use Rattle.pit_num.specs.declared.limits.TheConstants.{BLOCKS_MAX, PERIODS_MAX, RESOURCES_MAX, RATE_MAX};
 ghost use Rattle.pit_model.specs.Pit.{empty_pit, with_profit, with_coef, with_preds, with_limit, with_place};
@@ -94,6 +94,14 @@ impl<A: Allocator + Copy + Drop> Builder<A> {
         ensures { result ≡ self.now.resources }
     {
         self.resources
+    }
+
+    /// Whether the predecessors of a block were set.
+    pub fn has_preds(&self, b: u32) -> bool
+        requires { b < self.now.blocks }
+        ensures { result ≡ is_some (slice_index_or self.now.preds b None) }
+    {
+        self.preds.is_set(b)
     }
 
     /// Sets the profit of a block, in millionths. Takes no memory.

@@ -1,5 +1,5 @@
 -- Schedules that agree on all blocks are alike, and limits that agree on all resources and periods.
-use Rattle.std.proofs.Common.{◌≡◌, ℕ, ◌<◌, cond, ℤ, pos, List, [], ◌∷◌, ◌++◌, Option, Some, None, sym, ap, subst, ◌∙◌}
+use Rattle.std.proofs.Common.{◌≡◌, ◌≢◌, ℕ, ◌<◌, cond, refl, ℤ, pos, List, [], ◌∷◌, ◌++◌, Option, Some, None, sym, ap, subst, ◌∙◌}
 use Rattle.std.specs.Prelude.{unwrap_or}
 use Rattle.pit_num.specs.Least.{ComesBefore}
 use Rattle.pit_num.proofs.CallerLemmas.{least-same}
@@ -138,3 +138,8 @@ pub shortfalls-of : (inside plan : Standing) (periods : List (Option ℕ)) (shor
 shortfalls-of inside plan periods shorts is same found commits =
     subst (λ (p : Standing). StandsFor p commits → shorts ≡ shortfalls_of p.pit (held_period commits)) is
     (λ st. found ∙ (ap (λ (ps : List (Option ℕ)). shortfalls_of inside.pit (by_block ps)) same ∙ same-shortfalls inside.pit (by_block inside.periods) (held_period commits) st.period))
+
+pub shortfalls-some : (inside plan : Standing) (periods : List (Option ℕ)) → inside ≡ plan → periods ≡ inside.periods → shortfalls_of inside.pit (by_block periods) ≢ []
+    → (commits : List Commit) → StandsFor plan commits → shortfalls_of plan.pit (held_period commits) ≢ []
+shortfalls-some inside plan periods is same some commits stands =
+    λ none. some (shortfalls-of inside plan periods (shortfalls_of inside.pit (by_block periods)) is same refl commits stands ∙ none)

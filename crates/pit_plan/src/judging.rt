@@ -1,5 +1,5 @@
 //! The first breach that a schedule would have after writes and revisions, found where these touch it.
-ghost use Rattle.std.specs.Prelude.{◌≡◌, ◌≢◌, ℕ, ◌+◌, ◌*◌, ◌<◌, true, None, pos, length, take, slice_index_or, IfNone, IfOk, IfSome, OnOk, All, AllPairs};
+ghost use Rattle.std.specs.Prelude.{◌≡◌, ◌≢◌, ℕ, ◌+◌, ◌*◌, ◌<◌, ◌⊎◌, true, None, pos, [], length, take, slice_index_or, IfNone, IfOk, IfErr, IfSome, OnOk, All, AllPairs};
 ghost use Rattle.indexmap.specs.IndexMap.{index_map_len};
 ghost use Rattle.pit_num.specs.Fitting.{Fits, RevisionsFit, revisions_of};
 ghost use Rattle.pit_num.specs.Least.{ComesBefore, IsLeast};
@@ -105,9 +105,10 @@ pub(crate) fn first_breach_after<A: Allocator + Copy + Drop>(
     requires limits { length limits.now ≡ pit.now.periods * pit.now.resources }
     requires writes { Fits pit.now.blocks pit.now.periods writes.now }
     requires revises { RevisionsFit pit.now.resources pit.now.periods (revisions_of revises.now) }
-    ensures { IfOk result (λ breach. IsGood pit.now (by_block tally.now.periods) (at_cell pit.now (cell_limit limits.now))
+    ensures breach { IfOk result (λ breach. IsGood pit.now (by_block tally.now.periods) (at_cell pit.now (cell_limit limits.now))
         → IsFirstBreach pit.now (laid_over (by_block tally.now.periods) writes.now)
         (at_cell pit.now (laid_over (cell_limit limits.now) (by_cell pit.now (revisions_of revises.now)))) breach) }
+    ensures refused { IfErr result (λ e. (writes.now ≢ []) ⊎ (revises.now ≢ [])) }
 {
     let after = Overlay {
         periods: &tally.periods,
@@ -131,7 +132,8 @@ fn written<A: Allocator + Copy + Drop>(
     writes: &[(u32, Option<u32>)],
 ) -> Result<Written<A>, NoMemory>
     requires { AllPairs (λ v w. v.0 ≢ w.0) writes.now }
-    ensures { IfOk result (λ map. map.entries ≡ writes.now) }
+    ensures entries { IfOk result (λ map. map.entries ≡ writes.now) }
+    ensures refused { IfErr result (λ e. writes.now ≢ []) }
 {
     let mut map = IndexMap::with_capacity(alloc, writes.len())?;
     for (block, period) in writes {
@@ -147,7 +149,8 @@ fn revised<A: Allocator + Copy + Drop>(
     revises: &[(u32, u32, Option<i64>)],
 ) -> Result<Revised<A>, NoMemory>
     requires { RevisionsFit pit.now.resources pit.now.periods (revisions_of revises.now) }
-    ensures { IfOk result (λ map. map.entries ≡ by_cell pit.now (revisions_of revises.now)) }
+    ensures entries { IfOk result (λ map. map.entries ≡ by_cell pit.now (revisions_of revises.now)) }
+    ensures refused { IfErr result (λ e. revises.now ≢ []) }
 {
     let mut map = IndexMap::with_capacity(alloc, revises.len())?;
     for (resource, period, limit) in revises {
@@ -233,7 +236,8 @@ fn moved_loads<'a, A: Allocator + Copy + Drop>(
 ) -> Result<MovedLoads<'a, A>, NoMemory>
     requires tally { IsTally pit.now tally.now }
     requires fits { Fits pit.now.blocks pit.now.periods writes.now }
-    ensures { IfOk result (λ loads. AreMoved pit.now tally.now writes.now loads.kept.now loads.cells.entries) }
+    ensures moved { IfOk result (λ loads. AreMoved pit.now tally.now writes.now loads.kept.now loads.cells.entries) }
+    ensures refused { IfErr result (λ e. writes.now ≢ []) }
 {
     let mut loads = MovedLoads {
         kept: &tally.loads,
@@ -275,7 +279,8 @@ fn look_at_revised<'a, A: Allocator + Copy + Drop>(
     requires fits { RevisionsFit pit.now.resources pit.now.periods (revisions_of revises.now) }
     requires each { length loads.old.kept.now ≡ pit.now.periods * pit.now.resources }
     requires in_range { (cell : ℕ) → IsNamed loads.old.cells.entries cell → cell < length loads.old.kept.now }
-    ensures { OnOk result (LooksAt (by_cell pit.now (revisions_of revises.now)) loads.old.kept.now loads.old.cells.entries loads.new.kept.now loads.new.cells.entries) }
+    ensures looks { OnOk result (LooksAt (by_cell pit.now (revisions_of revises.now)) loads.old.kept.now loads.old.cells.entries loads.new.kept.now loads.new.cells.entries) }
+    ensures refused { IfErr result (λ e. revises.now ≢ []) }
 {
     for (resource, period, _) in revises {
         look_at(loads, pit.cell(*resource, *period))?;

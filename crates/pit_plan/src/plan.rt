@@ -1,4 +1,4 @@
-ghost use Rattle.std.specs.Prelude.{◌≡◌, ℕ, ◌*◌, ◌<◌, ◌++◌, ◌∷◌, [], List, IfOk, IfErr, IfSome, OnOk, OnErr, IsOk, length, replicate, All};
+ghost use Rattle.std.specs.Prelude.{◌≡◌, ◌≢◌, ℕ, ◌*◌, ◌<◌, ◌⊎◌, ◌++◌, ◌∷◌, [], List, IfOk, IfErr, IfSome, OnOk, OnErr, IsOk, length, replicate, All};
 ghost use Rattle.pit_num.specs.Fitting.{Fits, RevisionsFit, revisions_of};
 ghost use Rattle.pit_model.specs.Pit.{upper_of};
 ghost use Rattle.pit_plan.specs.Schedule.{Commit, held_period, load_of, value_of};
@@ -150,7 +150,7 @@ impl<A: Allocator + Copy + Drop> Plan<A> {
     }
 
     /// The first breach that the plan would have after the writes and the revisions. Takes the memory of these, and of the loads that
-    /// they move and revise.
+    /// they move and revise, so none for no writes and no revisions.
     pub fn judge(
         &self,
         writes: &[(u32, Option<u32>)],
@@ -159,8 +159,9 @@ impl<A: Allocator + Copy + Drop> Plan<A> {
         requires writes { Fits self.now.pit.blocks self.now.pit.periods writes.now }
         requires revises { RevisionsFit self.now.pit.resources self.now.pit.periods (revisions_of revises.now) }
         requires good { IsGoodNow self.now }
-        ensures { IfOk result (λ breach. (commits : List Commit) → StandsFor self.now commits
+        ensures breach { IfOk result (λ breach. (commits : List Commit) → StandsFor self.now commits
             → IsBreachOf self.now.pit (commits ++ (record { writes = writes.now; revises = revisions_of revises.now }) ∷ []) breach) }
+        ensures refused { IfErr result (λ e. (writes.now ≢ []) ⊎ (revises.now ≢ [])) }
     {
         first_breach_after(
             *self.versions.allocator(),
@@ -192,10 +193,13 @@ impl<A: Allocator + Copy + Drop> Plan<A> {
         Ok(())
     }
 
-    /// Each load that is below its lower limit, by rising period, and in it by rising resource.
+    /// Each load that is below its lower limit, by rising period, and in it by rising resource. Takes the memory of these, so none where
+    /// there is none.
     pub fn shortfalls(&self) -> Result<Vec<Short, A>, NoMemory>
-        ensures { IfOk result (λ shorts. (commits : List Commit) → StandsFor self.now commits
+        ensures shorts { IfOk result (λ shorts. (commits : List Commit) → StandsFor self.now commits
             → shorts.items ≡ shortfalls_of self.now.pit (held_period commits)) }
+        ensures refused { IfErr result (λ e. (commits : List Commit) → StandsFor self.now commits
+            → shortfalls_of self.now.pit (held_period commits) ≢ []) }
     {
         schedule::shortfalls(*self.versions.allocator(), &self.pit, &self.tally)
     }

@@ -1,5 +1,5 @@
 //! What a schedule, which is a period or none for each block, loads, earns and breaks.
-ghost use Rattle.std.specs.Prelude.{◌≡◌, ℕ, ◌*◌, ◌<◌, ◌++◌, length, Option, IfSome, IfOk, OnOk, All};
+ghost use Rattle.std.specs.Prelude.{◌≡◌, ◌≢◌, ℕ, ◌*◌, ◌<◌, ◌++◌, [], length, Option, IfSome, IfOk, IfErr, OnOk, All};
 ghost use Rattle.std.specs.List.Sorted.{IsStrictlyIncreasing};
 ghost use Rattle.pit_num.specs.Least.{ComesBefore, IsLeast};
 ghost use Rattle.pit_model.specs.Pit.{lower_of};
@@ -194,7 +194,8 @@ pub(crate) fn shortfalls<A: Allocator + Copy + Drop>(
     tally: &Tally<A>,
 ) -> Result<Vec<Short, A>, NoMemory>
     requires { IsTally pit.now tally.now }
-    ensures { IfOk result (λ shorts. shorts.items ≡ shortfalls_of pit.now (by_block tally.now.periods)) }
+    ensures shorts { IfOk result (λ shorts. shorts.items ≡ shortfalls_of pit.now (by_block tally.now.periods)) }
+    ensures refused { IfErr result (λ e. shortfalls_of pit.now (by_block tally.now.periods) ≢ []) }
 {
     let mut shorts = Vec::new(alloc);
     for t in 0..pit.periods() {
@@ -212,7 +213,8 @@ fn push_shorts<A: Allocator + Copy + Drop>(
 ) -> Result<(), NoMemory>
     requires tally { IsTally pit.now tally.now }
     requires period { t < pit.now.periods }
-    ensures { OnOk result (shorts.new.items ≡ shorts.old.items ++ shorts_in pit.now (by_block tally.now.periods) t) }
+    ensures pushed { OnOk result (shorts.new.items ≡ shorts.old.items ++ shorts_in pit.now (by_block tally.now.periods) t) }
+    ensures refused { IfErr result (λ e. shorts_in pit.now (by_block tally.now.periods) t ≢ []) }
 {
     for r in 0..pit.resources() {
         push_short(shorts, pit, tally, r, t)?;
@@ -231,7 +233,8 @@ fn push_short<A: Allocator + Copy + Drop>(
     requires tally { IsTally pit.now tally.now }
     requires resource { r < pit.now.resources }
     requires period { t < pit.now.periods }
-    ensures { OnOk result (shorts.new.items ≡ shorts.old.items ++ short_at r t (load_of pit.now (by_block tally.now.periods) r t) (lower_of pit.now r t)) }
+    ensures pushed { OnOk result (shorts.new.items ≡ shorts.old.items ++ short_at r t (load_of pit.now (by_block tally.now.periods) r t) (lower_of pit.now r t)) }
+    ensures refused { IfErr result (λ e. short_at r t (load_of pit.now (by_block tally.now.periods) r t) (lower_of pit.now r t) ≢ []) }
 {
     let Some(limit) = pit.lower(r, t) else {
         return Ok(());

@@ -12,6 +12,8 @@ pub mod ModelLines
 pub mod Dues
 pub mod Reading
 pub mod Pits
+pub mod Unlisted
+pub mod Wanting
 pub mod Bodies
 pub mod Standing
 pub mod Solutions

@@ -1,5 +1,5 @@
 -- Lines that stand for facts.
-use Rattle.std.proofs.Common.{◌≡◌, ◌≢◌, ℕ, zero, suc, ◌+◌, ◌<◌, nat_eq, ◌⊎◌, inl, inr, is_some, Bool, true, false, cond, List, [], ◌∷◌, ◌++◌, length, Ok, Err, Option, Some, None, IfSome, subst, ap, sym, ◌∙◌, refl, arith, add-one, zero-add, set, replicate, slice_index_or}
+use Rattle.std.proofs.Common.{◌≡◌, ◌≢◌, ℕ, zero, suc, ◌+◌, ◌<◌, nat_eq, ◌⊎◌, inl, inr, is_some, IsSome, Bool, true, false, cond, List, [], ◌∷◌, ◌++◌, length, Ok, Err, Option, Some, None, IfSome, subst, ap, sym, ◌∙◌, refl, arith, add-one, zero-add, set, replicate, slice_index_or}
 use Rattle.std.specs.List.{filter_map, range_with_len, cons_option}
 use Rattle.std.proofs.lemmas.List.Elements.{filter_map-append}
 use Rattle.std.specs.Option.{option_to_list, option_map}
@@ -28,30 +28,38 @@ period_elsewhere facts b t k other =
     first_value-more (period_in_fact k) facts (Some (b, t)) ∙ ap (λ o. or_else (period_in facts k) o) none ∙ or_else-none (period_in facts k)
 
 -- a slot that is filled
-pub slots_more : (blocks : ℕ) (facts : List (Option (ℕ × ℕ))) (slots : List (Option ℕ)) (b t : ℕ) → AreSlots blocks facts slots → b < blocks → slice_index_or slots b None ≡ None
+pub slots_more : (blocks : ℕ) (facts : List (Option (ℕ × ℕ))) (slots : List (Option ℕ)) (b t : ℕ) → AreSlots blocks facts slots → length slots ≡ blocks → b < blocks → slice_index_or slots b None ≡ None
     → AreSlots blocks (facts ++ Some (b, t) ∷ []) (set slots b (Some t))
-slots_more blocks facts slots b t are within empty = record {
-  count = length-set slots b (Some t) ∙ are.count;
+slots_more blocks facts slots b t are count within empty = record {
+  count = inr (length-set slots b (Some t) ∙ count);
   each = λ k h. at_each k h (cases_eq k b);
 }
   where
     at_each : (k : ℕ) → k < blocks → (k ≡ b) ⊎ (k ≢ b) → slice_index_or (set slots b (Some t)) k None ≡ period_in (facts ++ Some (b, t) ∷ []) k
     at_each k h (inl same) =
         let none : period_in facts b ≡ None = sym (are.each b within) ∙ empty in
-        let in_slots : b < length slots = omega (arith, are.count) in
+        let in_slots : b < length slots = omega (arith, count) in
         ap (λ (n : ℕ). slice_index_or (set slots b (Some t)) n None) same ∙ get_or-set_same slots b (Some t) None in_slots ∙ sym (period_here facts b t none) ∙ ap (λ (n : ℕ). period_in (facts ++ Some (b, t) ∷ []) n) (sym same)
     at_each k h (inr other) = get_or-set_other slots b k (Some t) None other ∙ are.each k h ∙ sym (period_elsewhere facts b t k other)
 
-replicate_none : (n b : ℕ) → slice_index_or {A = Option ℕ} (replicate n None) b None ≡ None
+-- no line yet
+pub slots_none : (blocks : ℕ) (slots : List (Option ℕ)) → slots ≡ [] → AreSlots blocks [] slots
+slots_none blocks slots none = record {
+  count = inl none;
+  each = λ b below. ap (λ (os : List (Option ℕ)). slice_index_or os b None) none;
+}
+
+pub replicate_none : (n b : ℕ) → slice_index_or {A = Option ℕ} (replicate n None) b None ≡ None
 replicate_none zero b = refl
 replicate_none (suc n) zero = refl
 replicate_none (suc n) (suc b) = replicate_none n b
 
--- no line yet
-pub slots_none : (blocks : ℕ) (slots : List (Option ℕ)) → slots ≡ replicate blocks None → length slots ≡ blocks → AreSlots blocks [] slots
-slots_none blocks slots made count = record {
-  count = count;
-  each = λ b below. ap (λ (os : List (Option ℕ)). slice_index_or os b None) made ∙ replicate_none blocks b;
+-- the slots of all blocks are made
+pub slots_made : (blocks : ℕ) (facts : List (Option (ℕ × ℕ))) (old new : List (Option ℕ)) → AreSlots blocks facts old → length new ≡ blocks
+    → ((b : ℕ) → slice_index_or new b None ≡ slice_index_or old b None) → AreSlots blocks facts new
+slots_made blocks facts old new are count same = record {
+  count = inr count;
+  each = λ b below. same b ∙ are.each b below;
 }
 
 -- a line that schedules nothing
@@ -83,9 +91,9 @@ unfolding solution_line
 line_bad blocks periods facts fields e is = ap (λ r. r >>= new_to facts) is
 
 -- what is read from a slot
-pub slot_is : (blocks : ℕ) (facts : List (Option (ℕ × ℕ))) (slots : List (Option ℕ)) (b : ℕ) (o : Option ℕ) → AreSlots blocks facts slots → b < blocks → o ≡ slice_index_or slots b o → o ≡ period_in facts b
-slot_is blocks facts slots b o are within read =
-    let in_slots : b < length slots = omega (arith, are.count) in
+pub slot_is : (blocks : ℕ) (facts : List (Option (ℕ × ℕ))) (slots : List (Option ℕ)) (b : ℕ) (o : Option ℕ) → AreSlots blocks facts slots → length slots ≡ blocks → b < blocks → o ≡ slice_index_or slots b o → o ≡ period_in facts b
+slot_is blocks facts slots b o are count within read =
+    let in_slots : b < length slots = omega (arith, count) in
     read ∙ get_or_default slots b o None in_slots ∙ are.each b within
 
 -- what holds of an option that is there
@@ -130,3 +138,40 @@ agree_from a (suc n) f g h =
 pub schedule_of-same : (n : ℕ) (f g : ℕ → Option ℕ) → ((b : ℕ) → b < n → f b ≡ g b) → schedule_of n f ≡ schedule_of n g
 unfolding schedule_of
 schedule_of-same n f g h = agree_from 0 n f g (λ b below. h b (omega arith))
+
+nothing_from : (a n : ℕ) → filter_map (pair_of (λ b. None)) (range_with_len a n) ≡ []
+nothing_from a zero = refl
+nothing_from a (suc n) = nothing_from (a + 1) n
+
+-- no block has a period
+schedule_of-nothing : (n : ℕ) (period : ℕ → Option ℕ) → ((b : ℕ) → b < n → period b ≡ None) → schedule_of n period ≡ []
+unfolding schedule_of
+schedule_of-nothing n period none = agree_from 0 n period (λ b. None) (λ b below. none b (omega arith)) ∙ nothing_from 0 n
+
+by_count : (blocks : ℕ) (facts : List (Option (ℕ × ℕ))) (slots : List (Option ℕ)) → AreSlots blocks facts slots → (slots ≡ []) ⊎ (length slots ≡ blocks)
+    → schedule_of (length slots) (λ b. slice_index_or slots b None) ≡ schedule_of blocks (period_in facts)
+by_count blocks facts slots are (inl none) =
+    ap (λ (os : List (Option ℕ)). schedule_of (length os) (λ b. slice_index_or os b None)) none
+    ∙ schedule_of-none (λ b. slice_index_or [] b None)
+    ∙ sym (schedule_of-nothing blocks (period_in facts) (λ b below. sym (are.each b below) ∙ ap (λ (os : List (Option ℕ)). slice_index_or os b None) none))
+by_count blocks facts slots are (inr count) =
+    ap (λ (n : ℕ). schedule_of n (λ b. slice_index_or slots b None)) count ∙ schedule_of-same blocks (λ b. slice_index_or slots b None) (period_in facts) are.each
+
+-- the slots give the schedule of the lines
+pub schedule_of-slots : (blocks : ℕ) (facts : List (Option (ℕ × ℕ))) (slots : List (Option ℕ)) → AreSlots blocks facts slots
+    → schedule_of (length slots) (λ b. slice_index_or slots b None) ≡ schedule_of blocks (period_in facts)
+schedule_of-slots blocks facts slots are = by_count blocks facts slots are are.count
+
+-- a line that schedules a block
+some_either : (o : Option ℕ) (t : ℕ) → is_some (or_else o (Some t)) ≡ true
+some_either None t = refl
+some_either (Some x) t = refl
+
+pub schedules_some : (facts : List (Option (ℕ × ℕ))) (pair : ℕ × ℕ) → (b : ℕ) × IsSome (period_in (facts ++ Some pair ∷ []) b)
+schedules_some facts pair =
+    let same : nat_eq pair.0 pair.0 ≡ true = grind (arith, nat_tests) in
+    let said : period_in_fact pair.0 (Some pair) ≡ Some pair.1 = simp same in (
+      pair.0,
+      ap (λ (o : Option ℕ). is_some o) (first_value-more (period_in_fact pair.0) facts (Some pair) ∙ ap (λ (o : Option ℕ). or_else (period_in facts pair.0) o) said)
+          ∙ some_either (period_in facts pair.0) pair.1,
+    )

@@ -10,6 +10,7 @@ pub mod Causes
 pub mod Added
 pub mod SectionFacts
 pub mod Precedence
+pub mod Unlisted
 pub mod Blocks
 pub mod Solution
 pub mod Model

@@ -1,5 +1,5 @@
 -- What the lines of a model say.
-use Rattle.std.specs.Prelude.{ℕ, ◌==◌, if◌then◌else◌, List, [], ◌∷◌, find, Result, Ok, Err, Option, Some, None, is_some, is_none, codes, unwrap_or}
+use Rattle.std.specs.Prelude.{◌≡◌, ◌≢◌, ◌⊎◌, ℕ, ◌==◌, if◌then◌else◌, List, [], ◌∷◌, find, Result, Ok, Err, Option, Some, None, is_some, is_none, codes, unwrap_or}
 use Rattle.std.specs.List.{list_any, filter_map}
 use Rattle.std.specs.Option.{option_map}
 use Rattle.std.specs.Str.{bytes_eq}
@@ -11,7 +11,8 @@ use Rattle.pit_text.specs.declared.key.Key.TheVariants.{Kind, Blocks, Periods, R
 use Rattle.pit_text.specs.declared.section.Section.{Section}
 use Rattle.pit_text.specs.declared.section.Section.TheVariants.{Objective, Coefficients, Limits}
 use Rattle.pit_text.specs.declared.section_fact.SectionFact.{SectionFact}
-use Rattle.pit_text.specs.Stands.{◌>>=◌}
+use Rattle.pit_text.specs.Cutting.{Cut}
+use Rattle.pit_text.specs.Stands.{◌>>=◌, StandsTo, StandsWhole}
 use Rattle.pit_text.specs.Earlier.{first_value}
 use Rattle.pit_text.specs.Header.{value_of_key}
 use Rattle.pit_text.specs.Keys.{key_of, key_number, same_section}
@@ -139,3 +140,12 @@ model_line earlier (first ∷ values) = line_by earlier (section_of first) first
 -- where no section line has seen to it, the end does
 unfoldable pub model_end : List Fact → Option Cause
 model_end facts = option_map MissingHeader (missing_key facts)
+
+-- ---- want of memory
+
+-- Memory is wanted where the header is whole and no line so far has a fault: at the first section line or a line behind it, or at the end of a
+-- text that stands for facts.
+abbrev pub ModelStops : List Cut → ℕ → ℕ → Type 0
+ModelStops lines end place =
+    ((facts : List Fact) × StandsTo model_line lines place facts × (sections facts ≢ []))
+    ⊎ ((facts : List Fact) × StandsWhole model_line model_end lines facts × (place ≡ end))

@@ -1,5 +1,5 @@
 -- What the lines of a solution say.
-use Rattle.std.specs.Prelude.{◌≡◌, ℕ, ℤ, pos, negsuc, ◌==◌, ◌^◌, nat_le, if◌then◌else◌, List, [], ◌∷◌, length, Result, Ok, Err, Option, Some, None, is_some, slice_index_or, ◌<◌}
+use Rattle.std.specs.Prelude.{◌≡◌, ◌⊎◌, ℕ, ℤ, pos, negsuc, ◌==◌, ◌^◌, nat_le, if◌then◌else◌, List, [], ◌∷◌, length, Result, Ok, Err, Option, Some, None, is_some, IsSome, slice_index_or, ◌<◌}
 use Rattle.std.specs.List.{filter_map, range_with_len}
 use Rattle.std.specs.Option.{option_map}
 use Rattle.pit_model.specs.declared.error.BuildError.TheVariants.{BlockRange, PeriodRange, Repeated}
@@ -7,7 +7,8 @@ use Rattle.pit_text.specs.declared.error.Cause.{Cause}
 use Rattle.pit_text.specs.declared.error.Cause.TheVariants.{FieldCount, Unsupported, PartBlock, Build}
 use Rattle.pit_text.specs.declared.key.Key.TheVariants.{Destinations}
 use Rattle.pit_text.specs.Numbers.{whole_field, decimal_field}
-use Rattle.pit_text.specs.Stands.{◌>>=◌}
+use Rattle.pit_text.specs.Cutting.{Cut}
+use Rattle.pit_text.specs.Stands.{◌>>=◌, StandsTo, StandsFor}
 use Rattle.pit_text.specs.Earlier.{first_value}
 
 -- a block and a period
@@ -56,9 +57,9 @@ new_to earlier (Some pair) = if is_some (period_in earlier pair.0) then Err (Bui
 unfoldable pub solution_line : ℕ → ℕ → List (Option (ℕ × ℕ)) → List (List ℕ) → Result (Option (ℕ × ℕ)) Cause
 solution_line blocks periods earlier fields = scheduled_pair blocks periods fields >>= new_to earlier
 
--- one period or none for each block, as the lines say
+-- one period or none for each block, as the lines say; or nothing, where they give none
 pub record AreSlots (blocks : ℕ) (facts : List (Option (ℕ × ℕ))) (slots : List (Option ℕ)) : Type 0 where
-  pub count : length slots ≡ blocks
+  pub count : (slots ≡ []) ⊎ (length slots ≡ blocks)
   pub each : (b : ℕ) → b < blocks → slice_index_or slots b None ≡ period_in facts b
 
 -- each block that has a period, beside it, by rising block
@@ -67,3 +68,10 @@ pair_of period block = option_map (λ t. (block, t)) (period block)
 
 unfoldable pub schedule_of : ℕ → (ℕ → Option ℕ) → List (ℕ × ℕ)
 schedule_of blocks period = filter_map (pair_of period) (range_with_len 0 blocks)
+
+-- Memory is wanted at a line, where neither it nor a line before it has a fault and one of them schedules a block; or at the end, where all
+-- lines stand for facts.
+abbrev pub SolutionStops : ℕ → ℕ → List Cut → ℕ → ℕ → Type 0
+SolutionStops blocks periods lines end place =
+    ((facts : List (Option (ℕ × ℕ))) × StandsTo (solution_line blocks periods) lines place facts × ((b : ℕ) × IsSome (period_in facts b)))
+    ⊎ ((facts : List (Option (ℕ × ℕ))) × StandsFor (solution_line blocks periods) lines facts × (place ≡ end))

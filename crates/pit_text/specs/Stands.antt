@@ -43,6 +43,19 @@ pub record FailsFirst {F C : Type 0} (judge : Judge F C) (lines : List Cut) (pla
   pub number : place ≡ line.number
   pub fails : judge facts line.fields ≡ Err cause
 
+-- The lines up to the one of this number, and that one too, stand for the facts.
+pub record StandsTo {F C : Type 0} (judge : Judge F C) (lines : List Cut) (place : ℕ) (facts : List F) : Type 0 where
+  pub before : List Cut
+  pub line : Cut
+  pub after : List Cut
+  pub cut : lines ≡ before ++ line ∷ after
+  pub stands : StandsFor judge (before ++ line ∷ []) facts
+  pub number : place ≡ line.number
+
+-- Memory is wanted at a line: neither it nor a line before it has a fault.
+abbrev pub StopsAt : {F C : Type 0} → Judge F C → List Cut → ℕ → Type 0
+StopsAt {F} judge lines place = (facts : List F) × StandsTo judge lines place facts
+
 -- The lines stand for the facts, and nothing is wanting at the end.
 pub record StandsWhole {F C : Type 0} (judge : Judge F C) (end_test : EndTest F C) (lines : List Cut) (facts : List F) : Type 0 where
   pub stands : StandsFor judge lines facts

@@ -1,7 +1,8 @@
 ghost use Rattle.std.specs.Prelude.{◌≡◌, ℕ, ℤ, List, Ok, Err, MatchResult, ◌⊎◌};
 ghost use Rattle.pit_text.specs.Cutting.{cut_of};
 ghost use Rattle.pit_text.specs.Left.{fields_left};
-ghost use Rattle.pit_text.specs.Stands.{StandsFor, FailsFirst};
+ghost use Rattle.pit_text.specs.Stands.{StandsFor, StopsAt, FailsFirst};
+ghost use Rattle.pit_text.specs.Causes.{IsCauseOf};
 ghost use Rattle.pit_text.specs.Blocks.{place_line, with_place_fact, place_fact, pit_with_places, block_line};
 
 use super::error::{Cause, TextError};
@@ -11,14 +12,14 @@ use super::number::{decimal, whole};
 use pit_model::Builder;
 use std::alloc::Allocator;
 
-/// Reads the places of blocks into a pit. After a fault the pit is freed.
+/// Reads the places of blocks into a pit. Each line is judged before memory is taken for its fact. After a fault the pit is freed.
 pub fn read_blocks<A: Allocator + Copy + Drop>(
     text: &[u8],
     mut builder: Builder<A>,
 ) -> Result<Builder<A>, TextError>
     ensures { let judge = block_line builder in MatchResult result
         (λ read. (facts : List (ℕ × (ℤ × ℤ × ℤ))) × StandsFor judge (cut_of text.now) facts × (read ≡ pit_with_places builder facts))
-        (λ fault. (fault.cause ≡ Cause.NoMemory) ⊎ FailsFirst judge (cut_of text.now) fault.line fault.cause) }
+        (λ fault. ((fault.cause ≡ Cause.NoMemory) × StopsAt judge (cut_of text.now) fault.line) ⊎ FailsFirst judge (cut_of text.now) fault.line fault.cause) }
 {
     let mut lines = Lines::new(text);
     while let Some(line) = lines.next() {
@@ -38,7 +39,7 @@ fn read_line<A: Allocator + Copy + Drop>(
 ) -> Result<(), Cause>
     ensures { MatchResult result
         (λ _. (fact : ℕ × (ℤ × ℤ × ℤ)) × (place_fact builder.old (fields_left fields.entry) ≡ Ok fact) × (builder.new ≡ with_place_fact builder.old fact))
-        (λ cause. (cause ≡ Cause.NoMemory) ⊎ (place_fact builder.old (fields_left fields.entry) ≡ Err cause)) }
+        (λ cause. IsCauseOf (place_fact builder.old (fields_left fields.entry)) cause) }
 {
     let (block, (x, y, z)) = place(fields)?;
     builder.set_place(block, x, y, z)?;

@@ -68,11 +68,12 @@ impl From<AllocFailed<u32>> for Cause {
     }
 }
 
-/// The first faulty line of a text, counted from 1, and what is wrong with it. Where memory ran out, the line says nothing.
+/// The first faulty line of a text, counted from 1, and what is wrong with it. Where memory ran out, the line at which it was wanted: neither it
+/// nor a line before it is faulty.
 #[derive(Clone, Copy, Debug, PartialEq, Eq, Error)]
 #[error("line {line}: {cause}")]
 pub struct TextError {
-    /// For what is wanting at the end of a text: the line of `EOF`, or else one past the last line.
+    /// For what is wanting at the end of a text, and for memory that is: the line of `EOF`, or else one past the last line.
     pub line: u64,
     pub cause: Cause,
 }

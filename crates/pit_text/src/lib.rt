@@ -34,7 +34,7 @@ pub use laws::limits_are_tightest;
 pub use lines::{Line, Lines};
 pub use model::read_model;
 pub use precedence::read_precedence;
-pub use result::one_result;
+pub use result::{no_fault_wants_memory, one_result};
 pub use section::Section;
 pub use section_fact::SectionFact;
 pub use solution::read_solution;

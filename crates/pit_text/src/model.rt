@@ -2,8 +2,9 @@ ghost use Rattle.std.specs.Prelude.{◌≡◌, ◌≢◌, ◌∷◌, ◌++◌, [
 ghost use Rattle.pit_text.specs.Cutting.{cut_of, end_line};
 ghost use Rattle.pit_text.specs.Left.{fields_left, lines_left, end_left};
 ghost use Rattle.pit_text.specs.Stands.{StandsWhole, FailsWhole, IsReadTo};
+ghost use Rattle.pit_text.specs.Causes.{IsCauseOf};
 ghost use Rattle.pit_text.specs.SectionFacts.{with_section_fact};
-ghost use Rattle.pit_text.specs.Model.{Fact, in_section, section_fact_line, model_line, model_end, pit_of};
+ghost use Rattle.pit_text.specs.Model.{Fact, in_section, section_fact_line, model_line, model_end, pit_of, ModelStops};
 ghost use Rattle.pit_text.specs.Draft.{IsDraft, IsHeader, IsHeaderFact, IsBody, HasHeader};
 
 use super::draft::Draft;
@@ -16,20 +17,22 @@ use super::section_fact::{SectionFact, add, section_fact_of};
 use pit_model::Builder;
 use std::alloc::Allocator;
 
-/// Reads a model: its header, its profits, its coefficients and its limits.
+/// Reads a model: its header, its profits, its coefficients and its limits. The header is judged before any memory is taken, and each line before
+/// its fact is.
 pub fn read_model<A: Allocator + Copy + Drop>(
     alloc: A,
     text: &[u8],
 ) -> Result<Builder<A>, TextError>
     ensures { MatchResult result
         (λ builder. (facts : List Fact) × StandsWhole model_line model_end (cut_of text.now) facts × (builder ≡ pit_of facts))
-        (λ fault. (fault.cause ≡ Cause.NoMemory) ⊎ FailsWhole model_line model_end (cut_of text.now) (end_line text.now) fault.line fault.cause) }
+        (λ fault. ((fault.cause ≡ Cause.NoMemory) × ModelStops (cut_of text.now) (end_line text.now) fault.line)
+        ⊎ FailsWhole model_line model_end (cut_of text.now) (end_line text.now) fault.line fault.cause) }
 {
     let mut lines = Lines::new(text);
-    let mut draft = read_header(&mut lines)?;
+    let (mut draft, begun) = read_header(&mut lines)?;
     let Ok(mut builder) = draft.builder(alloc) else {
         return Err(TextError {
-            line: 1,
+            line: begun,
             cause: Cause::NoMemory,
         });
     };
@@ -44,11 +47,11 @@ pub fn read_model<A: Allocator + Copy + Drop>(
     Ok(builder)
 }
 
-/// The lines of the header, and the first section line where there is one.
-fn read_header(lines: &mut Lines<'_>) -> Result<Draft, TextError>
+/// The lines of the header, and the first section line where there is one. With them the number of that line, or else of the end line.
+fn read_header(lines: &mut Lines<'_>) -> Result<(Draft, u64), TextError>
     ensures { MatchResult result
-        (λ draft. (facts : List Fact) × IsReadTo model_line (lines_left lines.old) (lines_left lines.new) facts × IsHeader facts draft
-        × HasHeader draft × (draft.section ≡ None → lines_left lines.new ≡ []))
+        (λ read. (facts : List Fact) × IsReadTo model_line (lines_left lines.old) (lines_left lines.new) facts × IsHeader facts read.0
+        × HasHeader read.0 × (read.0.section ≡ None → lines_left lines.new ≡ []) × ModelStops (lines_left lines.old) (end_left lines.old) read.1)
         (λ fault. FailsWhole model_line model_end (lines_left lines.old) (end_left lines.old) fault.line fault.cause) }
 {
     let mut draft = Draft::new();
@@ -60,7 +63,7 @@ fn read_header(lines: &mut Lines<'_>) -> Result<Draft, TextError>
             });
         }
         if draft.section().is_some() {
-            return Ok(draft);
+            return Ok((draft, line.number));
         }
     }
     match draft.missing_key() {
@@ -68,7 +71,7 @@ fn read_header(lines: &mut Lines<'_>) -> Result<Draft, TextError>
             line: lines.end_line(),
             cause: Cause::MissingHeader(key),
         }),
-        None => Ok(draft),
+        None => Ok((draft, lines.end_line())),
     }
 }
 
@@ -100,7 +103,7 @@ fn read_line<A: Allocator + Copy + Drop>(
     requires { draft.old.section ≢ None }
     ensures { (facts : List Fact) → IsBody facts draft.old builder.old → MatchResult result
         (λ _. (fact : Fact) × (model_line facts (fields_left fields.entry) ≡ Ok fact) × IsBody (facts ++ fact ∷ []) draft.new builder.new × (draft.new.section ≢ None))
-        (λ cause. (cause ≡ Cause.NoMemory) ⊎ (model_line facts (fields_left fields.entry) ≡ Err cause)) }
+        (λ cause. IsCauseOf (model_line facts (fields_left fields.entry)) cause) }
 {
     let Some(first) = fields.next() else {
         return Ok(());
@@ -123,7 +126,7 @@ fn read_section_fact<A: Allocator + Copy + Drop>(
 ) -> Result<(), Cause>
     ensures { (facts : List Fact) → builder.old ≡ pit_of facts → MatchResult result
         (λ _. (said : SectionFact) × (section_fact_line facts section (first.now ∷ fields_left fields.entry) ≡ Ok (in_section said)) × (builder.new ≡ with_section_fact builder.old said))
-        (λ cause. (cause ≡ Cause.NoMemory) ⊎ (section_fact_line facts section (first.now ∷ fields_left fields.entry) ≡ Err cause)) }
+        (λ cause. IsCauseOf (section_fact_line facts section (first.now ∷ fields_left fields.entry)) cause) }
 {
     let said = section_fact_of(section, first, fields)?;
     add(builder, said)?;

@@ -1,17 +1,20 @@
-ghost use Rattle.std.specs.Prelude.{◌≡◌, ◌==◌, ℕ, List, length, Ok, Err, MatchResult, ◌⊎◌};
+ghost use Rattle.std.specs.Prelude.{◌≡◌, ◌==◌, ℕ, List, length, Ok, Err, IsOk, OnErr, MatchResult, ◌⊎◌};
 ghost use Rattle.pit_text.specs.Cutting.{cut_of};
 ghost use Rattle.pit_text.specs.Left.{fields_left};
-ghost use Rattle.pit_text.specs.Stands.{StandsFor, FailsFirst};
+ghost use Rattle.pit_text.specs.Stands.{StandsFor, StopsAt, FailsFirst};
+ghost use Rattle.pit_text.specs.Unlisted.{with_block, has_from};
+ghost use Rattle.pit_text.specs.Causes.{IsCauseOf};
 ghost use Rattle.pit_text.specs.Precedence.{wholes_of, preds_line, with_preds_fact, preds_fact, pit_with_preds, precedence_line};
 
 use super::error::{Cause, TextError};
 use super::fields::Fields;
 use super::lines::Lines;
 use super::number::whole;
-use pit_model::Builder;
+use pit_model::{BuildError, Builder};
 use std::alloc::Allocator;
 
-/// Reads the predecessors of blocks into a pit. The allocator is for the list of one line. After a fault the pit is freed.
+/// Reads the predecessors of blocks into a pit. The allocator is for the list of one line. Want of memory is answered only where the line has no
+/// fault. After a fault the pit is freed.
 pub fn read_precedence<A: Allocator + Copy + Drop, B: Allocator + Copy + Drop>(
     alloc: B,
     text: &[u8],
@@ -19,7 +22,7 @@ pub fn read_precedence<A: Allocator + Copy + Drop, B: Allocator + Copy + Drop>(
 ) -> Result<Builder<A>, TextError>
     ensures { let judge = precedence_line builder in MatchResult result
         (λ read. (facts : List (ℕ × List ℕ)) × StandsFor judge (cut_of text.now) facts × (read ≡ pit_with_preds builder facts))
-        (λ fault. (fault.cause ≡ Cause.NoMemory) ⊎ FailsFirst judge (cut_of text.now) fault.line fault.cause) }
+        (λ fault. ((fault.cause ≡ Cause.NoMemory) × StopsAt judge (cut_of text.now) fault.line) ⊎ FailsFirst judge (cut_of text.now) fault.line fault.cause) }
 {
     let mut listed = Vec::new(alloc);
     let mut lines = Lines::new(text);
@@ -34,7 +37,7 @@ pub fn read_precedence<A: Allocator + Copy + Drop, B: Allocator + Copy + Drop>(
     Ok(builder)
 }
 
-/// A line, whose predecessors are left in the list.
+/// A line, whose predecessors are left in the list. Where there is no memory for them, the line is judged without it.
 fn read_line<A: Allocator + Copy + Drop, B: Allocator + Drop>(
     builder: &mut Builder<A>,
     listed: &mut Vec<u32, B>,
@@ -42,22 +45,38 @@ fn read_line<A: Allocator + Copy + Drop, B: Allocator + Drop>(
 ) -> Result<(), Cause>
     ensures { MatchResult result
         (λ _. (fact : ℕ × List ℕ) × (preds_fact builder.old (fields_left fields.entry) ≡ Ok fact) × (builder.new ≡ with_preds_fact builder.old fact))
-        (λ cause. (cause ≡ Cause.NoMemory) ⊎ (preds_fact builder.old (fields_left fields.entry) ≡ Err cause)) }
+        (λ cause. IsCauseOf (preds_fact builder.old (fields_left fields.entry)) cause) }
 {
-    let block = preds(listed, fields)?;
+    match add_line(builder, listed, fields) {
+        Ok(()) => Ok(()),
+        Err(cause) if cause == Cause::NoMemory => Err(cause_without_list(builder, fields)),
+        Err(cause) => Err(cause),
+    }
+}
+
+/// Adds a line, whose predecessors are left in the list. Memory may be wanted before all of the line is judged.
+fn add_line<A: Allocator + Copy + Drop, B: Allocator + Drop>(
+    builder: &mut Builder<A>,
+    listed: &mut Vec<u32, B>,
+    fields: Fields<'_>,
+) -> Result<(), Cause>
+    ensures result { MatchResult result
+        (λ _. (fact : ℕ × List ℕ) × (preds_fact builder.old (fields_left fields.entry) ≡ Ok fact) × (builder.new ≡ with_preds_fact builder.old fact))
+        (λ cause. (cause ≡ Cause.NoMemory) ⊎ (preds_fact builder.old (fields_left fields.entry) ≡ Err cause)) }
+    ensures err { OnErr result (builder.new ≡ builder.old) }
+{
+    let (block, rest) = block_and_rest(fields)?;
+    wholes(listed, rest)?;
     builder.set_preds(block, listed.as_slice())?;
     Ok(())
 }
 
-/// The block of a line, whose predecessors are left in the list.
+/// The block of a line and its predecessors, which are as many as it says.
 #[tactic(auto, unfolding(crate::specs::Precedence::preds_line))]
-fn preds<B: Allocator + Drop>(
-    listed: &mut Vec<u32, B>,
-    mut fields: Fields<'_>,
-) -> Result<u32, Cause>
+fn block_and_rest<'a>(mut fields: Fields<'a>) -> Result<(u32, Fields<'a>), Cause>
     ensures { MatchResult result
-        (λ block. preds_line (fields_left fields.entry) ≡ Ok (block, listed.new.items))
-        (λ cause. (cause ≡ Cause.NoMemory) ⊎ (preds_line (fields_left fields.entry) ≡ Err cause)) }
+        (λ read. preds_line (fields_left fields.entry) ≡ with_block read.0 (wholes_of (fields_left read.1)))
+        (λ cause. preds_line (fields_left fields.entry) ≡ Err cause) }
 {
     let (Some(first), Some(second)) = (fields.next(), fields.next()) else {
         return Err(Cause::FieldCount);
@@ -67,8 +86,49 @@ fn preds<B: Allocator + Drop>(
     if !is_count(count, fields) {
         return Err(Cause::CountWrong);
     }
-    wholes(listed, fields)?;
-    Ok(block)
+    Ok((block, fields))
+}
+
+/// What is wrong with a line, or else want of memory.
+fn cause_without_list<A: Allocator + Copy + Drop>(builder: &Builder<A>, fields: Fields<'_>) -> Cause
+    ensures { IsCauseOf (preds_fact builder.now (fields_left fields.entry)) result }
+{
+    match judge(builder, fields) {
+        Ok(()) => Cause::NoMemory,
+        Err(cause) => cause,
+    }
+}
+
+/// Judges a line without a list of its predecessors.
+fn judge<A: Allocator + Copy + Drop>(builder: &Builder<A>, fields: Fields<'_>) -> Result<(), Cause>
+    ensures { MatchResult result
+        (λ _. IsOk (preds_fact builder.now (fields_left fields.entry)))
+        (λ cause. preds_fact builder.now (fields_left fields.entry) ≡ Err cause) }
+{
+    let (block, rest) = block_and_rest(fields)?;
+    let is_out = has_from(builder.blocks(), rest)?;
+    if block >= builder.blocks() {
+        return Err(Cause::Build(BuildError::BlockRange));
+    }
+    if is_out {
+        return Err(Cause::Build(BuildError::BlockRange));
+    }
+    if builder.has_preds(block) {
+        return Err(Cause::Build(BuildError::Repeated));
+    }
+    Ok(())
+}
+
+/// Whether one of the whole numbers of the fields is this or a greater one.
+fn has_from(least: u32, mut fields: Fields<'_>) -> Result<bool, Cause>
+    ensures { result ≡ has_from least (wholes_of (fields_left fields.entry)) }
+{
+    let mut found = false;
+    while let Some(field) = fields.next() {
+        let n = whole(field)?;
+        found |= n >= least;
+    }
+    Ok(found)
 }
 
 /// Whether this is the number of the fields.

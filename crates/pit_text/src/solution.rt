@@ -1,9 +1,9 @@
-ghost use Rattle.std.specs.Prelude.{◌≡◌, ℕ, ◌<◌, ◌^◌, ◌∷◌, ◌++◌, [], List, Option, None, Ok, Err, MatchResult, IfOk, IfSome, ◌⊎◌, length, slice_index_or};
+ghost use Rattle.std.specs.Prelude.{◌≡◌, ℕ, ◌<◌, ◌^◌, ◌∷◌, ◌++◌, [], List, Option, Some, None, Ok, Err, MatchResult, IfOk, IfErr, IfSome, OnOk, ◌⊎◌, length, slice_index_or};
 ghost use Rattle.pit_num.specs.Fitting.{IsSchedule};
-ghost use Rattle.pit_text.specs.Cutting.{cut_of};
+ghost use Rattle.pit_text.specs.Cutting.{cut_of, end_line};
 ghost use Rattle.pit_text.specs.Left.{fields_left};
 ghost use Rattle.pit_text.specs.Stands.{StandsFor, FailsFirst};
-ghost use Rattle.pit_text.specs.Solution.{pair_in_range, mined_pair, scheduled_pair, solution_line, AreSlots, period_in, schedule_of};
+ghost use Rattle.pit_text.specs.Solution.{pair_in_range, mined_pair, scheduled_pair, solution_line, AreSlots, period_in, schedule_of, SolutionStops};
 
 use super::error::{Cause, TextError};
 use super::fields::Fields;
@@ -14,7 +14,7 @@ use pit_model::{BuildError, Instance};
 use pit_num::NoMemory;
 use std::alloc::Allocator;
 
-/// The blocks that a solution schedules, each with its period, by rising block.
+/// The blocks that a solution schedules, each with its period, by rising block. Takes no memory before the first line that schedules one.
 pub fn read_solution<A: Allocator + Copy + Drop>(
     alloc: A,
     text: &[u8],
@@ -23,14 +23,15 @@ pub fn read_solution<A: Allocator + Copy + Drop>(
     ensures result { let judge = solution_line instance.now.blocks instance.now.periods in MatchResult result
         (λ solution. (facts : List (Option (ℕ × ℕ))) × StandsFor judge (cut_of text.now) facts
         × (solution.items ≡ schedule_of instance.now.blocks (period_in facts)))
-        (λ fault. (fault.cause ≡ Cause.NoMemory) ⊎ FailsFirst judge (cut_of text.now) fault.line fault.cause) }
+        (λ fault. ((fault.cause ≡ Cause.NoMemory) × SolutionStops instance.now.blocks instance.now.periods (cut_of text.now) (end_line text.now) fault.line)
+        ⊎ FailsFirst judge (cut_of text.now) fault.line fault.cause) }
     ensures fits { IfOk result (λ solution. IsSchedule instance.now.blocks instance.now.periods solution.items) }
 {
-    let slots = read_slots(alloc, text, instance.blocks(), instance.periods())?;
+    let (slots, end) = read_slots(alloc, text, instance.blocks(), instance.periods())?;
     match schedule_of(alloc, &slots) {
         Ok(solution) => Ok(solution),
         Err(_) => Err(TextError {
-            line: 1,
+            line: end,
             cause: Cause::NoMemory,
         }),
     }
@@ -52,23 +53,19 @@ fn schedule_of<A: Allocator>(
     Ok(solution)
 }
 
-/// The period of each block that a solution schedules.
+/// The period of each block that a solution schedules, and the number of its end line.
 fn read_slots<A: Allocator + Drop>(
     alloc: A,
     text: &[u8],
     blocks: u32,
     periods: u32,
-) -> Result<Vec<Option<u32>, A>, TextError>
+) -> Result<(Vec<Option<u32>, A>, u64), TextError>
     ensures { let judge = solution_line blocks periods in MatchResult result
-        (λ slots. (facts : List (Option (ℕ × ℕ))) × StandsFor judge (cut_of text.now) facts × AreSlots blocks facts slots.items)
-        (λ fault. (fault.cause ≡ Cause.NoMemory) ⊎ FailsFirst judge (cut_of text.now) fault.line fault.cause) }
+        (λ read. (facts : List (Option (ℕ × ℕ))) × StandsFor judge (cut_of text.now) facts × AreSlots blocks facts read.0.items × (read.1 ≡ end_line text.now))
+        (λ fault. ((fault.cause ≡ Cause.NoMemory) × SolutionStops blocks periods (cut_of text.now) (end_line text.now) fault.line)
+        ⊎ FailsFirst judge (cut_of text.now) fault.line fault.cause) }
 {
-    let Ok(mut slots) = vec![in alloc; None; blocks as usize] else {
-        return Err(TextError {
-            line: 1,
-            cause: Cause::NoMemory,
-        });
-    };
+    let mut slots = Vec::new(alloc);
     let mut lines = Lines::new(text);
     while let Some(line) = lines.next() {
         if let Err(cause) = read_line(&mut slots, line.fields, blocks, periods) {
@@ -78,7 +75,7 @@ fn read_slots<A: Allocator + Drop>(
             });
         }
     }
-    Ok(slots)
+    Ok((slots, lines.end_line()))
 }
 
 fn read_line<A: Allocator + Drop>(
@@ -87,20 +84,41 @@ fn read_line<A: Allocator + Drop>(
     blocks: u32,
     periods: u32,
 ) -> Result<(), Cause>
-    requires { length slots.old.items ≡ blocks }
+    requires { (slots.old.items ≡ []) ⊎ (length slots.old.items ≡ blocks) }
     ensures { (facts : List (Option (ℕ × ℕ))) → AreSlots blocks facts slots.old.items → MatchResult result
         (λ _. (fact : Option (ℕ × ℕ)) × (solution_line blocks periods facts (fields_left fields.entry) ≡ Ok fact) × AreSlots blocks (facts ++ fact ∷ []) slots.new.items)
-        (λ cause. solution_line blocks periods facts (fields_left fields.entry) ≡ Err cause) }
+        (λ cause. ((cause ≡ Cause.NoMemory) × ((pair : ℕ × ℕ) × (solution_line blocks periods facts (fields_left fields.entry) ≡ Ok (Some pair))))
+        ⊎ (solution_line blocks periods facts (fields_left fields.entry) ≡ Err cause)) }
 {
     let (block, period) = match scheduled_pair(fields, blocks, periods) {
         Ok(Some(pair)) => pair,
         Ok(None) => return Ok(()),
         Err(cause) => return Err(cause),
     };
+    let Ok(()) = make_slots(slots, blocks) else {
+        return Err(Cause::NoMemory);
+    };
     if slots[block as usize].is_some() {
         return Err(Cause::Build(BuildError::Repeated));
     }
     slots[block as usize] = Some(period);
+    Ok(())
+}
+
+/// Makes a slot for each block, unless that was done.
+fn make_slots<A: Allocator + Drop>(
+    slots: &mut Vec<Option<u32>, A>,
+    blocks: u32,
+) -> Result<(), NoMemory>
+    requires { (slots.old.items ≡ []) ⊎ (length slots.old.items ≡ blocks) }
+    ensures count { OnOk result (length slots.new.items ≡ blocks) }
+    ensures same { (b : ℕ) → slice_index_or slots.new.items b None ≡ slice_index_or slots.old.items b None }
+    ensures refused { IfErr result (λ e. slots.old.items ≡ []) }
+{
+    if !slots.is_empty() {
+        return Ok(());
+    }
+    slots.resize(blocks as usize, None)?;
     Ok(())
 }
 

@@ -11,34 +11,34 @@ use Rattle.pit_plan.proofs.Good.{ordered-from_none}
 use Rattle.pit_plan.proofs.Touched.{least-after, over-found, moved-looked, revised-looked}
 use Rattle.pit_plan.proofs.judging.first_breach_after.Goals as goal
 
-pub returns-in-Some : goal.returns-in-Some
-returns-in-Some g c = λ good.
+pub returns-in-Some-clause-breach : goal.returns-in-Some-clause-breach
+returns-in-Some-clause-breach g c = λ good.
     let pit = c.args.pit.now in
     let writes = c.args.writes.now in
     let s = by_block c.args.tally.now.periods in
     let periods : c.deref.result.now ≡ c.args.tally.now.periods = c.deref.ensures.value ∙ ap (λ (t : Tallied). t.periods) c.tally.view_is in
     let near : IsLeast ComesBefore (IsOutNear pit (laid_over s writes) writes) c.first_out_near.result =
     subst (λ (ps : List (Option ℕ)). IsLeast ComesBefore (IsOutNear pit (laid_over (by_block ps) writes) writes) c.first_out_near.result) periods
-    (subst (λ (ws : Writes). IsLeast ComesBefore (IsOutNear pit (laid_over (by_block c.deref.result.now) ws) writes) c.first_out_near.result) c.in_ok-written.ensures c.first_out_near.ensures) in
+    (subst (λ (ws : Writes). IsLeast ComesBefore (IsOutNear pit (laid_over (by_block c.deref.result.now) ws) writes) c.first_out_near.result) c.in_ok-written.ensures.entries c.first_out_near.ensures) in
     subst (IsLeast ComesBefore (IsOutOfOrder pit (laid_over s writes))) c.in-Some.is (least-after pit s writes c.first_out_near.result good.ordered near)
 
-pub returns : goal.returns
-returns g c = λ good.
+pub returns-clause-breach : goal.returns-clause-breach
+returns-clause-breach g c = λ good.
     let pit = c.args.pit.now in
     let writes = c.args.writes.now in
     let s = by_block c.args.tally.now.periods in
     let periods : c.deref.result.now ≡ c.args.tally.now.periods = c.deref.ensures.value ∙ ap (λ (t : Tallied). t.periods) c.tally.view_is in
     let near : IsLeast ComesBefore (IsOutNear pit (laid_over s writes) writes) c.first_out_near.result =
     subst (λ (ps : List (Option ℕ)). IsLeast ComesBefore (IsOutNear pit (laid_over (by_block ps) writes) writes) c.first_out_near.result) periods
-    (subst (λ (ws : Writes). IsLeast ComesBefore (IsOutNear pit (laid_over (by_block c.deref.result.now) ws) writes) c.first_out_near.result) c.in_ok-written.ensures c.first_out_near.ensures) in
+    (subst (λ (ws : Writes). IsLeast ComesBefore (IsOutNear pit (laid_over (by_block c.deref.result.now) ws) writes) c.first_out_near.result) c.in_ok-written.ensures.entries c.first_out_near.ensures) in
     let none = subst (IsLeast ComesBefore (IsOutOfOrder pit (laid_over s writes))) c.in_default.is (least-after pit s writes c.first_out_near.result good.ordered near) in
     let revised = by_cell pit (revisions_of c.args.revises.now) in
     let limits = cell_limit c.args.limits.now in
     let loads = c.look_at_revised.new.loads in
-    let looks = c.in_ok-look_at_revised.ensures in
+    let looks = c.in_ok-look_at_revised.ensures.looks in
     let lim = at_cell pit (laid_over limits revised) in
     over-found pit c.args.tally.now writes loads.kept.now loads.cells.entries (at_cell pit limits) lim c.first_over_in.result c.requires.tally
-    (moved-looked pit c.args.tally.now writes revised c.in_ok-loads.loads.kept.now loads.kept.now c.in_ok-loads.loads.cells.entries loads.cells.entries c.in_ok-loads.ensures looks)
+    (moved-looked pit c.args.tally.now writes revised c.in_ok-loads.loads.kept.now loads.kept.now c.in_ok-loads.loads.cells.entries loads.cells.entries c.in_ok-loads.ensures.moved looks)
     (revised-looked pit limits revised loads.cells.entries looks.named) good.within (ordered-from_none pit (laid_over s writes) none)
-    (subst (λ (xs : List (ℕ × Option ℤ)). IfNone c.first_over_in.result (IsLeast ComesBefore (IsOverAt pit (at_cell pit (laid_over limits xs)) loads.cells.entries) None)) c.in_ok-revised.ensures c.first_over_in.ensures.none)
-    (subst (λ (xs : List (ℕ × Option ℤ)). IfSome c.first_over_in.result (IsLeastOver pit (at_cell pit (laid_over limits xs)) loads.cells.entries)) c.in_ok-revised.ensures c.first_over_in.ensures.some)
+    (subst (λ (xs : List (ℕ × Option ℤ)). IfNone c.first_over_in.result (IsLeast ComesBefore (IsOverAt pit (at_cell pit (laid_over limits xs)) loads.cells.entries) None)) c.in_ok-revised.ensures.entries c.first_over_in.ensures.none)
+    (subst (λ (xs : List (ℕ × Option ℤ)). IfSome c.first_over_in.result (IsLeastOver pit (at_cell pit (laid_over limits xs)) loads.cells.entries)) c.in_ok-revised.ensures.entries c.first_over_in.ensures.some)

@@ -1,5 +1,5 @@
 use Rattle.std.proofs.Common.{◌≡◌, None, Some, inr, ap, sym, ◌∙◌, is_some}
-use Rattle.pit_text.specs.Left.{cut_seen, lines_left}
+use Rattle.pit_text.specs.Left.{cut_seen, lines_left, end_left}
 use Rattle.pit_text.specs.Model.{missing_key, model_line}
 use Rattle.pit_text.proofs.Drafts.{missing_key-draft, header-whole}
 use Rattle.pit_text.proofs.Reading.{read_all, read_left}
@@ -10,7 +10,7 @@ pub returns-then-is_some : goal.returns-then-is_some
 returns-then-is_some c =
     let was = c.loop-line.invariant.facts in
     let read = c.in_default-read_header_line.ensures was.0 was.2 in
-    header_ends (lines_left c.args.lines.now) (lines_left c.loop-line.lines) (lines_left c.next.new.self) (cut_seen c.in-Some.line) was.0 read.0 c.read_header_line.new.draft
+    header_ends (lines_left c.args.lines.now) (lines_left c.loop-line.lines) (lines_left c.next.new.self) (cut_seen c.in-Some.line) (end_left c.args.lines.now) was.0 read.0 c.read_header_line.new.draft
     was.1 c.in-Some.ensures.steps.0 was.3 read.1 read.2 read.3 (ap (λ o. is_some o) (sym c.section.ensures) ∙ sym c.is_some.ensures ∙ c.if-is_some.true)
 
 pub loop-line-preserved : goal.loop-line-preserved
@@ -44,4 +44,12 @@ returns-in-None c =
       record { keeps = was.2; whole = whole; none = was.3 },
       header-whole was.0 c.loop-line.draft was.2 whole,
       λ _. c.in_default.ensures.steps.0.1,
+      inr (
+        was.0,
+        record {
+          stands = read_all model_line (lines_left c.args.lines.now) (lines_left c.loop-line.lines) was.0 was.1 c.in_default.ensures.steps.0.0;
+          whole = end_is was.0 None whole;
+        },
+        c.end_line-in-None.ensures ∙ c.in_default.ensures.steps.1 ∙ c.loop-line.invariant.end,
+      ),
     )

@@ -1,11 +1,12 @@
-use Rattle.std.proofs.Common.{◌++◌, [], Err, refl, ap, sym, ◌∙◌}
+use Rattle.std.proofs.Common.{ℕ, List, [], Result, refl, ap, sym, ◌∙◌, subst}
 use Rattle.pit_model.specs.Pit.{Pit}
 use Rattle.pit_text.specs.Cutting.{cut_of}
 use Rattle.pit_text.specs.Left.{cut_seen, fields_left, lines_left}
 use Rattle.pit_text.specs.Precedence.{precedence_line, preds_fact, with_preds_fact}
-use Rattle.pit_text.proofs.ModelLines.{either_map}
+use Rattle.pit_text.specs.Causes.{IsCauseOf}
+use Rattle.pit_text.specs.declared.error.Cause.{Cause}
 use Rattle.pit_text.proofs.Pits.{pit_with-none, pit_with-more, line_of_pit-is}
-use Rattle.pit_text.proofs.Reading.{read_more}
+use Rattle.pit_text.proofs.Reading.{read_more, read_stops}
 use Rattle.pit_text.proofs.precedence.read_precedence.Goals as goal
 
 pub loop-line-init : goal.loop-line-init
@@ -26,13 +27,7 @@ pub returns-in-Err : goal.returns-in-Err
 returns-in-Err g c =
     let was = c.loop-line.invariant in
     let given : Pit = c.args.builder in
-    either_map (λ memory. memory) (λ wrong. record {
-      before = was.1.done;
-      line = cut_seen c.in-Some.line;
-      after = lines_left c.next.new.self;
-      facts = was.0;
-      cut = was.1.cut ∙ ap (λ ls. was.1.done ++ ls) c.in-Some.ensures.steps.0;
-      stands = was.1.stands;
-      number = refl;
-      fails = line_of_pit-is with_preds_fact preds_fact given c.loop-line.builder was.0 (fields_left c.in-Some.line.fields) (Err c.in-Err.cause) was.2 wrong;
-    }) c.in-Err.ensures
+    let fields = fields_left c.in-Some.line.fields in
+    read_stops (precedence_line given) (cut_of c.args.text.now) (lines_left c.loop-line.lines) (lines_left c.next.new.self) (cut_seen c.in-Some.line) was.0 c.in-Err.cause was.1 c.in-Some.ensures.steps.0
+    (subst (λ (r : Result (ℕ × List ℕ) Cause). IsCauseOf r c.in-Err.cause)
+    (sym (line_of_pit-is with_preds_fact preds_fact given c.loop-line.builder was.0 fields (preds_fact c.loop-line.builder fields) was.2 refl)) c.in-Err.ensures)

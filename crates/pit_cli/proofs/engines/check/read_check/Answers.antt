@@ -1,0 +1,22 @@
+use Rattle.std.proofs.Common.{◌∷◌, [], ℕ, List, subst}
+use Rattle.pit_num.specs.Fitting.{writes_of}
+use Rattle.pit_cli.specs.declared.input.Input.TheVariants.{Solution}
+use Rattle.pit_cli.specs.Devices.{reading_of}
+use Rattle.pit_cli.specs.Inputs.{IsSolutionOf, IsBadSolution, IsSolutionStop}
+use Rattle.pit_cli.specs.Check.{Checks, IsChecked}
+use Rattle.pit_cli.proofs.Stops.{made, solution-stop}
+use Rattle.pit_cli.proofs.engines.check.read_check.Goals as goal
+
+pub returns-in-Ok-clause-read : goal.returns-in-Ok-clause-read
+returns-in-Ok-clause-read g c =
+    let read = reading_of (g.S.Source.remaining c.args.solution.now) (g.S.Source.remaining c.read_schedule.new.solution) (g.S.Source.has_failed c.read_schedule.new.solution) in
+    let pit = c.args.pit in
+    let schedule = c.in-Ok.schedule.items in
+    made Solution read IsSolutionOf IsChecked IsBadSolution IsSolutionStop pit (λ answer. (answer.0.items, answer.1)) schedule
+    (λ answer. Checks pit (writes_of c.deref.result.now ∷ []) answer.0.items answer.1) c.checked.result
+    (λ bytes answer stands is. record {
+      schedule = schedule;
+      stands = stands;
+      checks = subst (λ (s : List (ℕ × ℕ)). Checks pit (writes_of s ∷ []) answer.0.items answer.1) c.deref.ensures.value is;
+    })
+    (λ bytes stands. solution-stop pit bytes schedule stands) c.in-Ok.ensures.read c.checked.ensures.checks
