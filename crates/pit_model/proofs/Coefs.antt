@@ -9,7 +9,7 @@ use Rattle.std.proofs.lemmas.List.Kept.{AllPairs-cons, AllPairs-from_increasing}
 use Rattle.std.specs.Int.{w64}
 use Rattle.pit_model.specs.Pit.{AreCoefs, with_pair}
 
-abbrev IsBefore : ℕ × ℤ → ℕ × ℤ → Type 0
+abbrev pub IsBefore : ℕ × ℤ → ℕ × ℤ → Type 0
 IsBefore p q = p.0 < q.0
 
 All-with_pair : (P : ℕ × ℤ → Type 0) (pairs : List (ℕ × ℤ)) (pair : ℕ × ℤ) → P pair → All P pairs → All P (with_pair pairs pair)
@@ -55,7 +55,7 @@ AllPairs-with_pair (first ∷ more) pair absent rising =
         let above = above-from_tests pair.0 first.0 says (first-absent _ _ absent) in
         AllPairs-cons IsBefore first (with_pair more pair) (All-with_pair (IsBefore first) more pair above (head first more rising)) later
 
-AllPairs-increasing : (pairs : List (ℕ × ℤ)) → IsStrictlyIncreasing (map (λ pair. pair.0) pairs) → AllPairs IsBefore pairs
+pub AllPairs-increasing : (pairs : List (ℕ × ℤ)) → IsStrictlyIncreasing (map (λ pair. pair.0) pairs) → AllPairs IsBefore pairs
 AllPairs-increasing pairs rising i j d less within =
     let long = length-map pairs (λ (p : ℕ × ℤ). p.0) in
     let low = get_or-map (λ (p : ℕ × ℤ). p.0) pairs i d 0 (omega arith) in

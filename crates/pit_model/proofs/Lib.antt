@@ -2,9 +2,11 @@ pub mod Rows
 pub mod Preds
 pub mod Coefs
 pub mod Sound
+pub mod ByResource
 pub mod CoefficientCells
 pub mod Pairs
 pub mod Few
+pub mod KeptProfits
 pub mod PredecessorCells
 pub mod Rising
 pub mod Placings

@@ -11,6 +11,7 @@ use crate::error::BuildError;
 use crate::instance::Instance;
 use crate::places::Places;
 use crate::predecessors::Predecessors;
+use crate::profits::Profits;
 use crate::successors::Successors;
 use pit_num::{Discount, NoMemory};
 use std::alloc::Allocator;
@@ -25,7 +26,7 @@ pub struct Builder<A: Allocator + Drop> {
     periods: u32,
     resources: u32,
     rate: u32,
-    profits: Vec<Option<i64>, A>,
+    profits: Profits<A>,
     coefs: Coefficients<A>,
     preds: Predecessors<A>,
     bounds: Vec<Bounds, A>,
@@ -37,9 +38,9 @@ impl<A: Allocator + Drop> Model for Builder<A> {
 
     ghost Value = { Pit };
 
-    ghost view = { λ b. record { blocks = b.blocks; periods = b.periods; resources = b.resources; rate = b.rate; profits = b.profits.items; coefs = b.coefs; preds = b.preds; bounds = b.bounds.items; places = b.places } };
+    ghost view = { λ b. record { blocks = b.blocks; periods = b.periods; resources = b.resources; rate = b.rate; profits = b.profits; coefs = b.coefs; preds = b.preds; bounds = b.bounds.items; places = b.places } };
 
-    ghost invariant = { λ b. IsSound (record { blocks = b.blocks; periods = b.periods; resources = b.resources; rate = b.rate; profits = b.profits.items; coefs = b.coefs; preds = b.preds; bounds = b.bounds.items; places = b.places }) };
+    ghost invariant = { λ b. IsSound (record { blocks = b.blocks; periods = b.periods; resources = b.resources; rate = b.rate; profits = b.profits; coefs = b.coefs; preds = b.preds; bounds = b.bounds.items; places = b.places }) };
 }
 
 impl<A: Allocator + Copy + Drop> Builder<A> {
@@ -57,8 +58,8 @@ impl<A: Allocator + Copy + Drop> Builder<A> {
         requires rate { rate ≤ RATE_MAX }
         ensures { IfOk result (λ builder. builder ≡ empty_pit blocks periods resources rate) }
     {
-        let profits = vec![in alloc; None; blocks as usize]?;
-        let coefs = Coefficients::new(alloc, blocks)?;
+        let profits = Profits::new(alloc, blocks)?;
+        let coefs = Coefficients::new(alloc, blocks);
         let preds = Predecessors::new(alloc, blocks);
         let bounds = vec![in alloc; (None, None); (periods * resources) as usize]?;
         let places = Places::new(alloc, blocks);
@@ -113,10 +114,10 @@ impl<A: Allocator + Copy + Drop> Builder<A> {
         if b >= self.blocks {
             return Err(BuildError::BlockRange);
         }
-        if self.profits[b as usize].is_some() {
+        if self.profits.profit(b).is_some() {
             return Err(BuildError::Repeated);
         }
-        self.profits[b as usize] = Some(v);
+        self.profits.set(b, v);
         Ok(())
     }
 
@@ -204,7 +205,7 @@ impl<A: Allocator + Copy + Drop> Builder<A> {
         ensures ok { IfOk result (λ instance. instance ≡ self) }
         ensures err { IfErr result (λ refused. refused.0 ≡ self) }
     {
-        let alloc = *self.profits.allocator();
+        let alloc = *self.bounds.allocator();
         let discount = match Discount::new(alloc, self.rate, self.periods) {
             Ok(discount) => discount,
             Err(error) => return Err((self, error)),
@@ -219,7 +220,7 @@ impl<A: Allocator + Copy + Drop> Builder<A> {
             resources: self.resources,
             discount,
             profits: self.profits,
-            coefs: self.coefs,
+            coefs: self.coefs.sorted(),
             preds: self.preds,
             succs,
             bounds: self.bounds,

@@ -3,9 +3,10 @@ ghost use Rattle.pit_num.specs.Least.{IsLeast};
 ghost use Rattle.pit_model.specs.Pit.{IsSound, profit_of, factor_of, coefs_of, preds_of, succs_of, lower_of, upper_of, cell_of, place_of, IsUnmeetable, IsFirstUnmeetable, IsMeetable, AreCoefs, ArePreds};
 
 use crate::bounds::{Bounds, is_below_zero};
-use crate::coefficients::Coefficients;
 use crate::places::Places;
 use crate::predecessors::Predecessors;
+use crate::profits::Profits;
+use crate::sorted_coefficients::SortedCoefficients;
 use crate::successors::Successors;
 use pit_num::Discount;
 use std::alloc::Allocator;
@@ -18,8 +19,8 @@ pub struct Instance<A: Allocator + Drop> {
     pub(crate) periods: u32,
     pub(crate) resources: u32,
     pub(crate) discount: Discount<A>,
-    pub(crate) profits: Vec<Option<i64>, A>,
-    pub(crate) coefs: Coefficients<A>,
+    pub(crate) profits: Profits<A>,
+    pub(crate) coefs: SortedCoefficients<A>,
     pub(crate) preds: Predecessors<A>,
     pub(crate) succs: Successors<A>,
     pub(crate) bounds: Vec<Bounds, A>,
@@ -33,9 +34,9 @@ impl<A: Allocator + Drop> Model for Instance<A> {
 
     ghost Value = { Pit };
 
-    ghost view = { λ i. record { blocks = i.blocks; periods = i.periods; resources = i.resources; rate = i.discount.rate; profits = i.profits.items; coefs = i.coefs; preds = i.preds; bounds = i.bounds.items; places = i.places } };
+    ghost view = { λ i. record { blocks = i.blocks; periods = i.periods; resources = i.resources; rate = i.discount.rate; profits = i.profits; coefs = i.coefs; preds = i.preds; bounds = i.bounds.items; places = i.places } };
 
-    ghost invariant = { λ i. IsSound (record { blocks = i.blocks; periods = i.periods; resources = i.resources; rate = i.discount.rate; profits = i.profits.items; coefs = i.coefs; preds = i.preds; bounds = i.bounds.items; places = i.places })
+    ghost invariant = { λ i. IsSound (record { blocks = i.blocks; periods = i.periods; resources = i.resources; rate = i.discount.rate; profits = i.profits; coefs = i.coefs; preds = i.preds; bounds = i.bounds.items; places = i.places })
         × (i.discount.periods ≡ i.periods) × (i.succs ≡ map (succs_in i.preds) (range_with_len 0 (length i.preds))) };
 }
 
@@ -67,7 +68,7 @@ impl<A: Allocator + Copy + Drop> Instance<A> {
         requires { b < self.now.blocks }
         ensures { result ≡ profit_of self.now b }
     {
-        self.profits[b as usize].unwrap_or(0)
+        self.profits.profit(b).unwrap_or(0)
     }
 
     /// The discount factor of a period, in units of 10^-12.

@@ -11,6 +11,8 @@ mod error;
 mod instance;
 mod places;
 mod predecessors;
+mod profits;
+mod sorted_coefficients;
 mod successors;
 
 pub use bounds::bounds_are_tightest;

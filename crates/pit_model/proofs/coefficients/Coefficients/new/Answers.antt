@@ -1,9 +1,8 @@
-use Rattle.std.proofs.Common.{map, ap, ◌∙◌}
-use Rattle.pit_model.specs.CoefficientRows.{pairs_at}
-use Rattle.pit_model.proofs.CoefficientCells.{no_rows}
+use Rattle.pit_model.proofs.CoefficientCells.{no_rows, AreKept-none}
 use Rattle.pit_model.proofs.coefficients.Coefficients.new.Goals as goal
 
+pub invariant_of-result : goal.invariant_of-result
+invariant_of-result g c = AreKept-none c.args.blocks c.new.result.items c.new-2.result.items c.new-2.ensures.items
+
 pub returns : goal.returns
-returns g c =
-    let cells = c.new-cells.result.items in
-    ap (map (pairs_at cells)) (c.in_ok-rows.ensures.items_if_clones_equal (λ y e. e)) ∙ no_rows cells c.args.blocks
+returns g c = no_rows c.new.result.items c.new-2.result.items c.args.blocks c.new-2.ensures.items
