@@ -1,6 +1,8 @@
--- How the profits of the blocks are kept: each as a number, and none as the least number of 64 bits.
-use Rattle.std.specs.Prelude.{ℤ, negsuc, int_lt, Option, Some, None, if◌then◌else◌}
+-- How the profits of the blocks are kept: a number for each, and whether it was set.
+use Rattle.std.specs.Prelude.{ℤ, Bool, List, [], ◌∷◌, Option, Some, None, if◌then◌else◌}
 
--- the profit that is kept
-abbrev pub profit_in : ℤ → Option ℤ
-profit_in kept = if int_lt (negsuc 9223372036854775807) kept then Some kept else None
+-- the profits that were set
+abbrev pub profits_in : List Bool → List ℤ → List (Option ℤ)
+profits_in [] values = []
+profits_in (is_set ∷ more) [] = []
+profits_in (is_set ∷ more) (value ∷ values) = (if is_set then Some value else None) ∷ profits_in more values

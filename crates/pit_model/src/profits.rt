@@ -1,29 +1,26 @@
 //! The profits of the blocks.
 ghost use Rattle.std.specs.Prelude.{◌≡◌, ◌<◌, None, Some, length, replicate, slice_index_or, slice_set, IfOk};
-ghost use Rattle.pit_num.specs.Within.{IsWithin};
-ghost use Rattle.pit_num.specs.declared.limits.TheConstants.{MICRO_LIMIT};
-ghost use Rattle.pit_model.specs.Profits.{profit_in};
 
 use pit_num::NoMemory;
 use std::alloc::Allocator;
 use std::marker::Model;
 
-/// What is kept of a block whose profit isn't set. Each profit is greater.
-const UNSET: i64 = i64::MIN;
-
-/// The profit of each block, in a number of its own.
+/// The profit of each block, and whether it was set.
 #[derive(Drop)]
 pub(crate) struct Profits<A: Allocator + Drop> {
     values: Vec<i64, A>,
+    are_set: Vec<bool, A>,
 }
 
 impl<A: Allocator + Drop> Model for Profits<A> {
-    ghost use Rattle.std.specs.Prelude.{ℤ, List, Option, map};
-    ghost use Rattle.pit_model.specs.Profits.{profit_in};
+    ghost use Rattle.std.specs.Prelude.{◌≡◌, ℤ, List, Option, length};
+    ghost use Rattle.pit_model.specs.Profits.{profits_in};
 
     ghost Value = { List (Option ℤ) };
 
-    ghost view = { λ p. map profit_in p.values.items };
+    ghost view = { λ p. profits_in p.are_set.items p.values.items };
+
+    ghost invariant = { λ p. length p.are_set.items ≡ length p.values.items };
 }
 
 impl<A: Allocator + Copy + Drop> Profits<A> {
@@ -31,8 +28,9 @@ impl<A: Allocator + Copy + Drop> Profits<A> {
     pub(crate) fn new(alloc: A, blocks: u32) -> Result<Profits<A>, NoMemory>
         ensures { IfOk result (λ profits. profits ≡ replicate blocks None) }
     {
-        let values = vec![in alloc; UNSET; blocks as usize]?;
-        Ok(Profits { values })
+        let values = vec![in alloc; 0; blocks as usize]?;
+        let are_set = vec![in alloc; false; blocks as usize]?;
+        Ok(Profits { values, are_set })
     }
 
     /// The profit of a block, where it was set.
@@ -40,22 +38,19 @@ impl<A: Allocator + Copy + Drop> Profits<A> {
         requires { b < length self.now }
         ensures { result ≡ slice_index_or self.now b None }
     {
-        profit_in(self.values[b as usize])
+        if self.are_set[b as usize] {
+            Some(self.values[b as usize])
+        } else {
+            None
+        }
     }
 
     /// Sets the profit of a block.
     pub(crate) fn set(&mut self, b: u32, v: i64)
-        requires block { b < length self.old }
-        requires small { IsWithin MICRO_LIMIT v }
+        requires { b < length self.old }
         ensures { self.new ≡ slice_set self.old b (Some v) }
     {
         self.values[b as usize] = v;
+        self.are_set[b as usize] = true;
     }
-}
-
-/// The profit that is kept, where one is.
-fn profit_in(kept: i64) -> Option<i64>
-    ensures { result ≡ profit_in kept }
-{
-    if UNSET < kept { Some(kept) } else { None }
 }
