@@ -7,14 +7,14 @@ use Rattle.std.proofs.lemmas.Nat.{div-add-mod'}
 use Rattle.std.proofs.lemmas.Int.{ints}
 use Rattle.std.proofs.lemmas.List.{get_or-set_same, get_or-set_other}
 use Rattle.std.proofs.lemmas.Bool.{cond-true, cond-false}
-use Rattle.std.proofs.lemmas.Bool.Decides.{eqb_tells}
+use Rattle.std.proofs.lemmas.Bool.Decides.{leb_tells, eqb_tells}
 use Rattle.pit_model.specs.Pit.{Pit, coefs_of, cell_of}
 use Rattle.pit_model.proofs.CallerLemmas.{cells_apart, same_resource}
 use Rattle.pit_plan.specs.Schedule.{coef_in, coef_of}
 use Rattle.pit_plan.specs.Totals.{cell_load, at_cell, moved_by, Moves, MovesOne, Raises}
 use Rattle.pit_plan.proofs.Named.{Once, absent-before, lookup-at, laid_over-more, same-eq, other-eq}
 
-pub some-resource : (periods resources cell : ℕ) → cell < periods * resources → 0 < resources
+some-resource : (periods resources cell : ℕ) → cell < periods * resources → 0 < resources
 some-resource periods zero cell within = absurd (omega (arith, within, mul-zero periods))
 some-resource periods (suc n) cell within = omega arith
 

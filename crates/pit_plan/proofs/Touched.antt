@@ -122,10 +122,9 @@ least-after pit s writes found ordered least =
 -- the period and the resource of a cell
 place : (pit : Pit) (cell x y : ℕ) → cell < pit.periods * pit.resources → y < pit.resources → cell_of pit y x ≡ cell → (x ≡ cell / pit.resources) × (y ≡ cell % pit.resources)
 place pit cell x y within ly is =
-    let whole = div-add-mod' cell pit.resources in
-    let less = mod-lt cell (some-resource pit.periods pit.resources cell within) in
-    let same = cells_apart pit.resources y (cell % pit.resources) x (cell / pit.resources) ly less (is ∙ sym whole) in
-    (same, same_resource pit.resources (cell % pit.resources) y (cell / pit.resources) x (whole ∙ sym is) (sym same))
+    let known = place-known pit cell within in
+    let same = cells_apart pit.resources y (cell % pit.resources) x (cell / pit.resources) ly known.0 (is ∙ sym known.2) in
+    (same, same_resource pit.resources (cell % pit.resources) y (cell / pit.resources) x (known.2 ∙ sym is) (sym same))
 
 -- a cell whose load is within its limit is not over it
 pub cell-within : (pit : Pit) (limits : ℕ → Option ℤ) (cells : List (ℕ × ℤ)) (cell : ℕ) (load limit : ℤ) → lookup (nat_eq cell) cells ≡ Some load → limits cell ≡ Some limit

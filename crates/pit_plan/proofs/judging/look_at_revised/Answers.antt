@@ -24,8 +24,8 @@ loop-resource-preserved g c =
     within (omega (arith, ap (λ (w : ℕ × Option ℤ). w.0) here, cell-below pit _ _ known.0 known.1, c.requires.each)) c.loop-resource.invariant c.in_ok-look_at.ensures.stays
     (subst (λ (n : ℕ). SetsCell c.loop-resource.loads.cells.entries n (laid_over (cell_load c.loop-resource.loads.kept.now) c.loop-resource.loads.cells.entries n) c.look_at.new.loads.cells.entries) cell c.in_ok-look_at.ensures.sets)
 
-pub returns : goal.returns
-returns g c =
+pub returns-clause-looks : goal.returns-clause-looks
+returns-clause-looks g c =
     subst (λ (ps : List (ℕ × Option ℤ)). LooksAt ps c.args.loads.now.kept.now c.args.loads.now.cells.entries c.loop-resource.loads.kept.now c.loop-resource.loads.cells.entries)
     (take_all c.loop-resource.resource-index (by_cell c.args.pit.now (revisions_of c.args.revises.now)) (omega (arith, c.loop-resource-test.false, length-cells c.args.pit.now c.args.revises.now)))
     c.loop-resource.invariant
