@@ -1,7 +1,6 @@
-use Rattle.std.proofs.Common.{map, ap, ◌∙◌}
-use Rattle.pit_model.specs.Profits.{profit_in}
-use Rattle.pit_model.proofs.KeptProfits.{map-profit_in_unset}
+use Rattle.std.proofs.Common.{◌/◌, ◌+◌, rules}
+use Rattle.pit_model.proofs.KeptProfits.{profits_in-none}
 use Rattle.pit_model.proofs.profits.Profits.new.Goals as goal
 
 pub returns : goal.returns
-returns g c = ap (map profit_in) (c.in_ok-values.ensures.items_if_clones_equal (λ y e. e)) ∙ map-profit_in_unset c.args.blocks
+returns g c = profits_in-none c.in_ok-values.values.items c.in_ok-set.set.items c.args.blocks (c.args.blocks / 64 + 1) (search rules) (c.in_ok-set.ensures.items_if_clones_equal (λ y e. e))
