@@ -2,6 +2,7 @@ pub mod Pit
 pub mod Refusals
 pub mod Places
 pub mod Profits
+pub mod Bits
 pub mod CoefficientRows
 pub mod PredecessorRows
 pub mod Laid

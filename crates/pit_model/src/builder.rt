@@ -114,7 +114,7 @@ impl<A: Allocator + Copy + Drop> Builder<A> {
         if b >= self.blocks {
             return Err(BuildError::BlockRange);
         }
-        if self.profits.profit(b).is_some() {
+        if self.profits.is_set(b) {
             return Err(BuildError::Repeated);
         }
         self.profits.set(b, v);
@@ -136,7 +136,7 @@ impl<A: Allocator + Copy + Drop> Builder<A> {
         if self.coefs.is_set(b, r) {
             return Err(BuildError::Repeated);
         }
-        self.coefs.add(b, r, v)?;
+        self.coefs.add(b, r, v, self.resources)?;
         Ok(())
     }
 

@@ -4,6 +4,7 @@
 //! then the record is as it was; each reader is a function of the record.
 #![tactic(auto)]
 
+mod bits;
 mod bounds;
 mod builder;
 mod coefficients;
