@@ -1,36 +1,20 @@
 -- What a call that succeeded, and one that was refused, say of the refusal that is due.
-use Rattle.std.proofs.Common.{◌≡◌, ◌⊎◌, inl, inr, Option, Some, None, Result, Ok, Err, IsOk, IsErrOf, MatchOption, ap, sym, subst, refl, ◌∙◌}
+use Rattle.std.proofs.Common.{◌≡◌, inl, inr, Option, Some, None, Result, Ok, Err, ap, sym, subst, refl, ◌∙◌}
 use Rattle.pit_model.specs.declared.error.BuildError.{BuildError}
 use Rattle.pit_model.specs.declared.error.BuildError.TheVariants.{NoMemory}
 use Rattle.pit_num.specs.Refused.{IsRefusedBy}
 use Rattle.pit_text.specs.declared.error.Cause.{Cause}
-use Rattle.pit_text.specs.declared.error.Cause.TheVariants.{NoMemory as WantsMemory}
 use Rattle.pit_text.specs.Stands.{◌>>=◌}
 use Rattle.pit_text.specs.Causes.{cause_of, fact_unless, IsCauseOf}
-
--- a setter that takes no memory gives the refusal that is due
-pub due-strict : (o : Option BuildError) (r : Result (Unit {0}) BuildError) → MatchOption o (IsOk r) (IsErrOf r) → IsRefusedBy NoMemory r o
-due-strict None (Ok x) h = tt
-due-strict None (Err e) h = cc
-due-strict (Some d) r h = h
 
 pub due-ok : (o : Option BuildError) (r : Result (Unit {0}) BuildError) (x : Unit {0}) → r ≡ Ok x → IsRefusedBy NoMemory r o → o ≡ None
 due-ok None r x is h = refl
 due-ok (Some e) r x is h = cc
 
-pub due-err : (o : Option BuildError) (r : Result (Unit {0}) BuildError) (e : BuildError) → r ≡ Err e → IsRefusedBy NoMemory r o → (cause_of e ≡ WantsMemory) ⊎ (o ≡ Some e)
-due-err None (Ok x) e is h = cc
-due-err None (Err d) e is h = let same : e ≡ NoMemory = cc in inl (ap cause_of same)
-due-err (Some d) r e is h = let same : e ≡ d = cc in inr (ap (λ x. Some x) (sym same))
-
 -- a line of which the pit is asked
 pub line_stands : {F : Type 0} (r : Result F Cause) (fact : F) (pit given : F → Option BuildError) → r ≡ Ok fact → given fact ≡ pit fact → pit fact ≡ None
     → (r >>= (λ x. fact_unless (given x) x)) ≡ Ok fact
 line_stands r fact pit given is same none = ap (λ q. q >>= (λ x. fact_unless (given x) x)) is ∙ ap (λ o. fact_unless o fact) (same ∙ none)
-
-pub line_refused : {F : Type 0} (r : Result F Cause) (fact : F) (e : BuildError) (pit given : F → Option BuildError) → r ≡ Ok fact → given fact ≡ pit fact → pit fact ≡ Some e
-    → (r >>= (λ x. fact_unless (given x) x)) ≡ Err (cause_of e)
-line_refused r fact e pit given is same some = ap (λ q. q >>= (λ x. fact_unless (given x) x)) is ∙ ap (λ o. fact_unless o fact) (same ∙ some)
 
 -- a line that is wrong by itself
 pub line_bad : {F G : Type 0} (r : Result F Cause) (cause : Cause) (f : F → Result G Cause) → r ≡ Err cause → (r >>= f) ≡ Err cause

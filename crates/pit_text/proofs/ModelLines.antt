@@ -1,5 +1,5 @@
 -- What a line of a model is judged to be.
-use Rattle.std.proofs.Common.{◌≡◌, ◌⊎◌, inl, inr, ℕ, List, [], ◌∷◌, cond, Option, Some, None, is_some, Result, Ok, Err, MatchResult, ap, ◌∙◌, refl}
+use Rattle.std.proofs.Common.{◌≡◌, ℕ, List, [], ◌∷◌, cond, Option, Some, None, is_some, Result, Ok, Err, MatchResult, ap, ◌∙◌, refl}
 use Rattle.pit_text.specs.declared.error.Cause.{Cause}
 use Rattle.pit_text.specs.declared.error.Cause.TheVariants.{BadHeader}
 use Rattle.pit_text.specs.declared.key.Key.{Key}
@@ -40,7 +40,3 @@ new_key facts key value n none is =
 pub match_map : {T E : Type 0} (r : Result T E) {P P' : T → Type 0} {Q Q' : E → Type 0} → ((x : T) → P x → P' x) → ((e : E) → Q e → Q' e) → MatchResult r P Q → MatchResult r P' Q'
 match_map (Ok x) f g h = f x h
 match_map (Err e) f g h = g e h
-
-pub either_map : {P P' Q Q' : Type 0} → (P → P') → (Q → Q') → P ⊎ Q → P' ⊎ Q'
-either_map f g (inl p) = inl (f p)
-either_map f g (inr q) = inr (g q)

@@ -1,5 +1,5 @@
 -- Lines that stand for facts.
-use Rattle.std.proofs.Common.{◌≡◌, ◌≢◌, ℕ, zero, suc, ◌+◌, ◌<◌, nat_eq, ◌⊎◌, inl, inr, is_some, IsSome, Bool, true, false, cond, List, [], ◌∷◌, ◌++◌, length, Ok, Err, Option, Some, None, IfSome, subst, ap, sym, ◌∙◌, refl, arith, add-one, zero-add, set, replicate, slice_index_or}
+use Rattle.std.proofs.Common.{◌≡◌, ◌≢◌, ℕ, zero, suc, ◌+◌, ◌<◌, nat_eq, ◌⊎◌, inl, inr, is_some, IsSome, Bool, true, false, cond, List, [], ◌∷◌, ◌++◌, length, Ok, Err, Option, Some, None, IfSome, subst, ap, sym, ◌∙◌, refl, arith, add-one, zero-add, set, slice_index_or}
 use Rattle.std.specs.List.{filter_map, range_with_len, cons_option}
 use Rattle.std.proofs.lemmas.List.Elements.{filter_map-append}
 use Rattle.std.specs.Option.{option_to_list, option_map}
@@ -48,11 +48,6 @@ slots_none blocks slots none = record {
   count = inl none;
   each = λ b below. ap (λ (os : List (Option ℕ)). slice_index_or os b None) none;
 }
-
-pub replicate_none : (n b : ℕ) → slice_index_or {A = Option ℕ} (replicate n None) b None ≡ None
-replicate_none zero b = refl
-replicate_none (suc n) zero = refl
-replicate_none (suc n) (suc b) = replicate_none n b
 
 -- the slots of all blocks are made
 pub slots_made : (blocks : ℕ) (facts : List (Option (ℕ × ℕ))) (old new : List (Option ℕ)) → AreSlots blocks facts old → length new ≡ blocks

@@ -1,5 +1,5 @@
 -- A line of precedences that is judged without a list.
-use Rattle.std.proofs.Common.{◌≡◌, ℕ, ◌<◌, nat_le, is_some, slice_index_or, Bool, true, false, cond, ◌||◌, List, ◌∷◌, Option, Some, None, Result, Ok, Err, refl, ap, sym, ◌∙◌, arith}
+use Rattle.std.proofs.Common.{◌≡◌, ℕ, ◌<◌, nat_le, is_some, slice_index_or, Bool, true, false, cond, List, Option, Some, None, Result, Ok, Err, refl, ap, sym, ◌∙◌, arith}
 use Rattle.std.specs.List.{list_any}
 use Rattle.std.proofs.lemmas.Bool.Decides.{nat_tests}
 use Rattle.pit_model.specs.Pit.{Pit}
@@ -9,28 +9,8 @@ use Rattle.pit_text.specs.declared.error.Cause.{Cause}
 use Rattle.pit_text.specs.declared.error.Cause.TheVariants.{Build}
 use Rattle.pit_text.specs.Stands.{◌>>=◌}
 use Rattle.pit_text.specs.Causes.{fact_unless}
-use Rattle.pit_text.specs.Numbers.{whole_field}
-use Rattle.pit_text.specs.Precedence.{wholes_of, new_preds}
+use Rattle.pit_text.specs.Precedence.{new_preds}
 use Rattle.pit_text.specs.Unlisted.{with_block, has_from}
-
--- ---- whether a number is out of range
-
-or_more : (a b c : Bool) → (a || (b || c)) ≡ ((a || b) || c)
-or_more true b c = refl
-or_more false b c = refl
-
-by_rest : (least n : ℕ) (found : Bool) (r : Result (List ℕ) Cause)
-    → ((r >>= (λ more. Ok (n ∷ more))) >>= (λ more. Ok (found || list_any (λ a. nat_le least a) more))) ≡ (r >>= (λ more. Ok ((found || nat_le least n) || list_any (λ a. nat_le least a) more)))
-by_rest least n found (Ok more) = ap (λ (b : Bool). Ok b) (or_more found (nat_le least n) (list_any (λ a. nat_le least a) more))
-by_rest least n found (Err e) = refl
-
-pub has_more : (least n : ℕ) (found : Bool) (field : List ℕ) (fields : List (List ℕ)) → whole_field field ≡ Ok n
-    → (wholes_of (field ∷ fields) >>= (λ more. Ok (found || list_any (λ a. nat_le least a) more))) ≡ (wholes_of fields >>= (λ more. Ok ((found || nat_le least n) || list_any (λ a. nat_le least a) more)))
-has_more least n found field fields is =
-    ap (λ (r : Result ℕ Cause). (r >>= (λ m. wholes_of fields >>= (λ more. Ok (m ∷ more)))) >>= (λ more. Ok (found || list_any (λ a. nat_le least a) more))) is
-    ∙ by_rest least n found (wholes_of fields)
-
--- ---- the line
 
 abbrev refusal_by : Pit → ℕ → Bool → Option BuildError
 refusal_by pit block is_out =

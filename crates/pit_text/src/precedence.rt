@@ -49,7 +49,10 @@ fn read_line<A: Allocator + Copy + Drop, B: Allocator + Drop>(
 {
     match add_line(builder, listed, fields) {
         Ok(()) => Ok(()),
-        Err(cause) if cause == Cause::NoMemory => Err(cause_without_list(builder, fields)),
+        Err(cause) if cause == Cause::NoMemory => {
+            judge(builder, fields)?;
+            Err(Cause::NoMemory)
+        }
         Err(cause) => Err(cause),
     }
 }
@@ -87,16 +90,6 @@ fn block_and_rest<'a>(mut fields: Fields<'a>) -> Result<(u32, Fields<'a>), Cause
         return Err(Cause::CountWrong);
     }
     Ok((block, fields))
-}
-
-/// What is wrong with a line, or else want of memory.
-fn cause_without_list<A: Allocator + Copy + Drop>(builder: &Builder<A>, fields: Fields<'_>) -> Cause
-    ensures { IsCauseOf (preds_fact builder.now (fields_left fields.entry)) result }
-{
-    match judge(builder, fields) {
-        Ok(()) => Cause::NoMemory,
-        Err(cause) => cause,
-    }
 }
 
 /// Judges a line without a list of its predecessors.
