@@ -14,5 +14,5 @@ returns-in_err-add g c = λ facts says.
     let p = err_from_is_err_and c.from_residual-in_err-add.result c.from_residual-in_err-add.ensures.1 in
     rw (p.1, p.2)
     (line_due (section_fact_of c.args.section (c.args.first.now ∷ fields_left c.args.fields)) c.in_ok-said.said (λ e. section_fact_refusal (pit_of facts) e) in_section c.add.result c.in_err-add.field-0.0
-    (sym c.section_fact_of.ensures.value ∙ c.in_ok-said.was) c.in_err-add.was
+    (sym c.section_fact_of.ensures ∙ c.in_ok-said.was) c.in_err-add.was
     (subst (λ (pit : Pit). IsRefusedBy NoMemory c.add.result (section_fact_refusal pit c.in_ok-said.said)) says c.add.ensures.cause))

@@ -6,7 +6,7 @@ use Rattle.pit_model.proofs.builder.Builder.set_coef.Goals as goal
 
 pub add-requires-clause-few : goal.add-requires-clause-few
 add-requires-clause-few g c =
-    fewer_pairs c.self.inside.resources (slice_index_or c.self.inside.coefs c.args.b []) c.args.r c.args.v (c.self.invariant.coefs c.args.b) (omega arith) c.requires (search rules)
+    fewer_pairs c.self.inside.resources (slice_index_or c.self.inside.coefs c.args.b []) c.args.r c.args.v (c.self.invariant.coefs c.args.b) (omega arith) (omega arith) (search rules)
 
 pub invariant_of-self-2 : goal.invariant_of-self-2
 invariant_of-self-2 g c =
