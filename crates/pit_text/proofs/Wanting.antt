@@ -88,10 +88,6 @@ own_unless (Some Repeated) x other is = cc
 own_unless (Some Interval) x other is = cc
 own_unless (Some NoMemory) x other is = other refl
 
-refused_if : (b : Bool) (o p : Option BuildError) → o ≢ Some NoMemory → p ≢ Some NoMemory → cond b o p ≢ Some NoMemory
-refused_if true o p one other = one
-refused_if false o p one other = other
-
 two_refusals : (a b : Bool) (d e : BuildError) → d ≢ NoMemory → e ≢ NoMemory → cond a (Some d) (cond b (Some e) None) ≢ Some NoMemory
 two_refusals true b d e one other is = one cc
 two_refusals false true d e one other is = other cc
