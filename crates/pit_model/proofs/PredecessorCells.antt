@@ -2,7 +2,7 @@
 use Rattle.std.proofs.Common.{◌≡◌, ℕ, zero, suc, ◌-◌, ◌≤◌, List, [], ◌∷◌, ◌++◌, map, length, get_or, take, drop, set, replicate, Option, Some, None, is_some, unwrap_or, IfSome, refl, sym, ap, ◌∙◌, arith, ap₂, append-nil, length-append, length-drop, take_all}
 use Rattle.std.specs.Prelude.{slice_range, Result, Ok, Err, OnErr}
 use Rattle.std.specs.List.{All}
-use Rattle.std.proofs.lemmas.List.{drop_all, length-map, length-set, length-replicate, map-append, map-set, take-append-le, drop-append-le}
+use Rattle.std.proofs.lemmas.List.{drop_all, nil_from_length, length-take, length-map, length-set, length-replicate, map-append, map-set, take-append-le, drop-append-le}
 use Rattle.pit_model.specs.Pit.{preds_in}
 use Rattle.pit_model.specs.PredecessorRows.{cells_of, rows_by_block, rows_of, IsWithinCells, ArePredecessorRows}
 use Rattle.pit_model.specs.declared.predecessors.Row.{Row}
@@ -93,6 +93,13 @@ is_set-view blocks cells rows b value shown = sym (ap (λ v. is_some (get_or v b
 
 pub preds_in-view : (blocks : ℕ) (cells : List ℕ) (rows : List (Option Row)) (b : ℕ) (value : List (Option (List ℕ))) → rows_of blocks cells rows ≡ value → preds_in value b ≡ unwrap_or (cells_of cells (get_or rows b None)) []
 preds_in-view blocks cells rows b value shown = ap (λ v. preds_in v b) (sym shown) ∙ ap (λ o. unwrap_or o []) (get_or-rows_of blocks cells rows b)
+
+pub preds_in-none : (blocks : ℕ) (cells : List ℕ) (rows : List (Option Row)) (b : ℕ) (value : List (Option (List ℕ))) → rows_of blocks cells rows ≡ value → length cells ≡ 0 → preds_in value b ≡ []
+preds_in-none blocks cells rows b value shown none = preds_in-view blocks cells rows b value shown ∙ by (get_or rows b None)
+  where
+    by : (row : Option Row) → unwrap_or (cells_of cells row) [] ≡ []
+    by None = refl
+    by (Some row) = nil_from_length (slice_range cells row.start row.end) (omega (arith, length-take (row.end - row.start) (drop row.start cells), length-drop row.start cells))
 
 pub OnErr-always : {T E : Type 0} {P : Type 0} (result : Result T E) → P → OnErr result P
 OnErr-always (Ok value) p = tt

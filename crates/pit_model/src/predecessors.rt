@@ -1,4 +1,4 @@
-ghost use Rattle.std.specs.Prelude.{◌≡◌, ◌==◌, not, ℕ, ◌<◌, None, IfOk, IsTrue, is_some, length, replicate, slice_index_or, slice_set, OnOk, OnErr};
+ghost use Rattle.std.specs.Prelude.{◌≡◌, ◌==◌, not, ℕ, ◌<◌, [], None, IfOk, IsTrue, is_some, length, replicate, slice_index_or, slice_set, OnOk, OnErr};
 ghost use Rattle.std.specs.List.{All, filter, list_any};
 ghost use Rattle.std.specs.List.Sorted.{IsStrictlyIncreasing};
 ghost use Rattle.pit_model.specs.Pit.{preds_from, preds_in, with_preds_in};
@@ -52,6 +52,13 @@ impl<A: Allocator + Copy + Drop> Predecessors<A> {
         ensures { result ≡ length self.now }
     {
         self.blocks
+    }
+
+    /// Whether no block has any.
+    pub(crate) fn has_none(&self) -> bool
+        ensures { IsTrue result → (b : ℕ) → preds_in self.now b ≡ [] }
+    {
+        self.cells.is_empty()
     }
 
     /// Whether the predecessors of a block were set.
