@@ -14,4 +14,11 @@ impl Count {
     {
         self.number != 0 && self.number <= self.asked
     }
+
+    /// Whether the request was refused since an earlier count.
+    pub fn has_refused_since(&self, before: Count) -> bool
+        ensures { result ≡ (not (self.now.number == 0) && nat_le self.now.number self.now.asked && not (not (before.number == 0) && nat_le before.number before.asked)) }
+    {
+        self.has_refused() && !before.has_refused()
+    }
 }

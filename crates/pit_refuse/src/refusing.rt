@@ -1,8 +1,9 @@
-ghost use Rattle.std.specs.Prelude.{◌≡◌};
+ghost use Rattle.std.specs.Prelude.{◌≡◌, IfOk};
 
 use crate::count::Count;
 use crate::requests::Requests;
-use std::alloc::{AllocError, Allocator};
+use linked_list_allocator::LocalHeap;
+use std::alloc::{AllocError, Allocator, Global};
 
 /// An allocator that refuses the request of one number, and asks `inner` for every other.
 ///
@@ -28,6 +29,25 @@ impl<B: Allocator> Refusing<B> {
         ensures { result.number ≡ self.now.requests.number }
     {
         self.requests.count()
+    }
+}
+
+impl Refusing<LocalHeap> {
+    /// Over a heap of its own, of so many bytes.
+    pub fn over_heap(
+        alloc: Global,
+        bytes: usize,
+        number: u64,
+    ) -> Result<Refusing<LocalHeap>, AllocError>
+        ensures { IfOk result (λ heap. heap.requests.number ≡ number) }
+    {
+        let heap = LocalHeap::new(alloc, bytes)?;
+        Ok(Refusing::new(heap, number))
+    }
+
+    /// How many bytes of that heap are given away and not freed.
+    pub fn used(&self) -> usize {
+        self.inner.used()
     }
 }
 

@@ -1,6 +1,8 @@
 //! What callers see of a refusal.
 use crate::Refusing;
+use linked_list_allocator::LocalHeap;
 use std::alloc::{AllocError, Allocator};
+use std::process::Abort;
 use std::test::Fail;
 
 /// Pushes the numbers below 9 onto a list that begins with room for one.
@@ -64,4 +66,26 @@ fn refuses_none_at_the_number_0(rt: HostRuntime) -> Result<(), Fail> {
     assert_eq!(rt; list.len(), 9);
     assert!(rt; !heap.count().has_refused());
     Ok(())
+}
+
+#[test]
+fn tells_what_is_not_freed(rt: HostRuntime) {
+    for number in 0..4 {
+        let heap = Refusing::over_heap(rt.alloc(), 10_000, number).expect(&rt, "a heap");
+        assert_freed(&rt, &heap);
+    }
+}
+
+/// What a list has is held while it is, and what is taken before a refusal is not held behind it.
+fn assert_freed(rt: &impl Abort, heap: &Refusing<LocalHeap>) {
+    let before = heap.count();
+    if let Ok(list) = pushes(heap) {
+        assert!(rt; heap.used() >= 72 && list.len() == 9);
+    }
+    assert_eq!(rt; heap.used(), 0);
+    assert_eq!(rt;
+        heap.count().has_refused_since(before),
+        heap.count().has_refused()
+    );
+    assert!(rt; !heap.count().has_refused_since(heap.count()));
 }
