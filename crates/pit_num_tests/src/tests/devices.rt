@@ -7,13 +7,13 @@ fn in_reads_a_slice(rt: HostRuntime) {
     let text: &[u8] = b"abcde";
     let mut input = In::new(text);
     let mut buffer = [0u8; 3];
-    assert_eq!(rt; input.take(&mut []), Ok(0));
-    assert_eq!(rt; input.take(&mut buffer), Ok(3));
-    assert_eq!(rt; buffer.as_slice(), b"abc".as_slice());
-    assert_eq!(rt; input.take(&mut buffer), Ok(2));
-    assert_eq!(rt; &buffer[..2], b"de".as_slice());
-    assert_eq!(rt; input.take(&mut buffer), Ok(0));
-    assert_eq!(rt; input.into_inner().len(), 0);
+    assert!(rt; input.take(&mut []) == Ok(0));
+    assert!(rt; input.take(&mut buffer) == Ok(3));
+    assert!(rt; buffer.as_slice() == b"abc".as_slice());
+    assert!(rt; input.take(&mut buffer) == Ok(2));
+    assert!(rt; &buffer[..2] == b"de".as_slice());
+    assert!(rt; input.take(&mut buffer) == Ok(0));
+    assert!(rt; input.into_inner().len() == 0);
 }
 
 /// Gives a byte, fails once, and would then give bytes again.
@@ -40,20 +40,20 @@ impl Read for Torn {
 fn in_fails_for_good(rt: HostRuntime) {
     let mut input = In::new(Torn { calls: 0 });
     let mut buffer = [0u8; 3];
-    assert_eq!(rt; input.take(&mut buffer), Ok(1));
-    assert_eq!(rt; input.take(&mut buffer), Err(Failed));
-    assert_eq!(rt; input.take(&mut buffer), Err(Failed));
-    assert_eq!(rt; input.take(&mut []), Err(Failed));
-    assert_eq!(rt; input.into_inner().calls, 2);
+    assert!(rt; input.take(&mut buffer) == Ok(1));
+    assert!(rt; input.take(&mut buffer) == Err(Failed));
+    assert!(rt; input.take(&mut buffer) == Err(Failed));
+    assert!(rt; input.take(&mut []) == Err(Failed));
+    assert!(rt; input.into_inner().calls == 2);
 }
 
 #[test]
 fn out_writes_to_a_vector(rt: HostRuntime) {
     let mut out = Out::new(Vec::new(rt.alloc()));
-    assert_eq!(rt; out.give(b"one "), Ok(4));
-    assert_eq!(rt; out.give(b""), Ok(0));
-    assert_eq!(rt; out.give(b"two"), Ok(3));
-    assert_eq!(rt; out.into_inner().as_slice(), b"one two".as_slice());
+    assert!(rt; out.give(b"one ") == Ok(4));
+    assert!(rt; out.give(b"") == Ok(0));
+    assert!(rt; out.give(b"two") == Ok(3));
+    assert!(rt; out.into_inner().as_slice() == b"one two".as_slice());
 }
 
 /// Takes nothing, or answers an error, and counts the calls.
@@ -82,10 +82,10 @@ impl Write for Closed {
 fn out_fails_for_good(rt: HostRuntime) {
     for is_error in [false, true] {
         let mut out = Out::new(Closed { is_error, calls: 0 });
-        assert_eq!(rt; write_text(&mut out, b""), Ok(()));
-        assert_eq!(rt; write_text(&mut out, b"x"), Err(WriteFault));
-        assert_eq!(rt; out.give(b"y"), Err(Failed));
-        assert_eq!(rt; out.give(b""), Err(Failed));
-        assert_eq!(rt; out.into_inner().calls, 1);
+        assert!(rt; write_text(&mut out, b"") == Ok(()));
+        assert!(rt; write_text(&mut out, b"x") == Err(WriteFault));
+        assert!(rt; out.give(b"y") == Err(Failed));
+        assert!(rt; out.give(b"") == Err(Failed));
+        assert!(rt; out.into_inner().calls == 1);
     }
 }
