@@ -53,14 +53,17 @@ const BLOCKS: &[Block] = &[
     },
 ];
 
-fn assert_block<A: Allocator + Copy + Drop>(rt: &impl Abort, pit: &Instance<A>, wanted: Block) {
+/// Whether the block is as it has to be.
+fn is_block<A: Allocator + Copy + Drop>(pit: &Instance<A>, wanted: &Block) -> bool {
     let b = wanted.number;
-    assert!(rt; b < pit.blocks());
-    assert_eq!(rt; pit.profit(b), wanted.profit, "of {b}");
-    assert_eq!(rt; pit.coefs(b), wanted.coefs, "of {b}");
-    assert_eq!(rt; pit.preds(b), wanted.preds, "of {b}");
-    assert_eq!(rt; pit.succs(b), wanted.succs, "of {b}");
-    assert_eq!(rt; pit.place(b), Some(wanted.place), "of {b}");
+    if b >= pit.blocks() {
+        return false;
+    }
+    pit.profit(b) == wanted.profit
+        && pit.coefs(b) == wanted.coefs
+        && pit.preds(b) == wanted.preds
+        && pit.succs(b) == wanted.succs
+        && pit.place(b) == Some(wanted.place)
 }
 
 /// The lower and the upper bound of a resource in a period.
@@ -75,17 +78,15 @@ fn bounds<A: Allocator + Copy + Drop>(
     (pit.lower(r, t), pit.upper(r, t))
 }
 
-/// The factor of period 1 is 10^12 / 1.1, which is 909090909090.9.., rounded.
+/// It is the small pit. The factor of period 1 is 10^12 / 1.1, which is 909090909090.9.., rounded.
 fn assert_tiny<A: Allocator + Copy + Drop>(rt: &impl Abort, pit: &Instance<A>) {
     for block in BLOCKS {
-        assert_block(rt, pit, *block);
+        assert!(rt; is_block(pit, block), "block {}", block.number);
     }
-    assert!(rt; pit.blocks() == 4);
+    assert!(rt; (pit.blocks(), pit.resources()) == (4, 1));
     assert!(rt; pit.periods() == 2);
-    assert!(rt; pit.resources() == 1);
-    assert_eq!(rt; pit.factor(0), 1_000_000_000_000);
-    assert_eq!(rt; pit.factor(1), 909_090_909_091);
-    assert_eq!(rt; bounds(rt, pit, 0, 0), (None, Some(4_000_000)));
-    assert_eq!(rt; bounds(rt, pit, 0, 1), (Some(1_000_000), Some(4_000_000)));
-    assert_eq!(rt; pit.unmeetable(), None);
+    assert!(rt; (pit.factor(0), pit.factor(1)) == (1_000_000_000_000, 909_090_909_091));
+    assert!(rt; bounds(rt, pit, 0, 0) == (None, Some(4_000_000)));
+    assert!(rt; bounds(rt, pit, 0, 1) == (Some(1_000_000), Some(4_000_000)));
+    assert!(rt; pit.unmeetable().is_none());
 }

@@ -1,15 +1,29 @@
 //! Each allocation refused in turn.
 use super::assert_tiny;
+use Fact::{Coef, Limit, Place, Preds, Profit};
+use linked_list_allocator::LocalHeap;
 use pit_model::{BuildError, Builder, Instance};
 use pit_num::NoMemory;
 use pit_refuse::Refusing;
-use pit_sample::{Fact, TINY, TINY_PLACES, TINY_SIZE, tell};
-use std::alloc::Global;
+use pit_sample::{Fact, Size, TINY, TINY_PLACES, TINY_SIZE, tell};
+use std::alloc::{Allocator, Global};
 use std::process::Abort;
-use std::test::Fail;
 
 /// An allocator that refuses one request.
-type Heap<'a> = &'a Refusing<Global>;
+type Heap<'a> = &'a Refusing<LocalHeap>;
+
+/// The bytes of a heap, of which no pit takes half.
+const BYTES: usize = 1_048_576;
+
+/// The builder, which is made anew where memory was refused.
+fn begun<'a>(rt: &impl Abort, heap: Heap<'a>, size: Size) -> Builder<Heap<'a>> {
+    let before = heap.count();
+    if let Ok(builder) = size.builder(heap) {
+        return builder;
+    }
+    assert!(rt; heap.count().has_refused_since(before));
+    size.builder(heap).expect(rt, "no memory twice")
+}
 
 /// Tells a fact, and tells it again where memory was refused.
 fn tell_twice<'a>(
@@ -18,89 +32,210 @@ fn tell_twice<'a>(
     builder: &mut Builder<Heap<'a>>,
     fact: Fact,
 ) -> Result<(), BuildError> {
-    match tell(builder, fact) {
-        Err(BuildError::NoMemory) => {
-            assert!(rt; heap.count().has_refused());
-            tell(builder, fact)
-        }
-        answer => answer,
+    let before = heap.count();
+    let answer = tell(builder, fact);
+    if answer != Err(BuildError::NoMemory) {
+        return answer;
     }
+    assert!(rt; heap.count().has_refused_since(before));
+    tell(builder, fact)
 }
 
-fn tell_all<'a>(
-    rt: &impl Abort,
-    heap: Heap<'a>,
-    builder: &mut Builder<Heap<'a>>,
-    facts: &[Fact],
-) -> Result<(), BuildError> {
+fn tell_all<'a>(rt: &impl Abort, heap: Heap<'a>, builder: &mut Builder<Heap<'a>>, facts: &[Fact]) {
     for fact in facts {
-        tell_twice(rt, heap, builder, *fact)?;
+        assert_eq!(rt; tell_twice(rt, heap, builder, *fact), Ok(()));
     }
-    Ok(())
 }
 
-fn tell_tiny<'a>(
-    rt: &impl Abort,
-    heap: Heap<'a>,
-    builder: &mut Builder<Heap<'a>>,
-) -> Result<(), BuildError> {
-    tell_all(rt, heap, builder, TINY)?;
-    tell_all(rt, heap, builder, TINY_PLACES)
+/// Facts that take no memory, and facts that are refused, with their answers.
+const QUIET: &[(Fact, Result<(), BuildError>)] = &[
+    (Profit(0, 1), Ok(())),
+    (Limit(0, 0, None, Some(4_000_000)), Ok(())),
+    (Profit(0, 1), Err(BuildError::Repeated)),
+    (Profit(4, 1), Err(BuildError::BlockRange)),
+    (Coef(4, 0, 1), Err(BuildError::BlockRange)),
+    (Coef(0, 1, 1), Err(BuildError::ResourceRange)),
+    (Preds(0, &[2, 4]), Err(BuildError::BlockRange)),
+    (Limit(0, 2, None, None), Err(BuildError::PeriodRange)),
+    (Place(4, (0, 0, 0)), Err(BuildError::BlockRange)),
+];
+
+fn assert_quiet<'a>(rt: &impl Abort, heap: Heap<'a>, builder: &mut Builder<Heap<'a>>) {
+    let before = heap.count();
+    for (fact, wanted) in QUIET {
+        assert_eq!(rt; tell(builder, *fact), *wanted);
+    }
+    assert!(rt; heap.count() == before);
+}
+
+/// They ask for none.
+#[test]
+fn is_not_asked_for_in_vain(rt: HostRuntime) {
+    let heap = Refusing::over_heap(rt.alloc(), BYTES, 0).expect(&rt, "a heap");
+    let mut builder = TINY_SIZE.builder(&heap).expect(&rt, "a builder");
+    assert_quiet(&rt, &heap, &mut builder);
 }
 
 /// Builds, and builds again where memory was refused.
-fn build<'a>(
+fn built_twice<'a>(
     rt: &impl Abort,
     heap: Heap<'a>,
     builder: Builder<Heap<'a>>,
-) -> Result<Instance<Heap<'a>>, Fail> {
+) -> Instance<Heap<'a>> {
+    let before = heap.count();
     match builder.build() {
-        Ok(pit) => Ok(pit),
+        Ok(pit) => pit,
         Err((builder, NoMemory)) => {
-            assert!(rt; heap.count().has_refused());
-            build_again(builder)
+            assert!(rt; heap.count().has_refused_since(before));
+            builder.build().ok().expect(rt, "no memory twice")
         }
     }
 }
 
-fn build_again<'a>(builder: Builder<Heap<'a>>) -> Result<Instance<Heap<'a>>, Fail> {
-    match builder.build() {
-        Ok(pit) => Ok(pit),
-        Err(_) => Err(Fail::from("no memory twice")),
-    }
+/// What is read of a pit takes no memory.
+fn assert_small<'a>(rt: &impl Abort, heap: Heap<'a>, pit: &Instance<Heap<'a>>) {
+    let before = heap.count();
+    assert_tiny(rt, pit);
+    assert!(rt; heap.count() == before);
 }
 
-/// The small pit, told fact by fact; none where there is no builder to begin with.
-fn tiny<'a>(rt: &impl Abort, heap: Heap<'a>) -> Result<Option<Instance<Heap<'a>>>, Fail> {
-    let Ok(mut builder) = TINY_SIZE.builder(heap) else {
-        assert!(rt; heap.count().has_refused());
-        return Ok(None);
-    };
-    tell_tiny(rt, heap, &mut builder)?;
-    Ok(Some(build(rt, heap, builder)?))
+/// The small pit, told fact by fact.
+fn small(rt: &impl Abort, heap: Heap<'_>) {
+    let mut builder = begun(rt, heap, TINY_SIZE);
+    tell_all(rt, heap, &mut builder, TINY);
+    tell_all(rt, heap, &mut builder, TINY_PLACES);
+    assert_small(rt, heap, &built_twice(rt, heap, builder));
 }
 
-/// Whether the small pit was told before the refused request. It is as it has to be also where that came in between.
-fn is_told(rt: &impl Abort, heap: Heap<'_>) -> Result<bool, Fail> {
-    let Some(pit) = tiny(rt, heap)? else {
-        return Ok(false);
-    };
-    assert_tiny(rt, &pit);
-    Ok(!heap.count().has_refused())
+/// Whether no request had the number. All memory is given back in the end.
+fn is_small_whole(rt: &impl Abort, alloc: Global, number: u64) -> bool {
+    let heap = Refusing::over_heap(alloc, BYTES, number).expect(rt, "a heap");
+    small(rt, &heap);
+    is_whole(rt, &heap)
+}
+
+fn is_whole(rt: &impl Abort, heap: Heap<'_>) -> bool {
+    assert_eq!(rt; heap.used(), 0);
+    !heap.count().has_refused()
 }
 
 /// Each request is refused in turn, those of `new`, of the setters and of `build`. A call that is made again finds all as it was.
 #[test]
-fn is_unchanged_where_memory_is_refused(rt: HostRuntime) -> Result<(), Fail> {
+fn is_unchanged_where_memory_is_refused(rt: HostRuntime) {
     for number in 1..100 {
-        let heap = Refusing::new(rt.alloc(), number);
-        if is_told(&rt, &heap)? {
+        if is_small_whole(&rt, rt.alloc(), number) {
             assert!(rt;
                 number > 6,
                 "a request at least of each call that takes memory"
             );
-            return Ok(());
+            return;
         }
     }
-    Err(Fail::from("never whole"))
+    panic!(rt; "never whole");
+}
+
+const LARGE: Size = Size {
+    blocks: 300,
+    periods: 2,
+    resources: 8,
+};
+
+/// The first hundred blocks, but the last of them first.
+fn listed(rt: &impl Abort, alloc: Global) -> Vec<u32> {
+    let mut listed = Vec::new(alloc);
+    for k in 0..100u32 {
+        assert!(rt; listed.push(99u32.saturating_sub(k)).is_ok());
+    }
+    listed
+}
+
+/// The coefficients of each resource, of 100 blocks one behind the other: the list of each block grows after those of others.
+fn tell_coefs<'a>(rt: &impl Abort, heap: Heap<'a>, builder: &mut Builder<Heap<'a>>) {
+    for r in 0..LARGE.resources {
+        for b in 0..100u32 {
+            assert_eq!(rt; tell_twice(rt, heap, builder, Coef(b, r, 1)), Ok(()));
+        }
+    }
+}
+
+/// Sets predecessors, and sets them again where memory was refused.
+fn set_twice<'a>(
+    rt: &impl Abort,
+    heap: Heap<'a>,
+    builder: &mut Builder<Heap<'a>>,
+    b: u32,
+    listed: &[u32],
+) {
+    let before = heap.count();
+    let answer = builder.set_preds(b, listed);
+    if answer.is_ok() {
+        return;
+    }
+    assert!(rt; heap.count().has_refused_since(before));
+    assert_eq!(rt; answer, Err(BuildError::NoMemory));
+    assert_eq!(rt; builder.set_preds(b, listed), Ok(()));
+}
+
+const COEFS: &[(u32, i64)] = &[
+    (0, 1),
+    (1, 1),
+    (2, 1),
+    (3, 1),
+    (4, 1),
+    (5, 1),
+    (6, 1),
+    (7, 1),
+];
+
+/// Whether the blocks have these, rising.
+fn is_rising(blocks: &[u32], first: u32, count: usize) -> bool {
+    let mut next = first;
+    for b in blocks {
+        if *b != next {
+            return false;
+        }
+        next = next.wrapping_add(1);
+    }
+    blocks.len() == count
+}
+
+/// Whether each of the first hundred blocks has its coefficients and its successors.
+fn is_large<A: Allocator + Copy + Drop>(pit: &Instance<A>) -> bool {
+    if pit.blocks() != 300 {
+        return false;
+    }
+    for b in 0..100u32 {
+        if pit.coefs(b) != COEFS || !is_rising(pit.succs(b), 200, 20) {
+            return false;
+        }
+    }
+    is_rising(pit.preds(200), 0, 100) && is_rising(pit.preds(219), 0, 100)
+}
+
+fn large(rt: &impl Abort, heap: Heap<'_>, listed: &[u32]) {
+    let mut builder = begun(rt, heap, LARGE);
+    tell_coefs(rt, heap, &mut builder);
+    for b in 200..220u32 {
+        set_twice(rt, heap, &mut builder, b, listed);
+    }
+    assert!(rt; is_large(&built_twice(rt, heap, builder)));
+}
+
+fn is_large_whole(rt: &impl Abort, alloc: Global, number: u64, listed: &[u32]) -> bool {
+    let heap = Refusing::over_heap(alloc, BYTES, number).expect(rt, "a heap");
+    large(rt, &heap, listed);
+    is_whole(rt, &heap)
+}
+
+/// The same of lists of coefficients that grow in turn, and of a hundred predecessors, which are sorted.
+#[test]
+fn is_unchanged_where_memory_for_many_is_refused(rt: HostRuntime) {
+    let listed = listed(&rt, rt.alloc());
+    for number in 1..200 {
+        if is_large_whole(&rt, rt.alloc(), number, &listed) {
+            assert!(rt; number > 20, "a request of each growth at least");
+            return;
+        }
+    }
+    panic!(rt; "never whole");
 }

@@ -5,7 +5,6 @@ use pit_model::{BuildError, Builder, Instance};
 use pit_sample::{Fact, TINY, TINY_PLACES, TINY_SIZE, built, tell};
 use std::alloc::Global;
 use std::process::Abort;
-use std::test::Fail;
 
 const REFUSED: &[(Fact, BuildError)] = &[
     (Profit(4, 1), BuildError::BlockRange),
@@ -21,29 +20,22 @@ const REFUSED: &[(Fact, BuildError)] = &[
 
 /// A refusal leaves the pit as it was.
 #[test]
-fn refuses(rt: HostRuntime) -> Result<(), Fail> {
-    let mut builder = TINY_SIZE.builder(rt.alloc())?;
-    assert_refused(&rt, &mut builder)?;
-    match builder.build() {
-        Ok(pit) => assert_tiny(&rt, &pit),
-        Err(_) => return Err(Fail::from("no memory")),
-    }
-    Ok(())
+fn refuses(rt: HostRuntime) {
+    let mut builder = TINY_SIZE.builder(rt.alloc()).expect(&rt, "memory");
+    assert_refused(&rt, &mut builder);
+    let pit = builder.build().ok().expect(&rt, "memory");
+    assert_tiny(&rt, &pit);
 }
 
-fn assert_refused(rt: &impl Abort, builder: &mut Builder<Global>) -> Result<(), BuildError> {
-    for fact in TINY {
-        tell(builder, *fact)?;
-    }
-    for fact in TINY_PLACES {
-        tell(builder, *fact)?;
+fn assert_refused(rt: &impl Abort, builder: &mut Builder<Global>) {
+    for fact in TINY.iter().chain(TINY_PLACES) {
+        assert!(rt; tell(builder, *fact).is_ok());
     }
     for (fact, error) in REFUSED {
         assert_eq!(rt; tell(builder, *fact), Err(*error));
     }
-    let numbers = [builder.blocks(), builder.periods(), builder.resources()];
-    assert_eq!(rt; numbers, [4, 2, 1]);
-    Ok(())
+    let numbers = (builder.blocks(), builder.periods(), builder.resources());
+    assert!(rt; numbers == (4, 2, 1));
 }
 
 /// Facts that are narrowed, sorted or thrown away: of several bounds the tightest, and of predecessors each once without the block.
@@ -55,31 +47,32 @@ const NARROWED: &[Fact] = &[
 ];
 
 #[test]
-fn keeps_the_tightest(rt: HostRuntime) -> Result<(), Fail> {
-    let pit = built(rt.alloc(), TINY_SIZE, NARROWED)?;
+fn keeps_the_tightest(rt: HostRuntime) {
+    let pit = built(rt.alloc(), TINY_SIZE, NARROWED).expect(&rt, "a pit");
     assert_narrowed(&rt, &pit);
-    Ok(())
 }
 
 fn assert_narrowed(rt: &impl Abort, pit: &Instance<Global>) {
     assert!(rt; pit.blocks() == 4);
-    assert_eq!(rt; pit.preds(3), [0, 2].as_slice());
-    assert_eq!(rt; pit.place(3), None);
-    assert_eq!(rt; bounds(rt, pit, 0, 1), (Some(3), Some(-2)));
-    assert_eq!(rt; pit.unmeetable(), Some((0, 1)));
+    assert!(rt; pit.preds(3) == [0, 2].as_slice());
+    assert!(rt; pit.place(3).is_none());
+    assert!(rt; bounds(rt, pit, 0, 1) == (Some(3), Some(-2)));
+    assert!(rt; pit.unmeetable() == Some((0, 1)));
 }
 
+const WORDS: &[(BuildError, &str)] = &[
+    (BuildError::BlockRange, "block out of range"),
+    (BuildError::ResourceRange, "resource out of range"),
+    (BuildError::PeriodRange, "period out of range"),
+    (BuildError::Repeated, "repeated"),
+    (BuildError::Interval, "empty interval"),
+    (BuildError::NoMemory, "no memory"),
+];
+
 #[test]
-fn prints_refusals(rt: HostRuntime) -> Result<(), Fail> {
-    for (error, text) in [
-        (BuildError::BlockRange, "block out of range"),
-        (BuildError::ResourceRange, "resource out of range"),
-        (BuildError::PeriodRange, "period out of range"),
-        (BuildError::Repeated, "repeated"),
-        (BuildError::Interval, "empty interval"),
-        (BuildError::NoMemory, "no memory"),
-    ] {
-        assert_eq!(rt; format!(in rt.alloc(); "{error}")?.as_str(), text);
+fn prints_refusals(rt: HostRuntime) {
+    for (error, words) in WORDS {
+        let shown = format!(in rt.alloc(); "{error}").expect(&rt, "memory");
+        assert!(rt; shown.as_str() == *words, "{shown} for {words}");
     }
-    Ok(())
 }
