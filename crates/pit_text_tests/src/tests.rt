@@ -1,5 +1,4 @@
 //! The readers against texts whose facts and faults were written down by hand.
-mod cuts;
 mod memory;
 mod models;
 mod others;
@@ -10,9 +9,8 @@ use pit_model::{BuildError, Builder, Instance};
 use pit_num::NumError;
 use pit_sample::TINY_SIZE;
 use pit_text::{Cause, TextError};
-use std::alloc::{AllocError, Allocator, Global};
+use std::alloc::Global;
 use std::process::Abort;
-use std::test::Fail;
 
 const MALFORMED: Cause = Cause::BadNumber(NumError::Malformed);
 
@@ -27,16 +25,13 @@ const PERIOD_RANGE: Cause = Cause::Build(BuildError::PeriodRange);
 const REPEATED: Cause = Cause::Build(BuildError::Repeated);
 
 /// The small pit, with nothing set.
-fn tiny(alloc: Global) -> Result<Builder<Global>, BuildError> {
-    TINY_SIZE.builder(alloc)
+fn tiny(rt: &impl Abort, alloc: Global) -> Builder<Global> {
+    TINY_SIZE.builder(alloc).expect(rt, "memory")
 }
 
 /// The pit that is built.
-fn built<A: Allocator + Copy + Drop>(builder: Builder<A>) -> Result<Instance<A>, Fail> {
-    match builder.build() {
-        Ok(pit) => Ok(pit),
-        Err(_) => Err(Fail::from("no memory to build")),
-    }
+fn built(rt: &impl Abort, builder: Builder<Global>) -> Instance<Global> {
+    builder.build().ok().expect(rt, "memory to build")
 }
 
 fn fault(line: u64, cause: Cause) -> TextError {
@@ -44,18 +39,18 @@ fn fault(line: u64, cause: Cause) -> TextError {
 }
 
 /// These parts, one behind the other.
-fn joined(alloc: Global, parts: &[&[u8]]) -> Result<Vec<u8>, AllocError> {
+fn joined(rt: &impl Abort, alloc: Global, parts: &[&[u8]]) -> Vec<u8> {
     let mut text = Vec::new(alloc);
     for part in parts {
-        text.extend_from_slice(part)?;
+        assert!(rt; text.extend_from_slice(part).is_ok());
     }
-    Ok(text)
+    text
 }
 
 /// The lower and the upper bound of a resource in a period.
-fn bounds_of<A: Allocator + Copy + Drop>(
+fn bounds_of(
     rt: &impl Abort,
-    pit: &Instance<A>,
+    pit: &Instance<Global>,
     r: u32,
     t: u32,
 ) -> (Option<i64>, Option<i64>) {
@@ -64,37 +59,30 @@ fn bounds_of<A: Allocator + Copy + Drop>(
     (pit.lower(r, t), pit.upper(r, t))
 }
 
+/// Each block of the small pit, its profit, and its coefficient of resource 0.
+const BLOCKS: &[(u32, i64, i64)] = &[
+    (0, -10_000_000, 2_000_000),
+    (1, 20_500_000, 2_000_000),
+    (2, 30_000_000, 3_000_000),
+    (3, 5_000_000, 1_000_000),
+];
+
 /// It is the small pit, as its model text says it. The factor of period 1 is 10^12 / 1.1, which is 909090909090.9.., rounded.
-fn assert_tiny<A: Allocator + Copy + Drop>(rt: &impl Abort, pit: &Instance<A>) {
-    for (b, profit, coef) in [
-        (0, -10_000_000, 2_000_000),
-        (1, 20_500_000, 2_000_000),
-        (2, 30_000_000, 3_000_000),
-        (3, 5_000_000, 1_000_000),
-    ] {
-        assert_block(rt, pit, b, profit, coef);
+fn assert_tiny(rt: &impl Abort, pit: &Instance<Global>) {
+    for (b, profit, coef) in BLOCKS {
+        assert!(rt; is_block(pit, *b, *profit, *coef), "block {b}");
     }
     assert!(rt; pit.periods() == 2);
-    assert_eq!(rt;
-        (pit.factor(0), pit.factor(1)),
-        (1_000_000_000_000, 909_090_909_091)
-    );
-    let bounds = (bounds_of(rt, pit, 0, 0), bounds_of(rt, pit, 0, 1));
-    assert_eq!(rt;
-        bounds,
-        ((None, Some(4_000_000)), (Some(1_000_000), Some(4_000_000)))
-    );
+    assert!(rt; pit.factor(0) == 1_000_000_000_000);
+    assert!(rt; pit.factor(1) == 909_090_909_091);
+    assert!(rt; bounds_of(rt, pit, 0, 0) == (None, Some(4_000_000)));
+    assert!(rt; bounds_of(rt, pit, 0, 1) == (Some(1_000_000), Some(4_000_000)));
 }
 
-/// The block has this profit, and this coefficient of resource 0 alone.
-fn assert_block<A: Allocator + Copy + Drop>(
-    rt: &impl Abort,
-    pit: &Instance<A>,
-    b: u32,
-    profit: i64,
-    coef: i64,
-) {
-    assert!(rt; b < pit.blocks());
-    assert_eq!(rt; pit.profit(b), profit);
-    assert_eq!(rt; pit.coefs(b), [(0, coef)].as_slice());
+/// Whether the block has this profit, and this coefficient of resource 0 alone.
+fn is_block(pit: &Instance<Global>, b: u32, profit: i64, coef: i64) -> bool {
+    if b >= pit.blocks() {
+        return false;
+    }
+    pit.profit(b) == profit && pit.coefs(b) == [(0, coef)].as_slice()
 }

@@ -1,143 +1,241 @@
-//! Each allocation refused in turn.
-use super::{assert_tiny, built, fault};
-use pit_model::Builder;
-use pit_num::NoMemory;
+//! Each allocation refused in turn, and what is freed after a fault.
+use super::{REPEATED, fault};
+use linked_list_allocator::LocalHeap;
+use pit_model::{Builder, Instance};
 use pit_refuse::Refusing;
-use pit_sample::{TINY_MODEL, TINY_SIZE};
+use pit_sample::Size;
 use pit_text::{Cause, TextError, read_blocks, read_model, read_precedence, read_solution};
-use std::alloc::{Allocator, Global};
+use std::alloc::Global;
+use std::fmt::Write;
 use std::process::Abort;
-use std::test::Fail;
 
-/// The builder has the small pit, also once the next request, that of `build`, was refused.
-fn assert_kept<A: Allocator + Copy + Drop>(
-    rt: &impl Abort,
-    builder: Builder<A>,
-) -> Result<(), Fail> {
-    let Err((builder, NoMemory)) = builder.build() else {
-        return Err(Fail::from("a request that was not refused"));
-    };
-    let pit = built(builder)?;
-    assert_tiny(rt, &pit);
-    Ok(())
+/// An allocator that refuses one request.
+type Heap<'a> = &'a Refusing<LocalHeap>;
+
+/// The bytes of a heap, of which no reader takes half.
+const BYTES: usize = 2_097_152;
+
+/// The number of lines of each long text, which has more than 8,192 bytes.
+const LINES: u32 = 1_500;
+
+const SIZE: Size = Size {
+    blocks: LINES,
+    periods: 2,
+    resources: 3,
+};
+
+/// The header of a model of that size, and the line of a section.
+const HEADER: &str = "TYPE: CPIT
+NBLOCKS: 1500
+NPERIODS: 2
+NRESOURCE_SIDE_CONSTRAINTS: 3
+DISCOUNT_RATE: 0.1
+RESOURCE_CONSTRAINT_COEFFICIENTS:
+";
+
+/// What a text is read as.
+#[derive(Clone, Copy)]
+enum Kind {
+    Model,
+    Precedence,
+    Blocks,
+    Solution,
 }
 
-/// Want of memory was answered, and a request was refused.
-fn assert_wanted(rt: &impl Abort, heap: &Refusing<Global>, error: TextError) {
-    assert_eq!(rt; error.cause, Cause::NoMemory);
-    assert!(rt; heap.count().has_refused());
+/// Want of memory for what a text is read into.
+const WANT: TextError = TextError {
+    line: 1,
+    cause: Cause::NoMemory,
+};
+
+fn empty<'a>(heap: Heap<'a>) -> Result<Builder<Heap<'a>>, TextError> {
+    match SIZE.builder(heap) {
+        Ok(builder) => Ok(builder),
+        Err(_) => Err(WANT),
+    }
 }
 
-/// Whether the model is read before the refused request. Else that is answered.
-fn is_model_read(rt: &impl Abort, heap: &Refusing<Global>) -> Result<bool, Fail> {
-    match read_model(heap, TINY_MODEL) {
-        Err(error) => {
-            assert_wanted(rt, heap, error);
-            Ok(false)
-        }
-        Ok(builder) => {
-            assert!(rt; !heap.count().has_refused());
-            assert_kept(rt, builder)?;
-            Ok(true)
+fn pit_of<'a>(builder: Builder<Heap<'a>>) -> Result<Instance<Heap<'a>>, TextError> {
+    match builder.build() {
+        Ok(pit) => Ok(pit),
+        Err(_) => Err(WANT),
+    }
+}
+
+fn empty_pit<'a>(heap: Heap<'a>) -> Result<Instance<Heap<'a>>, TextError> {
+    pit_of(empty(heap)?)
+}
+
+/// The three coefficients of the last block of a long model.
+const COEFS: &[(u32, i64)] = &[(0, 1_000_000), (1, 1_000_000), (2, 1_000_000)];
+
+fn model_read(heap: Heap<'_>, text: &[u8]) -> Result<bool, TextError> {
+    let pit = pit_of(read_model(heap, text)?)?;
+    Ok(499 < pit.blocks() && pit.coefs(499) == COEFS)
+}
+
+fn precedence_read(heap: Heap<'_>, text: &[u8]) -> Result<bool, TextError> {
+    let pit = pit_of(read_precedence(heap, text, empty(heap)?)?)?;
+    Ok(239 < pit.blocks() && is_hundred(pit.preds(239)))
+}
+
+/// Whether these are the first hundred blocks.
+fn is_hundred(blocks: &[u32]) -> bool {
+    for (b, block) in (0..100u32).zip(blocks.iter()) {
+        if b != *block {
+            return false;
         }
     }
+    blocks.len() == 100
+}
+
+fn blocks_read(heap: Heap<'_>, text: &[u8]) -> Result<bool, TextError> {
+    let pit = pit_of(read_blocks(text, empty(heap)?)?)?;
+    Ok(1_499 < pit.blocks() && pit.place(1_499) == Some((1_000_000, 2_000_000, 3_000_000)))
+}
+
+fn solution_read(heap: Heap<'_>, text: &[u8]) -> Result<bool, TextError> {
+    let pit = empty_pit(heap)?;
+    let solution = read_solution(heap, text, &pit)?;
+    Ok(is_whole(&solution))
+}
+
+/// Whether each block is in period 1.
+fn is_whole(solution: &[(u32, u32)]) -> bool {
+    for (b, pair) in (0..LINES).zip(solution.iter()) {
+        if *pair != (b, 1) {
+            return false;
+        }
+    }
+    solution.len() == 1_500
+}
+
+/// Whether a text is read as it has to be.
+fn read(heap: Heap<'_>, kind: Kind, text: &[u8]) -> Result<bool, TextError> {
+    match kind {
+        Kind::Model => model_read(heap, text),
+        Kind::Precedence => precedence_read(heap, text),
+        Kind::Blocks => blocks_read(heap, text),
+        Kind::Solution => solution_read(heap, text),
+    }
+}
+
+/// Whether a text is read before the refused request. Else want of memory is answered.
+fn is_read(rt: &impl Abort, heap: Heap<'_>, kind: Kind, text: &[u8]) -> bool {
+    let answer = read(heap, kind, text);
+    assert_eq!(rt; heap.used(), 0);
+    if heap.count().has_refused() {
+        assert!(rt; is_want(answer));
+        return false;
+    }
+    assert_eq!(rt; answer, Ok(true));
+    true
+}
+
+fn is_want(answer: Result<bool, TextError>) -> bool {
+    match answer {
+        Ok(_) => false,
+        Err(error) => error.cause == Cause::NoMemory,
+    }
+}
+
+/// Refuses each request in turn, the least number of which is given.
+fn refuse_each(rt: &impl Abort, alloc: Global, kind: Kind, text: &str, least: u64) {
+    assert!(rt; text.len() > 8_192);
+    for number in 1..200 {
+        let heap = Refusing::over_heap(alloc, BYTES, number).expect(rt, "a heap");
+        if is_read(rt, &heap, kind, text.as_bytes()) {
+            assert!(rt; number > least);
+            return;
+        }
+    }
+    panic!(rt; "never whole");
+}
+
+/// Coefficients that are listed resource by resource, so that the list of each block grows after those of others.
+#[test]
+fn of_read_model(rt: HostRuntime) {
+    let mut text = String::from_str(rt.alloc(), HEADER).expect(&rt, "memory");
+    for r in 0..3u32 {
+        for b in 0..500u32 {
+            assert!(rt; writeln!(text, "{b} {r} 1").is_ok());
+        }
+    }
+    refuse_each(&rt, rt.alloc(), Kind::Model, text.as_str(), 6);
+}
+
+fn push_preds(rt: &impl Abort, text: &mut String, b: u32) {
+    assert!(rt; write!(text, "{b} 100").is_ok());
+    for a in 0..100u32 {
+        assert!(rt; write!(text, " {a}").is_ok());
+    }
+    assert!(rt; writeln!(text).is_ok());
+}
+
+/// A hundred predecessors of each of 40 blocks.
+#[test]
+fn of_read_precedence(rt: HostRuntime) {
+    let mut text = String::new(rt.alloc());
+    for b in 200..240u32 {
+        push_preds(&rt, &mut text, b);
+    }
+    refuse_each(&rt, rt.alloc(), Kind::Precedence, text.as_str(), 10);
 }
 
 #[test]
-fn of_read_model(rt: HostRuntime) -> Result<(), Fail> {
-    for number in 1..100 {
-        let heap = Refusing::new(rt.alloc(), number);
-        if is_model_read(&rt, &heap)? {
-            return Ok(());
-        }
+fn of_read_blocks(rt: HostRuntime) {
+    let mut text = String::new(rt.alloc());
+    for b in 0..LINES {
+        assert!(rt; writeln!(text, "{b} 1 2 3").is_ok());
     }
-    Err(Fail::from("never whole"))
+    refuse_each(&rt, rt.alloc(), Kind::Blocks, text.as_str(), 2);
 }
 
-// A fault of the header comes before any request for memory.
+#[test]
+fn of_read_solution(rt: HostRuntime) {
+    let mut text = String::new(rt.alloc());
+    for b in 0..LINES {
+        assert!(rt; writeln!(text, "{b} 1").is_ok());
+    }
+    refuse_each(&rt, rt.alloc(), Kind::Solution, text.as_str(), 10);
+}
+
+/// A fault of the header comes before any request for memory.
 #[test]
 fn of_read_model_with_a_fault(rt: HostRuntime) {
-    let heap = Refusing::new(rt.alloc(), 1);
-    let answer = read_model(&heap, b"TYPE: PCPSP").err();
-    assert_eq!(rt; answer, Some(fault(1, Cause::NotCpit)));
+    let heap = Refusing::over_heap(rt.alloc(), BYTES, 1).expect(&rt, "a heap");
+    let answer = read(&heap, Kind::Model, b"TYPE: PCPSP");
+    assert_eq!(rt; answer, Err(fault(1, Cause::NotCpit)));
     assert_eq!(rt; heap.count().asked, 0);
 }
 
-/// Whether a solution of the small pit is read as it has to be, where the pit has its memory of the same allocator; none where there
-/// is no pit.
-fn solution_read<A: Allocator + Copy + Drop>(alloc: A) -> Option<Result<bool, TextError>> {
-    let builder = TINY_SIZE.builder(alloc).ok()?;
-    let pit = builder.build().ok()?;
-    match read_solution(alloc, b"2 1\n1 0\n0 0\n", &pit) {
-        Ok(pairs) => Some(Ok(pairs.as_slice() == [(0u32, 0u32), (1, 0), (2, 1)].as_slice())),
-        Err(error) => Some(Err(error)),
-    }
-}
+/// Texts with a fault behind what takes memory, and the line of it.
+const FAULTY: &[(Kind, &[u8], u64)] = &[
+    (
+        Kind::Model,
+        b"TYPE: CPIT
+NBLOCKS: 4
+NPERIODS: 2
+NRESOURCE_SIDE_CONSTRAINTS: 3
+DISCOUNT_RATE: 0.1
+RESOURCE_CONSTRAINT_COEFFICIENTS:
+0 0 1
+0 0 1
+",
+        8,
+    ),
+    (Kind::Precedence, b"2 2 0 1\n1 1 0\n2 0\n", 3),
+    (Kind::Blocks, b"0 1 2 3\n0 1 2 3\n", 2),
+    (Kind::Solution, b"0 1\n1 1\n0 1\n", 3),
+];
 
-/// The same of precedences.
-fn precedence_read<A: Allocator + Copy + Drop>(alloc: A) -> Option<Result<bool, TextError>> {
-    let builder = TINY_SIZE.builder(alloc).ok()?;
-    match read_precedence(alloc, b"2 2 0 1\n1 1 0\n", builder) {
-        Ok(builder) => Some(Ok(builder.blocks() == 4)),
-        Err(error) => Some(Err(error)),
-    }
-}
-
-/// The same of places.
-fn blocks_read<A: Allocator + Copy + Drop>(alloc: A) -> Option<Result<bool, TextError>> {
-    let builder = TINY_SIZE.builder(alloc).ok()?;
-    match read_blocks(b"2 2 1 0\n1 1 0 5\n", builder) {
-        Ok(builder) => Some(Ok(builder.blocks() == 4)),
-        Err(error) => Some(Err(error)),
-    }
-}
-
-/// Whether a text is read before the refused request. Else that is answered.
-fn is_read(
-    rt: &impl Abort,
-    heap: &Refusing<Global>,
-    answer: Option<Result<bool, TextError>>,
-) -> bool {
-    match answer {
-        None => assert!(rt; heap.count().has_refused()),
-        Some(Err(error)) => assert_wanted(rt, heap, error),
-        Some(Ok(is_whole)) => {
-            assert!(rt; is_whole && !heap.count().has_refused());
-            return true;
-        }
-    }
-    false
-}
-
+/// Nothing that was taken is lost.
 #[test]
-fn of_read_solution(rt: HostRuntime) -> Result<(), Fail> {
-    for number in 1..100 {
-        let heap = Refusing::new(rt.alloc(), number);
-        if is_read(&rt, &heap, solution_read(&heap)) {
-            return Ok(());
-        }
+fn is_freed_after_a_fault(rt: HostRuntime) {
+    for (kind, text, line) in FAULTY {
+        let heap = Refusing::over_heap(rt.alloc(), BYTES, 0).expect(&rt, "a heap");
+        assert_eq!(rt; read(&heap, *kind, text), Err(fault(*line, REPEATED)));
+        assert!(rt; heap.count().asked > 0);
+        assert_eq!(rt; heap.used(), 0);
     }
-    Err(Fail::from("never whole"))
-}
-
-#[test]
-fn of_read_precedence(rt: HostRuntime) -> Result<(), Fail> {
-    for number in 1..100 {
-        let heap = Refusing::new(rt.alloc(), number);
-        if is_read(&rt, &heap, precedence_read(&heap)) {
-            return Ok(());
-        }
-    }
-    Err(Fail::from("never whole"))
-}
-
-#[test]
-fn of_read_blocks(rt: HostRuntime) -> Result<(), Fail> {
-    for number in 1..100 {
-        let heap = Refusing::new(rt.alloc(), number);
-        if is_read(&rt, &heap, blocks_read(&heap)) {
-            return Ok(());
-        }
-    }
-    Err(Fail::from("never whole"))
 }

@@ -3,57 +3,49 @@ use super::{
     BLOCK_RANGE, MALFORMED, PERIOD_RANGE, REPEATED, TOO_LARGE, TOO_LONG, assert_tiny, bounds_of,
     built, fault, joined,
 };
-use pit_model::{BuildError, Builder};
+use pit_model::{BuildError, Instance};
 use pit_num::NumError;
 use pit_sample::{TINY_COEFFICIENTS, TINY_HEADER, TINY_LIMITS, TINY_MODEL, TINY_OBJECTIVE};
 use pit_text::{Cause, Key, Lines, TextError, read_model, upper_bound};
-use std::alloc::{AllocError, Global};
+use std::alloc::Global;
 use std::process::Abort;
-use std::test::Fail;
 
-/// What a model of these parts is read as.
-fn model_read(alloc: Global, parts: &[&[u8]]) -> Result<Builder<Global>, Fail> {
-    let text = joined(alloc, parts)?;
-    Ok(read_model(alloc, &text)?)
+/// The pit that a model of these parts is read as.
+fn pit_read(rt: &impl Abort, alloc: Global, parts: &[&[u8]]) -> Instance<Global> {
+    let text = joined(rt, alloc, parts);
+    let builder = read_model(alloc, &text).expect(rt, "no fault");
+    built(rt, builder)
 }
 
-/// A model of these parts is the small pit.
-fn assert_read(rt: &impl Abort, alloc: Global, parts: &[&[u8]]) -> Result<(), Fail> {
-    let pit = built(model_read(alloc, parts)?)?;
-    assert_tiny(rt, &pit);
-    Ok(())
-}
+const ORDERS: &[&[&[u8]]] = &[
+    &[TINY_MODEL],
+    &[TINY_HEADER, TINY_OBJECTIVE, TINY_COEFFICIENTS, TINY_LIMITS],
+    &[TINY_HEADER, TINY_OBJECTIVE, TINY_LIMITS, TINY_COEFFICIENTS],
+    &[TINY_HEADER, TINY_COEFFICIENTS, TINY_OBJECTIVE, TINY_LIMITS],
+    &[TINY_HEADER, TINY_COEFFICIENTS, TINY_LIMITS, TINY_OBJECTIVE],
+    &[TINY_HEADER, TINY_LIMITS, TINY_OBJECTIVE, TINY_COEFFICIENTS],
+    &[TINY_HEADER, TINY_LIMITS, TINY_COEFFICIENTS, TINY_OBJECTIVE],
+    &[OTHER_ENDS],
+];
 
-#[test]
-fn tiny_with_its_sections_in_any_order(rt: HostRuntime) -> Result<(), Fail> {
-    let (o, c, l) = (TINY_OBJECTIVE, TINY_COEFFICIENTS, TINY_LIMITS);
-    for parts in [
-        [TINY_HEADER, o, c, l],
-        [TINY_HEADER, o, l, c],
-        [TINY_HEADER, c, o, l],
-        [TINY_HEADER, c, l, o],
-        [TINY_HEADER, l, o, c],
-        [TINY_HEADER, l, c, o],
-    ] {
-        assert_read(&rt, rt.alloc(), &parts)?;
-    }
-    assert_read(&rt, rt.alloc(), &[TINY_MODEL])
-}
-
-#[test]
-fn tiny_with_other_line_ends_and_comments(rt: HostRuntime) -> Result<(), Fail> {
-    let text =
-        b"% a small pit\r\nNAME: Tiny\r\nTYPE: CPIT\r\nNBLOCKS: 4\r\n% TYPE: PCPSP\r\nNPERIODS: 2\r
+const OTHER_ENDS: &[u8] =
+    b"% a small pit\r\nNAME: Tiny\r\nTYPE: CPIT\r\nNBLOCKS: 4\r\n% TYPE: PCPSP\r\nNPERIODS: 2\r
 NRESOURCE_SIDE_CONSTRAINTS: 1\r\nDISCOUNT_RATE: 0.1\r\n  %\r\nOBJECTIVE_FUNCTION:\r\n0 -10\r\n%0 -10\r\n1 20.5\r\n2 30\r\n3 5\r
 RESOURCE_CONSTRAINT_COEFFICIENTS:\r\n0 0 2\r\n1 0 2\r\n\t%\r\n2 0 3\r\n3 0 1\r\nRESOURCE_CONSTRAINT_LIMITS:\r\n0 0 L 4\r
 0 1 I 1 4\r";
-    assert_read(&rt, rt.alloc(), &[text])
+
+/// The small pit, with its sections in any order, and with other line ends and comments.
+#[test]
+fn tiny_in_any_form(rt: HostRuntime) {
+    for parts in ORDERS {
+        assert_tiny(&rt, &pit_read(&rt, rt.alloc(), parts));
+    }
 }
 
 /// The fault of a model of these parts.
-fn model_fault(alloc: Global, parts: &[&[u8]]) -> Result<Option<TextError>, AllocError> {
-    let text = joined(alloc, parts)?;
-    Ok(read_model(alloc, &text).err())
+fn model_fault(rt: &impl Abort, alloc: Global, parts: &[&[u8]]) -> Option<TextError> {
+    let text = joined(rt, alloc, parts);
+    read_model(alloc, &text).err()
 }
 
 /// The parts of a model, and the line and the cause of its fault.
@@ -131,46 +123,35 @@ const LINES: &[Row] = &[
     ),
 ];
 
-fn assert_faults(rt: &impl Abort, alloc: Global, rows: &[Row]) -> Result<(), AllocError> {
+fn assert_faults(rt: &impl Abort, alloc: Global, rows: &[Row]) {
     for (parts, line, cause) in rows {
-        let answer = model_fault(alloc, parts)?;
-        assert_eq!(rt; answer, Some(fault(*line, *cause)), "of {parts:?}");
+        let answer = model_fault(rt, alloc, parts);
+        assert_eq!(rt; answer, Some(fault(*line, *cause)));
     }
-    Ok(())
 }
 
 #[test]
-fn faults(rt: HostRuntime) -> Result<(), Fail> {
-    for rows in [HEADERS, SECTIONS, LINES] {
-        assert_faults(&rt, rt.alloc(), rows)?;
-    }
-    Ok(())
+fn faults(rt: HostRuntime) {
+    assert_faults(&rt, rt.alloc(), HEADERS);
+    assert_faults(&rt, rt.alloc(), SECTIONS);
+    assert_faults(&rt, rt.alloc(), LINES);
 }
 
-/// The bounds of the one resource in period 0 that a model of these parts gives.
-fn bounds_read(
-    rt: &impl Abort,
-    alloc: Global,
-    parts: &[&[u8]],
-) -> Result<(Option<i64>, Option<i64>), Fail> {
-    let pit = built(model_read(alloc, parts)?)?;
-    Ok(bounds_of(rt, &pit, 0, 0))
-}
+/// A limit line, and the bounds of the one resource in period 0 that it gives.
+const BOUNDS: &[(&[u8], Option<i64>, Option<i64>)] = &[
+    (b"0 0 L inf", None, None),
+    (b"0 0 I -inf 3", None, Some(3_000_000)),
+    (b"0 0 G -2.5", Some(-2_500_000), None),
+];
 
 // An infinite bound is none.
 #[test]
-fn limits(rt: HostRuntime) -> Result<(), Fail> {
-    const ROWS: &[(&[u8], Option<i64>, Option<i64>)] = &[
-        (b"0 0 L inf", None, None),
-        (b"0 0 I -inf 3", None, Some(3_000_000)),
-        (b"0 0 G -2.5", Some(-2_500_000), None),
-    ];
-    for (line, lower, upper) in ROWS {
+fn limits(rt: HostRuntime) {
+    for (line, lower, upper) in BOUNDS {
         let parts = [TINY_HEADER, b"RESOURCE_CONSTRAINT_LIMITS\n", line];
-        let bounds = bounds_read(&rt, rt.alloc(), &parts)?;
-        assert_eq!(rt; bounds, (*lower, *upper), "of {line:?}");
+        let pit = pit_read(&rt, rt.alloc(), &parts);
+        assert!(rt; bounds_of(&rt, &pit, 0, 0) == (*lower, *upper));
     }
-    Ok(())
 }
 
 #[test]

@@ -5,147 +5,148 @@ use pit_sample::{TINY_BLOCKS, TINY_PRECEDENCE, TINY_SOLUTION};
 use pit_text::{Cause, Key, TextError, read_blocks, read_precedence, read_solution};
 use std::alloc::Global;
 use std::process::Abort;
-use std::test::Fail;
 
 /// A text, and the line and the cause of its fault.
 type Row = (&'static [u8], u64, Cause);
 
-/// The fault of a precedence text.
-fn precedence_fault(alloc: Global, text: &[u8]) -> Result<Option<TextError>, Fail> {
-    let builder = tiny(alloc)?;
-    Ok(read_precedence(alloc, text, builder).err())
+fn precedence_fault(rt: &impl Abort, alloc: Global, text: &[u8]) -> Option<TextError> {
+    read_precedence(alloc, text, tiny(rt, alloc)).err()
 }
 
+const PRECEDENCE_FAULTS: &[Row] = &[
+    (b"2", 1, Cause::FieldCount),
+    (b"2 3 0 1", 1, Cause::CountWrong),
+    (b"x 0", 1, MALFORMED),
+    (b"2 2 0 4", 1, BLOCK_RANGE),
+    (b"2 0\n2 0", 2, REPEATED),
+];
+
 #[test]
-fn precedences_that_are_refused(rt: HostRuntime) -> Result<(), Fail> {
-    const ROWS: &[Row] = &[
-        (b"2", 1, Cause::FieldCount),
-        (b"2 3 0 1", 1, Cause::CountWrong),
-        (b"x 0", 1, MALFORMED),
-        (b"2 2 0 4", 1, BLOCK_RANGE),
-        (b"2 0\n2 0", 2, REPEATED),
-    ];
-    for (text, line, cause) in ROWS {
-        let answer = precedence_fault(rt.alloc(), text)?;
-        assert_eq!(rt; answer, Some(fault(*line, *cause)), "of {text:?}");
+fn precedences_that_are_refused(rt: HostRuntime) {
+    for (text, line, cause) in PRECEDENCE_FAULTS {
+        let answer = precedence_fault(&rt, rt.alloc(), text);
+        assert_eq!(rt; answer, Some(fault(*line, *cause)));
     }
-    Ok(())
 }
 
 /// The small pit with the predecessors of this text.
-fn with_precedence(alloc: Global, text: &[u8]) -> Result<Instance<Global>, Fail> {
-    built(read_precedence(alloc, text, tiny(alloc)?)?)
+fn with_precedence(rt: &impl Abort, alloc: Global, text: &[u8]) -> Instance<Global> {
+    let builder = read_precedence(alloc, text, tiny(rt, alloc)).expect(rt, "no fault");
+    built(rt, builder)
 }
 
-fn assert_preds(rt: &impl Abort, pit: &Instance<Global>, b: u32, wanted: &[u32]) {
-    assert!(rt; b < pit.blocks());
-    assert_eq!(rt; pit.preds(b), wanted, "of {b}");
+const FIRST: &[u32] = &[0];
+
+const FIRST_TWO: &[u32] = &[0, 1];
+
+/// Whether each block has its predecessors.
+fn has_preds(pit: &Instance<Global>) -> bool {
+    if pit.blocks() != 4 {
+        return false;
+    }
+    pit.preds(0).is_empty()
+        && pit.preds(1) == FIRST
+        && pit.preds(2) == FIRST_TWO
+        && pit.preds(3).is_empty()
 }
 
 // Predecessors rise, without the block itself and each once.
 #[test]
-fn predecessors(rt: HostRuntime) -> Result<(), Fail> {
-    for text in [TINY_PRECEDENCE, b"1 2 0 1\r\n2 3 0 0 1\r\n".as_slice()] {
-        let pit = with_precedence(rt.alloc(), text)?;
-        assert_preds(&rt, &pit, 0, &[]);
-        assert_preds(&rt, &pit, 1, &[0]);
-        assert_preds(&rt, &pit, 2, &[0, 1]);
-        assert_preds(&rt, &pit, 3, &[]);
-    }
-    Ok(())
+fn predecessors(rt: HostRuntime) {
+    assert!(rt; has_preds(&with_precedence(&rt, rt.alloc(), TINY_PRECEDENCE)));
+    assert!(rt; has_preds(&with_precedence(&rt, rt.alloc(), b"1 2 0 1\r\n2 3 0 0 1\r\n")));
 }
 
-/// The fault of a block text.
-fn blocks_fault(alloc: Global, text: &[u8]) -> Result<Option<TextError>, Fail> {
-    let builder = tiny(alloc)?;
-    Ok(read_blocks(text, builder).err())
+fn blocks_fault(rt: &impl Abort, alloc: Global, text: &[u8]) -> Option<TextError> {
+    read_blocks(text, tiny(rt, alloc)).err()
 }
+
+const BLOCKS_FAULTS: &[Row] = &[
+    (b"0 0 2", 1, Cause::FieldCount),
+    (b"0 0 \xff 0", 1, Cause::NotAscii),
+    (b"4 0 0 0", 1, BLOCK_RANGE),
+    (b"0 0 0 2\n0 0 0 2", 2, REPEATED),
+];
 
 #[test]
-fn blocks_that_are_refused(rt: HostRuntime) -> Result<(), Fail> {
-    const ROWS: &[Row] = &[
-        (b"0 0 2", 1, Cause::FieldCount),
-        (b"0 0 \xff 0", 1, Cause::NotAscii),
-        (b"4 0 0 0", 1, BLOCK_RANGE),
-        (b"0 0 0 2\n0 0 0 2", 2, REPEATED),
-    ];
-    for (text, line, cause) in ROWS {
-        let answer = blocks_fault(rt.alloc(), text)?;
-        assert_eq!(rt; answer, Some(fault(*line, *cause)), "of {text:?}");
+fn blocks_that_are_refused(rt: HostRuntime) {
+    for (text, line, cause) in BLOCKS_FAULTS {
+        let answer = blocks_fault(&rt, rt.alloc(), text);
+        assert_eq!(rt; answer, Some(fault(*line, *cause)));
     }
-    Ok(())
 }
 
 /// The small pit with the places of this text.
-fn with_blocks(alloc: Global, text: &[u8]) -> Result<Instance<Global>, Fail> {
-    built(read_blocks(text, tiny(alloc)?)?)
+fn with_blocks(rt: &impl Abort, alloc: Global, text: &[u8]) -> Instance<Global> {
+    let builder = read_blocks(text, tiny(rt, alloc)).expect(rt, "no fault");
+    built(rt, builder)
 }
 
-fn place_of(rt: &impl Abort, pit: &Instance<Global>, b: u32) -> Option<(i64, i64, i64)> {
-    assert!(rt; b < pit.blocks());
-    pit.place(b)
-}
+type Place = Option<(i64, i64, i64)>;
+
+/// A text, and the places of the first block and the last.
+const PLACES: &[(&[u8], Place, Place)] = &[
+    (
+        TINY_BLOCKS,
+        Some((0, 0, 2_000_000)),
+        Some((1_000_000, 0, 2_000_000)),
+    ),
+    (b"", None, None),
+    (b"0 0 0 2 ore 7", Some((0, 0, 2_000_000)), None),
+];
 
 // Further fields aren't read, and a block without a line has no place.
 #[test]
-fn places(rt: HostRuntime) -> Result<(), Fail> {
-    let lower = Some((0, 0, 2_000_000));
-    let right = Some((1_000_000, 0, 2_000_000));
-    for (text, first, last) in [
-        (TINY_BLOCKS, lower, right),
-        (b"".as_slice(), None, None),
-        (b"0 0 0 2 ore 7".as_slice(), lower, None),
-    ] {
-        let pit = with_blocks(rt.alloc(), text)?;
-        assert_eq!(rt; place_of(&rt, &pit, 0), first, "of {text:?}");
-        assert_eq!(rt; place_of(&rt, &pit, 3), last, "of {text:?}");
+fn places(rt: HostRuntime) {
+    for (text, first, last) in PLACES {
+        let pit = with_blocks(&rt, rt.alloc(), text);
+        assert!(rt; pit.blocks() == 4);
+        assert!(rt; pit.place(0) == *first);
+        assert!(rt; pit.place(3) == *last);
     }
-    Ok(())
 }
 
-/// What a text is read as, as a solution of the small pit.
-fn solution_of(alloc: Global, text: &[u8]) -> Result<Vec<(u32, u32)>, Fail> {
-    let pit = built(tiny(alloc)?)?;
-    Ok(read_solution(alloc, text, &pit)?)
+/// A text, and the pairs that it is read as.
+const SOLUTIONS: &[(&[u8], &[(u32, u32)])] = &[
+    (b"", &[]),
+    (TINY_SOLUTION, &[(0, 0), (1, 0), (2, 1)]),
+    (b"3 0\n2 1\n1 0", &[(1, 0), (2, 1), (3, 0)]),
+    (b"3 0 1 1.000000", &[(3, 1)]),
+    (b"3 0 1 0", &[]),
+];
+
+fn is_solution(alloc: Global, pit: &Instance<Global>, text: &[u8], wanted: &[(u32, u32)]) -> bool {
+    match read_solution(alloc, text, pit) {
+        Ok(solution) => solution.as_slice() == wanted,
+        Err(_) => false,
+    }
 }
 
 // The pairs rise by block, and a line of which nothing is mined gives none.
 #[test]
-fn solutions(rt: HostRuntime) -> Result<(), Fail> {
-    const ROWS: &[(&[u8], &[(u32, u32)])] = &[
-        (b"", &[]),
-        (TINY_SOLUTION, &[(0, 0), (1, 0), (2, 1)]),
-        (b"3 0\n2 1\n1 0", &[(1, 0), (2, 1), (3, 0)]),
-        (b"3 0 1 1.000000", &[(3, 1)]),
-        (b"3 0 1 0", &[]),
-    ];
-    for (text, wanted) in ROWS {
-        let solution = solution_of(rt.alloc(), text)?;
-        assert_eq!(rt; solution.as_slice(), *wanted, "of {text:?}");
+fn solutions(rt: HostRuntime) {
+    let pit = built(&rt, tiny(&rt, rt.alloc()));
+    for (text, wanted) in SOLUTIONS {
+        assert!(rt; is_solution(rt.alloc(), &pit, text, wanted), "of {text:?}");
     }
-    Ok(())
 }
 
-fn assert_refused(rt: &impl Abort, alloc: Global, pit: &Instance<Global>, rows: &[Row]) {
-    for (text, line, cause) in rows {
-        let answer = read_solution(alloc, text, pit).err();
-        assert_eq!(rt; answer, Some(fault(*line, *cause)), "of {text:?}");
-    }
-}
+const SOLUTION_FAULTS: &[Row] = &[
+    (b"3", 1, Cause::FieldCount),
+    (b"3 \xff", 1, Cause::NotAscii),
+    (b"3 x", 1, MALFORMED),
+    (b"4 0", 1, BLOCK_RANGE),
+    (b"3 2", 1, PERIOD_RANGE),
+    (b"3 1 1 1", 1, Cause::Unsupported(Key::Destinations)),
+    (b"3 0 1 0.5", 1, Cause::PartBlock),
+    (b"3 1\n3 1", 2, REPEATED),
+];
 
 #[test]
-fn solutions_that_are_refused(rt: HostRuntime) -> Result<(), Fail> {
-    const ROWS: &[Row] = &[
-        (b"3", 1, Cause::FieldCount),
-        (b"3 \xff", 1, Cause::NotAscii),
-        (b"3 x", 1, MALFORMED),
-        (b"4 0", 1, BLOCK_RANGE),
-        (b"3 2", 1, PERIOD_RANGE),
-        (b"3 1 1 1", 1, Cause::Unsupported(Key::Destinations)),
-        (b"3 0 1 0.5", 1, Cause::PartBlock),
-        (b"3 1\n3 1", 2, REPEATED),
-    ];
-    let pit = built(tiny(rt.alloc())?)?;
-    assert_refused(&rt, rt.alloc(), &pit, ROWS);
-    Ok(())
+fn solutions_that_are_refused(rt: HostRuntime) {
+    let pit = built(&rt, tiny(&rt, rt.alloc()));
+    for (text, line, cause) in SOLUTION_FAULTS {
+        let answer = read_solution(rt.alloc(), text, &pit).err();
+        assert_eq!(rt; answer, Some(fault(*line, *cause)));
+    }
 }
