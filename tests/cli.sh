@@ -88,10 +88,26 @@ check 'check, no precedences' 3 '' 'pit: cannot read precedence' check model abs
 check 'value' 0 "$VALUE" '' value model solution
 check 'value, files after --' 0 "$VALUE" '' value -- model solution
 
+# The greatest numbers of a header are read, and then the rest of it is wanting; the next greater are not.
+# greatest KEY NUMBER NEXT
+greatest() {
+    printf '%s: %s\n' "$1" "$2" >header
+    check "$1 of $2" 2 '' 'pit: model line 2: missing TYPE' value header solution
+    printf '%s: %s\n' "$1" "$3" >header
+    check "$1 of $3" 2 '' "pit: model line 1: bad $1" value header solution
+}
+greatest NBLOCKS 4194304 4194305
+greatest NPERIODS 1000 1001
+greatest NRESOURCE_SIDE_CONSTRAINTS 64 65
+greatest DISCOUNT_RATE 1000 1000.000001
+
 # Files that cannot be opened or read: the line has the input's word, and not the path.
 check 'no model' 3 '' 'pit: cannot read model' value missing solution
 check 'no solution' 3 '' 'pit: cannot read solution' value model missing
 check 'neither file' 3 '' 'pit: cannot read model' value missing missing
+check 'check, no file at all' 3 '' 'pit: cannot read model' check missing missing missing
+check 'check, the model alone' 3 '' 'pit: cannot read precedence' check model missing missing
+check 'check, no solution' 3 '' 'pit: cannot read solution' check model precedence missing
 check 'all files are opened before one is read' 3 '' 'pit: cannot read solution' value refused missing
 check 'the model is a folder' 3 '' 'pit: cannot read model' value folder solution
 check 'the solution is a folder' 3 '' 'pit: cannot read solution' value model folder
@@ -157,6 +173,11 @@ check 'three files' 2 '' "$SOME" value model solution solution
 check 'no such option' 2 '' "$SOME" value --fast model solution
 check 'help on no such subcommand' 2 '' "$SOME" help valu
 check 'a word that is not UTF-8' 2 '' "$SOME" value $'\xff' solution
+status=0
+grep -qi 'utf-8' err || status=lacking
+: >out
+: >err
+compare 'which says so' 0 '' ''
 check 'a first word that is not UTF-8' 2 '' "$SOME" $'v\xc3'
 check 'help' 0 "$SOME" '' --help
 check 'help, short' 0 "$SOME" '' -h
@@ -171,6 +192,9 @@ compare 'both forms of help say the same' 0 '' ''
 status=0
 grep -q 'MineLib' asked && grep -q 'BLOCK PERIOD' asked && grep -q '^ *pit value ' asked || status=lacking
 compare 'help on value tells the formats and an example' 0 '' ''
+status=0
+grep -A2 '^ *<MODEL>' asked | grep -qi 'model' && grep -A2 '^ *<SOLUTION>' asked | grep -qi 'solution' || status=lacking
+compare 'help on value tells of each file under its own name' 0 '' ''
 check 'help on check' 0 "$SOME" '' check --help
 status=0
 grep -q 'over RESOURCE PERIOD LOAD LIMIT' out && grep -q 'numbered' out && grep -q '^Status: 0 ' out || status=lacking
