@@ -1,5 +1,5 @@
 use Rattle.std.proofs.Common.{◌∷◌, [], ℕ, List, subst}
-use Rattle.pit_num.specs.Fitting.{writes_of}
+use Rattle.pit_plan.specs.Schedule.{commit_of_schedule}
 use Rattle.pit_cli.specs.declared.input.Input.TheVariants.{Solution}
 use Rattle.pit_cli.specs.Devices.{reading_of}
 use Rattle.pit_cli.specs.Inputs.{IsSolutionOf, IsBadSolution, IsSolutionStop}
@@ -13,10 +13,10 @@ returns-in-Ok-clause-read g c =
     let pit = c.args.pit in
     let schedule = c.in-Ok.schedule.items in
     made Solution read IsSolutionOf IsChecked IsBadSolution IsSolutionStop pit (λ answer. (answer.0.items, answer.1)) schedule
-    (λ answer. Checks pit (writes_of c.deref.result.now ∷ []) answer.0.items answer.1) c.checked.result
+    (λ answer. Checks pit (commit_of_schedule c.deref.result.now ∷ []) answer.0.items answer.1) c.checked.result
     (λ bytes answer stands is. record {
       schedule = schedule;
       stands = stands;
-      checks = subst (λ (s : List (ℕ × ℕ)). Checks pit (writes_of s ∷ []) answer.0.items answer.1) c.deref.ensures.value is;
+      checks = subst (λ (s : List (ℕ × ℕ)). Checks pit (commit_of_schedule s ∷ []) answer.0.items answer.1) c.deref.ensures.value is;
     })
     (λ bytes stands. solution-stop pit bytes schedule stands) c.in-Ok.ensures.read c.checked.ensures.checks
