@@ -47,6 +47,7 @@ plants() {
 tests() {
     local from=$top/audit/tests/$1 file
     [ -d "$from" ] || return
+    mkdir -p "$tree/crates/$1/src/tests"
     for file in "$from"/*.rt.txt; do
         cp "$file" "$tree/crates/$1/src/tests/$(basename "$file" .txt)"
         echo "mod $(basename "$file" .rt.txt);" >>"$tree/crates/$1/src/tests.rt"
