@@ -2,12 +2,13 @@
 # Times the commits of a desk over a pit: the best of three runs, in turn with a native program.
 # usage: bench/desk.sh [-n COMMITS] [-b BLOCKS] [-t TWIN] NAME..   reads NAME.cpit, NAME.prec and NAME.sol, whose lines have two fields
 # Makes a program of desk.txt over the crates first, in bench/data/desk. It opens a desk with no start, whose first commit is the solution,
-# and makes COMMITS commits of one write and then as many of eight, 100,000 where it isn't said. Each is a transaction that notes blocks
-# drawn over the whole pit, or of BLOCKS that are spread evenly over it, and writes to each the period that it has, so that none is
-# refused. No program treats such a write apart: the blocks around it and its loads are looked at as for a move. Timed is all of a
-# transaction, from its empty sets to the reply. TWIN is run as `TWIN plan NAME.cpit NAME.prec --start NAME.sol --reads lock --jobs-only
-# --time SCRIPT`, on a script of the same transactions. Prints the microseconds of a transaction, how many were committed and refused, and
-# the ratios to the twin and to the first NAME. Wants the toolchain.
+# and makes COMMITS commits of one write, as many of eight, and as many of one write and one revised limit, 100,000 where it isn't said. Each
+# is a transaction that notes blocks drawn over the whole pit, or of BLOCKS that are spread evenly over it, writes to each the period that
+# it has, and revises a drawn limit to what it is, so that none is refused. No program treats such a write apart: the blocks around it and
+# its loads are looked at as for a move. Timed is all of a transaction, from its empty sets to the reply. TWIN, which revises no limit, is
+# run as `TWIN plan NAME.cpit NAME.prec --start NAME.sol --reads lock --jobs-only --time SCRIPT`, on a script of the same transactions.
+# Prints the microseconds of a transaction, how many were committed and refused, and the ratios to the twin and to the first NAME, and of a
+# revision to none. Wants the toolchain.
 set -eu
 
 usage() {
@@ -62,11 +63,11 @@ script() {
         }' "$1.sol" "$1.cpit" >"$build/script"
 }
 
-# best OF NAME WRITES MICROSECONDS COMMITTED REFUSED: keeps the least time of the runs so far, and the last two numbers.
+# best OF NAME WRITES REVISES MICROSECONDS COMMITTED REFUSED: keeps the least time of the runs so far, and the last two numbers.
 best() {
-    local of="$1 $2 $3"
-    if awk "BEGIN { exit !($4 < ${micros[$of]:-999999999}) }"; then micros[$of]=$4; fi
-    replies[$of]="$5 committed, $6 refused"
+    local of="$1 $2 $3 $4"
+    if awk "BEGIN { exit !($5 < ${micros[$of]:-999999999}) }"; then micros[$of]=$5; fi
+    replies[$of]="$6 committed, $7 refused"
 }
 
 # best_twin NAME WRITES: the twin's jobs are transactions.
@@ -75,7 +76,7 @@ best_twin() {
     script "$1" "$2"
     "$twin" plan "$1.cpit" "$1.prec" --start "$1.sol" --reads lock --jobs-only --time "$build/script" 2>"$build/answer"
     read -r committed refused rate < <(sed -n 's|^jobs .* committed \([0-9]*\) refused \([0-9]*\) .* jobs/s \([0-9]*\) .*|\1 \2 \3|p' "$build/answer")
-    best twin "$1" "$2" "$(awk "BEGIN { printf \"%.3f\", 1e6 / $rate }")" "$committed" "$refused"
+    best twin "$1" "$2" 0 "$(awk "BEGIN { printf \"%.3f\", 1e6 / $rate }")" "$committed" "$refused"
 }
 
 ratio() {
@@ -86,18 +87,22 @@ declare -A micros replies
 for name in "${names[@]}"; do
     for _ in 1 2 3; do
         "$program" "$name.cpit" "$name.prec" "$name.sol" "$commits" "$among" >"$build/answer"
-        while read -r writes took committed refused; do
-            best desk "$name" "$writes" "$took" "$committed" "$refused"
+        while read -r writes revises took committed refused; do
+            best desk "$name" "$writes" "$revises" "$took" "$committed" "$refused"
         done <"$build/answer"
         for writes in 1 8; do
             [ -z "$twin" ] || best_twin "$name" "$writes"
         done
     done
-    for writes in 1 8; do
+    for kind in '1 0' '8 0' '1 1'; do
         for of in desk ${twin:+twin}; do
-            printf '%-12s %-5s writes %s %12s us   %s\n' "${name##*/}" "$of" "$writes" "${micros[$of $name $writes]}" "${replies[$of $name $writes]}"
+            key="$of $name $kind"
+            [ -n "${micros[$key]:-}" ] || continue
+            printf '%-12s %-5s writes %s revises %s %12s us   %s\n' "${name##*/}" "$of" ${kind% *} ${kind#* } "${micros[$key]}" "${replies[$key]}"
         done
-        [ -z "$twin" ] || echo "to the twin $(ratio "${micros[desk $name $writes]}" "${micros[twin $name $writes]}")"
-        [ "$name" = "${names[0]}" ] || echo "to ${names[0]##*/} $(ratio "${micros[desk $name $writes]}" "${micros[desk ${names[0]} $writes]}")"
+        took=${micros[desk $name $kind]}
+        [ -z "${micros[twin $name $kind]:-}" ] || echo "to the twin $(ratio "$took" "${micros[twin $name $kind]}")"
+        [ "$name" = "${names[0]}" ] || echo "to ${names[0]##*/} $(ratio "$took" "${micros[desk ${names[0]} $kind]}")"
+        [ "$kind" != '1 1' ] || echo "to one write alone $(ratio "$took" "${micros[desk $name 1 0]}")"
     done
 done

@@ -140,12 +140,14 @@ compare 'a closed output' 3 '' 'pit: cannot write'
 "$pit" value model solution 2>err <&- >&-
 status=$?
 compare 'a closed input and output' 3 '' 'pit: cannot write'
-{
-    sleep 0.3
-    "$pit" value model solution 2>err
-    echo $? >status
-} | true
-status=$(cat status)
+# The reader is gone before the program starts.
+mkfifo nobody
+: <nobody &
+exec 7>nobody
+wait
+"$pit" value model solution 2>err >&7
+status=$?
+exec 7>&-
 compare 'a pipe that nobody reads' 3 '' 'pit: cannot write'
 "$pit" --help 2>err >/dev/full
 status=$?
@@ -192,8 +194,12 @@ compare 'both forms of help say the same' 0 '' ''
 status=0
 grep -q 'MineLib' asked && grep -q 'BLOCK PERIOD' asked && grep -q '^ *pit value ' asked || status=lacking
 compare 'help on value tells the formats and an example' 0 '' ''
+# help_on NAME: what help says of an argument, up to the next one.
+help_on() {
+    awk -v name="<$1>" '$1 == name { on = 1; print; next } /^ *<|^ *-|^$/ { on = 0 } on' asked
+}
 status=0
-grep -A2 '^ *<MODEL>' asked | grep -qi 'model' && grep -A2 '^ *<SOLUTION>' asked | grep -qi 'solution' || status=lacking
+help_on MODEL | grep -q 'CPIT model text' && help_on SOLUTION | grep -q 'BLOCK PERIOD' || status=lacking
 compare 'help on value tells of each file under its own name' 0 '' ''
 check 'help on check' 0 "$SOME" '' check --help
 status=0

@@ -1,5 +1,5 @@
 -- What a run of the program gives, by what is told of the files that its words name.
-use Rattle.std.specs.Prelude.{◌≡◌, ℕ, List, Option, option_and_then, Result}
+use Rattle.std.specs.Prelude.{◌≡◌, ◌≢◌, ◌⊎◌, ℕ, Bool, true, false, List, [], ◌∷◌, Option, Some, option_and_then, Result}
 use Rattle.clap.specs.declared.parser.matches.ArgMatches.{ArgMatches}
 use Rattle.pit_cli.specs.declared.input.Input.{Input}
 use Rattle.pit_cli.specs.declared.input.Input.TheVariants.{Model, Precedence, Solution}
@@ -16,6 +16,20 @@ use Rattle.pit.specs.Asked.{path_of}
 -- the bytes of an input's file, where it is named and they are told
 abbrev pub file_bytes : (List ℕ → Option (List ℕ)) → ArgMatches → Input → Option (List ℕ)
 file_bytes bytes_at given input = option_and_then bytes_at (path_of given input)
+
+-- whether an input's file opens, where it is named and that is told
+abbrev pub file_opens : (List ℕ → Option Bool) → ArgMatches → Input → Option Bool
+file_opens opens_at given input = option_and_then opens_at (path_of given input)
+
+-- the inputs of an engine, in the order of the words
+abbrev pub inputs_of : Engine → List Input
+inputs_of Value = Model ∷ Solution ∷ []
+inputs_of Check = Model ∷ Precedence ∷ Solution ∷ []
+
+-- inputs are opened one by one: what is answered where one can't be, and what where all are open
+pub OpensEach : (Input → Option Bool) → List Input → (Input → Type 0) → Type 0 → Type 0
+OpensEach opens [] Closed Open = Open
+OpensEach opens (input ∷ others) Closed Open = ((opens input ≢ Some true) × Closed input) ⊎ ((opens input ≢ Some false) × OpensEach opens others Closed Open)
 
 pub record IsValueRun (told : Input → Option (List ℕ)) (out : Writing) (result : Result Status CliFault) : Type 0 where
   pub model : Reading

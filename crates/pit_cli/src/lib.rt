@@ -1,8 +1,8 @@
 //! The engines of `pit`: from the bytes of the inputs to the bytes of the answer.
 //!
 //! An engine is a run of steps: it reads its inputs whole from devices, in order, and each is parsed before the next is read. What it writes is
-//! the text of what its inputs stand for, or nothing where an input has a fault; the fault is the first one. As `one_outcome` says, what the
-//! devices show tells how a run ended.
+//! the text of what its inputs stand for, or nothing where an input has a fault or memory is wanting; the fault is the first one. As
+//! `one_outcome` says, what the devices show tells how a run ended.
 #![tactic(auto)]
 
 mod check_text;

@@ -21,7 +21,8 @@ pub const INPUT_BYTES_MAX: usize = 4_294_967_296;
 /// How many bytes are asked of a device at once.
 const CHUNK: usize = 65_536;
 
-/// All bytes that a source has left, in order. Takes the memory of the bytes, so none where there are none. What a source gave before an error is gone.
+/// All bytes that a source has left, in order. Takes the memory of the bytes, so none where there are none. What a source gave before an
+/// error is gone.
 pub fn read_all<A: Allocator, R: Source>(alloc: A, source: &mut R) -> Result<Vec<u8, A>, ReadError>
     ensures bytes { IfOk result (λ text. Consumes (R.remaining source.old) (R.remaining source.new) text.items) }
     ensures end { IfOk result (λ text. IsAtEnd (R.remaining source.new)) }

@@ -21,7 +21,7 @@ IsNamed pairs k = is_some (lookup (nat_eq k) pairs) ≡ true
 abbrev pub IsOutNear : Pit → (ℕ → Option ℕ) → Writes → ℕ × ℕ → Type 0
 IsOutNear pit schedule writes pair = IsOutOfOrder pit schedule pair × (IsNamed writes pair.0 ⊎ IsNamed writes pair.1)
 
--- the period and the resource of a cell that was moved, and whose load is above its limit
+-- the period and the resource of a cell that was moved or revised, and whose load is above its limit
 abbrev pub IsOverAt : Pit → (ℕ → ℕ → Option ℤ) → List (ℕ × ℤ) → ℕ × ℕ → Type 0
 IsOverAt pit limit cells pair =
     (pair.0 < pit.periods) × (pair.1 < pit.resources)

@@ -123,7 +123,7 @@ pub(crate) fn first_breach_after<A: Allocator + Copy + Drop>(
     };
     let mut loads = moved_loads(alloc, pit, tally, writes)?;
     look_at_revised(pit, revises, &mut loads)?;
-    Ok(first_over_in(pit, &revised, &loads.cells))
+    Ok(first_over_after(pit, &revised, &loads.cells))
 }
 
 /// The writes, by block.
@@ -313,8 +313,8 @@ fn load_in<A: Allocator + Copy + Drop>(kept: &[i128], cells: &Cells<A>, cell: u3
     }
 }
 
-/// The least period, and in it the least resource, of a cell whose load is above its limit.
-fn first_over_in<L: Limits, A: Allocator + Copy + Drop>(
+/// The load of the least period, and in it of the least resource, that is above its limit, as a breach.
+fn first_over_after<L: Limits, A: Allocator + Copy + Drop>(
     pit: &Instance<A>,
     limits: &L,
     cells: &Cells<A>,

@@ -1,8 +1,8 @@
 //! A plan: which block of a pit is mined in which period, as commits leave it, and what that loads, earns and breaks.
 //!
-//! Contracts see a plan as a pit, a number of commits, for each block its period and the number of the last commit that named it, and the upper
-//! limits in force. A plan stands for a list of commits where these are what the list says; its load, its value, its first breach and its shortfalls are then those
-//! of the list, by sums over all blocks.
+//! Contracts see a plan as a pit, a number of commits, for each block its period and the number of the last commit that named it, and the
+//! upper limits in force. A plan stands for a list of commits where these are what the list says; its load, its value, its first breach and
+//! its shortfalls are then those of the list, by sums over all blocks.
 #![tactic(auto)]
 
 mod breach;

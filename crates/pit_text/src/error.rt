@@ -68,12 +68,11 @@ impl From<AllocFailed<u32>> for Cause {
     }
 }
 
-/// The first faulty line of a text, counted from 1, and what is wrong with it. Where memory ran out, the line at which it was wanted: neither it
-/// nor a line before it is faulty.
+/// The first faulty line of a text, counted from 1, and what is wrong with it. Where memory ran out, a line up to which nothing is wrong.
 #[derive(Clone, Copy, Debug, PartialEq, Eq, Error)]
 #[error("line {line}: {cause}")]
 pub struct TextError {
-    /// For what is wanting at the end of a text, and for memory that is: the line of `EOF`, or else one past the last line.
+    /// For what is wanting at the end of a text, and for memory that is wanted there: the line of `EOF`, or else one past the last line.
     pub line: u64,
     pub cause: Cause,
 }
