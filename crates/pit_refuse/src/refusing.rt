@@ -16,6 +16,7 @@ pub struct Refusing<B: Allocator> {
 }
 
 impl<B: Allocator> Refusing<B> {
+    /// Refuses the request of this number.
     pub fn new(inner: B, number: u64) -> Refusing<B>
         ensures inner { result.inner ≡ inner }
         ensures number { result.requests.number ≡ number }
