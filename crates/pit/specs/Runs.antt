@@ -27,7 +27,7 @@ inputs_of Value = Model ∷ Solution ∷ []
 inputs_of Check = Model ∷ Precedence ∷ Solution ∷ []
 
 -- inputs are opened one by one: what is answered where one can't be, and what where all are open
-pub OpensEach : (Input → Option Bool) → List Input → (Input → Type 0) → Type 0 → Type 0
+abbrev pub OpensEach : (Input → Option Bool) → List Input → (Input → Type 0) → Type 0 → Type 0
 OpensEach opens [] Closed Open = Open
 OpensEach opens (input ∷ others) Closed Open = ((opens input ≢ Some true) × Closed input) ⊎ ((opens input ≢ Some false) × OpensEach opens others Closed Open)
 
