@@ -1,5 +1,6 @@
 -- For the crates above: what they cite of plans.
 pub use Rattle.pit_plan.proofs.Commits.{held_period-nil, held_period-push, last_number-push, limit_of-nil, limit_of-push}
+pub use Rattle.pit_plan.proofs.Snapshots.{one_snapshot, held_in_range}
 pub use Rattle.pit_plan.proofs.Sums.{total-same, total-nothing}
 pub use Rattle.pit_plan.proofs.Same.{same-breach, same-limits}
 pub use Rattle.pit_plan.proofs.OneBreach.{one_first}

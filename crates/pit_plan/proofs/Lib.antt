@@ -3,6 +3,7 @@ pub mod Bounds
 pub mod Preds
 pub mod Succs
 pub mod Commits
+pub mod Snapshots
 pub mod Slots
 pub mod Named
 pub mod Cells
