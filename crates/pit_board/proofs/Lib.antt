@@ -1,0 +1,4 @@
+pub mod Prefixes
+pub mod Lawful
+pub mod Slots
+pub mod Adding

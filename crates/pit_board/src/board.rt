@@ -1,0 +1,124 @@
+//! The board that readers see.
+ghost use Rattle.std.specs.Prelude.{◌≡◌, ◌<◌, ℕ, length, IfOk, slice_index_or, nat_eq, if◌then◌else◌};
+ghost use Rattle.pit_board.specs.Boards.{ShowsAll, slot_after};
+ghost use Rattle.pit_board.specs.declared.slot.Slot.{Slot};
+
+use crate::front::Front;
+use crate::session::Session;
+use crate::slot::Slot;
+use crate::stamp::{Operation, Stamp};
+use left_right::Absorb;
+use pit_num::NoMemory;
+use std::alloc::{AllocError, Allocator};
+use std::marker::Model;
+
+/// A slot for each block, and the front whose commits they show. Contracts see the commits.
+#[derive(Drop)]
+pub struct Board<S: Session, A: Allocator + Copy + Drop> {
+    slots: Vec<Slot, A>,
+    front: Front<S>,
+}
+
+impl<S: Session, A: Allocator + Copy + Drop> Model for Board<S, A> {
+    ghost use Rattle.std.specs.Prelude.{List};
+    ghost use Rattle.pit_plan.specs.Schedule.{Commit};
+    ghost use Rattle.pit_board.specs.Boards.{ShowsAll};
+
+    ghost Value = { List Commit };
+
+    ghost view = { λ b. b.front };
+
+    ghost invariant = { λ b. ShowsAll S.instance.blocks b.front b.slots.items };
+}
+
+impl<S: Session, A: Allocator + Copy + Drop> Board<S, A> {
+    /// A board that shows a front by a copy of these slots.
+    pub(crate) fn new(alloc: A, slots: &[Slot], front: &Front<S>) -> Result<Board<S, A>, NoMemory>
+        requires { ShowsAll S.instance.blocks front.now slots.now }
+        ensures { IfOk result (λ board. board ≡ front.now) }
+    {
+        Ok(Board {
+            slots: Vec::from_slice(alloc, slots)?,
+            front: front.again(),
+        })
+    }
+
+    /// The commits that it shows.
+    pub(crate) fn front(&self) -> &Front<S>
+        ensures { result.now ≡ self.now }
+    {
+        &self.front
+    }
+
+    /// A slot for each block.
+    pub(crate) fn slots(&self) -> &[Slot]
+        ensures { ShowsAll S.instance.blocks self.now result.now }
+    {
+        self.slots.as_slice()
+    }
+
+    /// Takes in a commit, if it is the next one. Takes no memory.
+    fn take_in(&mut self, stamp: &Stamp<S, A>) {
+        if self.front.is_same(&stamp.before) {
+            let front = stamp.after.again();
+            write_slots(&mut self.slots, front.count(), stamp.changes.writes());
+            self.front = front;
+        }
+    }
+}
+
+/// Writes each block's slot, and a block's first write last.
+fn write_slots<A: Allocator + Copy + Drop>(
+    slots: &mut Vec<Slot, A>,
+    number: u32,
+    writes: &[(u32, Option<u32>)],
+)
+    ensures many { length slots.new.items ≡ length slots.old.items }
+    ensures each { (b : ℕ) (d : Slot) → b < length slots.old.items
+        → slice_index_or slots.new.items b d ≡ slot_after number writes.now b (slice_index_or slots.old.items b d) }
+{
+    let mut left = writes.len();
+    while left > 0 {
+        left -= 1;
+        let (block, period) = writes[left];
+        let slot = Slot {
+            period,
+            version: number,
+        };
+        write_slot(slots, block, slot);
+    }
+}
+
+/// Writes the slot of a block, if there is one.
+fn write_slot<A: Allocator + Copy + Drop>(slots: &mut Vec<Slot, A>, block: u32, slot: Slot)
+    ensures many { length slots.new.items ≡ length slots.old.items }
+    ensures each { (b : ℕ) (d : Slot) → b < length slots.old.items
+        → slice_index_or slots.new.items b d ≡ (if nat_eq b block then slot else slice_index_or slots.old.items b d) }
+{
+    let at = block as usize;
+    if at < slots.len() {
+        slots[at] = slot;
+    }
+}
+
+// What is known of a board is what its type says, so its state says nothing.
+impl<S: Session, A: Allocator + Copy + Drop> Absorb<Operation<S, A>> for Board<S, A> {
+    type State = ();
+
+    ghost state = { λ board. tt };
+
+    ghost applied = { λ state operation. tt };
+
+    ghost never_fails = { Unit {0} };
+
+    fn absorb_first(
+        &mut self,
+        operation: &Operation<S, A>,
+        _other: &Board<S, A>,
+    ) -> Result<(), AllocError> {
+        if let Some(stamp) = operation.stamp() {
+            self.take_in(stamp);
+        }
+        Ok(())
+    }
+}

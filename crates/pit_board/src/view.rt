@@ -1,0 +1,148 @@
+//! What one planner sees without a lock.
+ghost use Rattle.std.specs.Prelude.{◌≡◌, ◌+◌, ◌<◌, length, MatchOption, IfSome};
+ghost use mathlib.Core.List.{IsPrefix};
+ghost use Rattle.pit_board.specs.Boards.{slot_of};
+ghost use Rattle.pit_board.specs.Fronts.{AreLawful};
+
+use crate::board::Board;
+use crate::front::Front;
+use crate::session::Session;
+use crate::slot::Slot;
+use left_right::ReadHandle;
+use std::alloc::Allocator;
+use std::marker::Model;
+use std::sync::ledger::{Book, Share};
+
+/// A planner's place at the board, the commits that it has seen, and its share of the count of entries. Contracts see the commits and the
+/// share's amount.
+#[derive(Drop)]
+pub struct View<S: Session, A: Allocator + Copy + Drop> {
+    reader: ReadHandle<Board<S, A>, A>,
+    front: Front<S>,
+    share: Share<S>,
+}
+
+impl<S: Session, A: Allocator + Copy + Drop> Model for View<S, A> {
+    ghost use Rattle.std.specs.Prelude.{◌≡◌};
+    ghost use Rattle.pit_board.specs.Views.{Sight};
+
+    ghost Value = { Sight };
+
+    ghost view = { λ v. record { seen = v.front; amount = v.share.amount } };
+
+    ghost invariant = { λ v. v.share.parts ≡ 1 };
+}
+
+impl<S: Session, A: Allocator + Copy + Drop> View<S, A> {
+    pub(crate) fn new(
+        reader: ReadHandle<Board<S, A>, A>,
+        front: Front<S>,
+        share: Share<S>,
+    ) -> View<S, A>
+        requires { share.parts ≡ 1 }
+        ensures { result ≡ record { seen = front; amount = share.amount } }
+    {
+        View {
+            reader,
+            front,
+            share,
+        }
+    }
+
+    /// Gives the place back. What was seen and the share are left.
+    pub fn into_parts(self) -> (Front<S>, Share<S>)
+        ensures seen { result.0 ≡ self.seen }
+        ensures part { result.1.parts ≡ 1 }
+        ensures amount { result.1.amount ≡ self.amount }
+    {
+        let View {
+            reader: _reader,
+            front,
+            share,
+        } = self;
+        (front, share)
+    }
+
+    /// The commits that the planner has seen.
+    pub fn front(&self) -> &Front<S>
+        ensures seen { result.now ≡ self.now.seen }
+        ensures lawful { AreLawful S.instance self.now.seen }
+    {
+        let front = &self.front;
+        let _count = front.count();
+        front
+    }
+
+    /// Counts one entry, in the total and in the share.
+    pub fn count_entry(&mut self, total: &mut Book<S>)
+        ensures seen { self.new.seen ≡ self.old.seen }
+        ensures amount { self.new.amount ≡ self.old.amount + 1 }
+        ensures total { total.new.total ≡ total.old.total + 1 }
+    {
+        total.add(&mut self.share, 1);
+    }
+
+    /// From now on the planner has seen this too.
+    pub fn learn(&mut self, front: &Front<S>)
+        ensures old { IsPrefix self.old.seen self.new.seen }
+        ensures learnt { IsPrefix front.now self.new.seen }
+        ensures amount { self.new.amount ≡ self.old.amount }
+    {
+        self.front.grow(front);
+    }
+
+    /// Looks at the board, and answers how many commits the planner has then seen. Where the reader isn't let in, these are those that it had
+    /// seen. Takes no memory, and waits for nobody.
+    pub fn begin(&mut self) -> u32
+        ensures seen { IsPrefix self.old.seen self.new.seen }
+        ensures start { result ≡ length self.new.seen }
+        ensures lawful { AreLawful S.instance self.new.seen }
+        ensures amount { self.new.amount ≡ self.old.amount }
+    {
+        self.look();
+        self.front.count()
+    }
+
+    /// Looks a block up at the board, after which the planner has seen what the board shows; or the reader isn't let in, or the board is behind
+    /// what it has seen, and then nothing has changed. Takes no memory, and waits for nobody.
+    pub fn read(&mut self, block: u32) -> Option<Slot>
+        requires { block < S.instance.blocks }
+        ensures slot { IfSome result (λ slot. slot ≡ slot_of self.new.seen block) }
+        ensures seen { MatchOption result (self.new.seen ≡ self.old.seen) (λ slot. IsPrefix self.old.seen self.new.seen) }
+        ensures lawful { AreLawful S.instance self.new.seen }
+        ensures amount { self.new.amount ≡ self.old.amount }
+    {
+        let slot = self.look_up(block);
+        let _count = self.front.count();
+        slot
+    }
+
+    /// The slot of a block, and with it the front of the board.
+    fn look_up(&mut self, block: u32) -> Option<Slot>
+        requires { block < S.instance.blocks }
+        ensures slot { IfSome result (λ slot. slot ≡ slot_of self.new.seen block) }
+        ensures seen { MatchOption result (self.new.seen ≡ self.old.seen) (λ slot. IsPrefix self.old.seen self.new.seen) }
+        ensures amount { self.new.amount ≡ self.old.amount }
+    {
+        let View { reader, front, .. } = self;
+        let guard = reader.enter()?;
+        if !front.begins(guard.front()) {
+            return None;
+        }
+        let slot = guard.slots()[block as usize];
+        *front = guard.front().again();
+        Some(slot)
+    }
+
+    /// Takes over what the board shows, where the reader is let in.
+    fn look(&mut self)
+        ensures seen { IsPrefix self.old.seen self.new.seen }
+        ensures amount { self.new.amount ≡ self.old.amount }
+    {
+        let View { reader, front, .. } = self;
+        let Some(guard) = reader.enter() else {
+            return;
+        };
+        front.grow(guard.front());
+    }
+}
