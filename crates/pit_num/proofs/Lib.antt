@@ -8,4 +8,5 @@ pub mod Leading
 pub mod Plain
 pub mod Wholes
 pub mod Fitting
+pub mod Triples
 pub mod CallerLemmas
