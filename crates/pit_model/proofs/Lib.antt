@@ -6,6 +6,7 @@ pub mod ByResource
 pub mod CoefficientCells
 pub mod Pairs
 pub mod Few
+pub mod BlockSets
 pub mod KeptProfits
 pub mod PredecessorCells
 pub mod Rising

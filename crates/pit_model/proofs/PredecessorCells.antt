@@ -1,51 +1,76 @@
 -- The rows of blocks over one array of cells.
-use Rattle.std.proofs.Common.{◌≡◌, ℕ, zero, suc, ◌-◌, ◌≤◌, List, [], ◌∷◌, ◌++◌, map, length, get_or, take, drop, set, replicate, Option, Some, None, is_some, unwrap_or, IfSome, refl, sym, ap, ◌∙◌, arith, ap₂, append-nil, length-append, length-drop, take_all}
+use Rattle.std.proofs.Common.{◌≡◌, ◌≢◌, ℕ, ◌-◌, ◌<◌, ◌≤◌, Bool, true, false, cond, List, [], ◌++◌, length, get_or, take, drop, set, replicate, Option, Some, None, is_some, unwrap_or, refl, sym, ap, ap₂, ◌∙◌, inl, inr, arith, length-append, length-drop, length-set, take_all, get_or-set_same, get_or-set_other}
 use Rattle.std.specs.Prelude.{slice_range, Result, Ok, Err, OnErr}
-use Rattle.std.specs.List.{All}
-use Rattle.std.proofs.lemmas.List.{drop_all, nil_from_length, length-take, length-map, length-set, length-replicate, map-append, map-set, take-append-le, drop-append-le}
+use Rattle.std.proofs.lemmas.Bool.{cases_eq, cases_lt, true≢false}
+use Rattle.std.proofs.lemmas.List.{drop_all, nil_from_length, length-take, take-append-le, drop-append-le, get_or_past}
 use Rattle.pit_model.specs.Pit.{preds_in}
-use Rattle.pit_model.specs.PredecessorRows.{cells_of, rows_by_block, rows_of, IsWithinCells, ArePredecessorRows}
+use Rattle.pit_model.specs.PredecessorRows.{empty_row, cells_of, rows_in, IsWithinCells, ArePredecessorRows}
 use Rattle.pit_model.specs.declared.predecessors.Row.{Row}
+use Rattle.pit_model.proofs.BlockSets.{IsWithBlock, IsWithBlock-insert, length-known_in, get_or-known_in, known_in-same, known_in-with, below-known, known-view}
+use Rattle.pit_model.proofs.Rows.{get_or-filled_up, length-filled_up, set-each}
 
-get_or-map-append_none : (cells : List ℕ) (rows : List (Option Row)) (n b : ℕ) → get_or (map (cells_of cells) (rows ++ replicate n None)) b None ≡ cells_of cells (get_or rows b None)
-get_or-map-append_none cells [] zero b = refl
-get_or-map-append_none cells [] (suc n) zero = refl
-get_or-map-append_none cells [] (suc n) (suc b) = get_or-map-append_none cells [] n b
-get_or-map-append_none cells (row ∷ rows) n zero = refl
-get_or-map-append_none cells (row ∷ rows) n (suc b) = get_or-map-append_none cells rows n b
+cells_of-row : (cells : List ℕ) (rows : List Row) (b : ℕ) (row : Row) → get_or rows b empty_row ≡ row → cells_of cells rows b ≡ slice_range cells row.start row.end
+cells_of-row cells rows b row is = ap (λ (r : Row). slice_range cells r.start r.end) is
 
--- what is known of a block
-pub get_or-rows_of : (blocks : ℕ) (cells : List ℕ) (rows : List (Option Row)) (b : ℕ) → get_or (rows_of blocks cells rows) b None ≡ cells_of cells (get_or rows b None)
-get_or-rows_of blocks cells rows b = get_or-map-append_none cells rows (blocks - length rows) b
+-- ---- what is read of a block
 
-pub is_some-cells_of : (cells : List ℕ) (row : Option Row) → is_some (cells_of cells row) ≡ is_some row
-is_some-cells_of cells None = refl
-is_some-cells_of cells (Some row) = refl
+-- also of one that isn't set, since its row is empty
+pub preds_in-rows : (blocks : ℕ) (known : List Bool) (cells : List ℕ) (rows : List Row) (value : List (Option (List ℕ))) → ArePredecessorRows blocks known cells rows → rows_in blocks known cells rows ≡ value → (b : ℕ) → preds_in value b ≡ cells_of cells rows b
+preds_in-rows blocks known cells rows value kept shown b =
+    ap (λ (v : List (Option (List ℕ))). preds_in v b) (sym shown)
+    ∙ (elim (cases_lt b blocks) as (λ _. preds_in (rows_in blocks known cells rows) b ≡ cells_of cells rows b) [
+      | inl within ↦ ap (λ (o : Option (List ℕ)). unwrap_or o []) (get_or-known_in blocks known (cells_of cells rows) b within) ∙ by (get_or known b false) (kept.unset b)
+      | inr past ↦
+          let few = kept.few in
+          ap (λ (o : Option (List ℕ)). unwrap_or o []) (get_or_past (rows_in blocks known cells rows) b None (omega (arith, length-known_in blocks known (cells_of cells rows))))
+          ∙ sym (cells_of-row cells rows b empty_row (get_or_past rows b empty_row (omega arith)))
+    ])
+  where
+    by : (c : Bool) → (c ≡ false → get_or rows b empty_row ≡ empty_row) → unwrap_or (cond c (Some (cells_of cells rows b)) None) [] ≡ cells_of cells rows b
+    by true empty = refl
+    by false empty = sym (cells_of-row cells rows b empty_row (empty refl))
 
-map-none : (cells : List ℕ) (n : ℕ) → map (cells_of cells) (replicate n None) ≡ replicate n None
-map-none cells zero = refl
-map-none cells (suc n) = ap (λ l. None ∷ l) (map-none cells n)
+pub preds_in-none : (blocks : ℕ) (known : List Bool) (cells : List ℕ) (rows : List Row) (value : List (Option (List ℕ))) → ArePredecessorRows blocks known cells rows → rows_in blocks known cells rows ≡ value → length cells ≡ 0 → (b : ℕ) → preds_in value b ≡ []
+preds_in-none blocks known cells rows value kept shown none b =
+    let row : Row = get_or rows b empty_row in
+    preds_in-rows blocks known cells rows value kept shown b
+    ∙ nil_from_length (slice_range cells row.start row.end) (omega (arith, length-take (row.end - row.start) (drop row.start cells), length-drop row.start cells))
 
-pub rows_of-none : (blocks : ℕ) (cells : List ℕ) (rows : List (Option Row)) → rows ≡ [] → rows_of blocks cells rows ≡ replicate blocks None
-rows_of-none blocks cells rows e = ap (λ l. map (cells_of cells) (rows_by_block blocks l)) e ∙ ap (λ n. map (cells_of cells) (replicate n None)) {x = blocks - 0} {y = blocks} (omega arith) ∙ map-none cells blocks
+-- ---- nothing is set
 
--- a full list is one row a block
-rows_by_block-full : (blocks : ℕ) (rows : List (Option Row)) → length rows ≡ blocks → rows_by_block blocks rows ≡ rows
-rows_by_block-full blocks rows full = let none : blocks - length rows ≡ 0 = omega arith in rw none (append-nil rows)
+pub ArePredecessorRows-none : (blocks : ℕ) (known : List Bool) (cells : List ℕ) (rows : List Row) → rows ≡ [] → ArePredecessorRows blocks known cells rows
+ArePredecessorRows-none blocks known cells rows none = record {
+  few = omega (arith, ap length none);
+  each = λ k. let row : get_or rows k empty_row ≡ empty_row = ap (λ (l : List Row). get_or l k empty_row) none in rw row (record { rising = omega arith; within = omega arith });
+  unset = λ k _. ap (λ (l : List Row). get_or l k empty_row) none;
+}
 
-pub length-rows_of : (blocks : ℕ) (cells : List ℕ) (rows : List (Option Row)) → length rows ≤ blocks → length (rows_of blocks cells rows) ≡ blocks
-length-rows_of blocks cells rows few = simp (length-map, length-append, length-replicate) (omega arith)
+-- ---- the set has more room, and the rows were filled up
 
--- a list that is filled up
-length-rows_by_block : (blocks : ℕ) (rows : List (Option Row)) → length rows ≤ blocks → length (rows_by_block blocks rows) ≡ blocks
-length-rows_by_block blocks rows few = simp (length-append, length-replicate) (omega arith)
+pub rows_in-same : (blocks : ℕ) (before after : List Bool) (cells cells' : List ℕ) (rows filled : List Row) → ((k : ℕ) → get_or after k false ≡ get_or before k false) → cells' ≡ cells → ((k : ℕ) → get_or filled k empty_row ≡ get_or rows k empty_row)
+    → rows_in blocks after cells' filled ≡ rows_in blocks before cells rows
+rows_in-same blocks before after cells cells' rows filled sets same each =
+    known_in-same blocks before after (cells_of cells rows) (cells_of cells' filled) sets (λ k. ap₂ (λ (l : List ℕ) (row : Row). slice_range l row.start row.end) same (each k))
 
-pub rows_by_block-resized : (blocks known : ℕ) (rows filled : List (Option Row)) → length rows ≤ blocks → known ≡ length rows → filled ≡ take blocks rows ++ replicate (blocks - known) None → filled ≡ rows_by_block blocks rows
-rows_by_block-resized blocks known rows filled few e is = is ∙ ap₂ (λ l n. l ++ replicate (blocks - n) None) (take_all blocks rows few) e
+-- ---- a block with no predecessors is set
 
-pub rows_of-rows_by_block : (blocks : ℕ) (cells cells' : List ℕ) (rows filled : List (Option Row)) → length rows ≤ blocks → cells' ≡ cells → filled ≡ rows_by_block blocks rows → rows_of blocks cells' filled ≡ rows_of blocks cells rows
-rows_of-rows_by_block blocks cells cells' rows filled few same e =
-    ap (λ l. map (cells_of cells') l) (rows_by_block-full blocks filled (ap length e ∙ length-rows_by_block blocks rows few) ∙ e) ∙ ap (λ l. rows_of blocks l rows) same
+-- a block that isn't set afterwards wasn't before
+unset_before : (before after : List Bool) (b k : ℕ) → IsWithBlock before after b → get_or after k false ≡ false → (k ≢ b) × (get_or before k false ≡ false)
+unset_before before after b k with out = elim (cases_eq k b) [
+  | inl same ↦ absurd (true≢false (sym with.here ∙ ap (λ (i : ℕ). get_or after i false) (sym same) ∙ out))
+  | inr other ↦ (other, sym (with.others k other) ∙ out)
+]
+
+pub rows_in-empty : (blocks b : ℕ) (before room after : List Bool) (cells : List ℕ) (rows : List Row) (value : List (Option (List ℕ))) → ArePredecessorRows blocks before cells rows → rows_in blocks before cells rows ≡ value → b < length value
+    → get_or value b None ≡ None → ((k : ℕ) → get_or room k false ≡ get_or before k false) → blocks ≤ length room → after ≡ set room b true → rows_in blocks after cells rows ≡ set value b (Some [])
+rows_in-empty blocks b before room after cells rows value kept shown block none roomier wide inserted =
+    let below : b < blocks = below-known blocks before (cells_of cells rows) value b shown block in
+    let out : get_or before b false ≡ false = known-view blocks before (cells_of cells rows) value b shown block ∙ ap is_some none in
+    let with : IsWithBlock before after b = IsWithBlock-insert blocks before room after b below roomier wide inserted in
+    known_in-with blocks before after (cells_of cells rows) (cells_of cells rows) b [] below with (cells_of-row cells rows b empty_row (kept.unset b out)) (λ k other. refl)
+    ∙ ap (λ (v : List (Option (List ℕ))). set v b (Some [])) shown
+
+-- ---- a block's row is put behind the others
 
 slice_range-append : (cells more : List ℕ) (start end : ℕ) → start ≤ end → end ≤ length cells → slice_range (cells ++ more) start end ≡ slice_range cells start end
 slice_range-append cells more start end rising within =
@@ -53,53 +78,64 @@ slice_range-append cells more start end rising within =
     let high : end - start ≤ length (drop start cells) = omega (arith, length-drop start cells) in
     ap (take (end - start)) (drop-append-le start cells more low) ∙ take-append-le (end - start) (drop start cells) more high
 
--- more cells change no row
-map-append_cells : (cells more : List ℕ) (rows : List (Option Row)) → All (λ row. IfSome row (λ r. IsWithinCells (length cells) r)) rows → map (cells_of (cells ++ more)) rows ≡ map (cells_of cells) rows
-map-append_cells cells more [] each = refl
-map-append_cells cells more (None ∷ rows) each = ap (λ l. None ∷ l) (map-append_cells cells more rows (λ k d lt. each (suc k) d (omega arith)))
-map-append_cells cells more (Some row ∷ rows) each =
-    let here : IsWithinCells (length cells) row = each 0 None (omega arith) in
-    ap₂ (λ l ls. Some l ∷ ls) (slice_range-append cells more row.start row.end here.rising here.within) (map-append_cells cells more rows (λ k d lt. each (suc k) d (omega arith)))
-
-map-none_cells : (cells more : List ℕ) (n : ℕ) → map (cells_of (cells ++ more)) (replicate n None) ≡ map (cells_of cells) (replicate n None)
-map-none_cells cells more n = map-none (cells ++ more) n ∙ sym (map-none cells n)
-
-rows_of-append : (blocks : ℕ) (cells more : List ℕ) (rows : List (Option Row)) → ArePredecessorRows blocks cells rows → rows_of blocks (cells ++ more) rows ≡ rows_of blocks cells rows
-rows_of-append blocks cells more rows kept =
-    map-append (cells_of (cells ++ more)) rows (replicate (blocks - length rows) None)
-    ∙ ap₂ (λ a b. a ++ b) (map-append_cells cells more rows kept.each) (map-none_cells cells more (blocks - length rows))
-    ∙ sym (map-append (cells_of cells) rows (replicate (blocks - length rows) None))
-
 slice_range-behind : (cells more : List ℕ) → slice_range (cells ++ more) (length cells) (length (cells ++ more)) ≡ more
 slice_range-behind cells more =
     let long : length (cells ++ more) - length cells ≡ length more = omega (arith, length-append cells more) in
     let rest : drop (length cells) (cells ++ more) ≡ more = drop-append-le (length cells) cells more (omega arith) ∙ ap (λ l. l ++ more) (drop_all (length cells) cells (omega arith)) in
     ap₂ take long rest ∙ take_all (length more) more (omega arith)
 
--- a block's row is put behind the others
-pub rows_of-set : (blocks b : ℕ) (cells cells' row : List ℕ) (rows filled : List (Option Row)) (start end : ℕ) → ArePredecessorRows blocks cells rows → filled ≡ rows_by_block blocks rows → cells' ≡ cells ++ row → start ≡ length cells → end ≡ length cells'
-    → rows_of blocks cells' (set filled b (Some (record { start = start; end = end }))) ≡ set (rows_of blocks cells rows) b (Some row)
-rows_of-set blocks b cells cells' row rows filled start end kept e grown first last =
-    let place : Row = record { start = start; end = end } in
-    let full : length (set filled b (Some place)) ≡ blocks = length-set filled b (Some place) ∙ ap length e ∙ length-rows_by_block blocks rows kept.few in
-    let cut : slice_range cells' start end ≡ row = (λ i. slice_range (grown i) (first i) ((last ∙ ap length grown) i)) ∙ slice_range-behind cells row in
-    ap (λ l. map (cells_of cells') l) (rows_by_block-full blocks (set filled b (Some place)) full)
-    ∙ map-set (cells_of cells') filled b (Some place)
-    ∙ ap₂ (λ l o. set l b (Some o)) (ap₂ (λ l c. map (cells_of c) l) e grown ∙ rows_of-append blocks cells row rows kept) cut
+-- room was made in the set and among the rows
+module _ (blocks b old : ℕ) (before room after : List Bool) (cells cells' row : List ℕ) (rows filled : List Row) (place : Row) (value : List (Option (List ℕ)))
+    (kept : ArePredecessorRows blocks before cells rows) (shown : rows_in blocks before cells rows ≡ value) (block : b < length value)
+    (roomier : (k : ℕ) → get_or room k false ≡ get_or before k false) (wide : blocks ≤ length room) (inserted : after ≡ set room b true)
+    (long : old ≡ length rows) (filled_is : filled ≡ take blocks rows ++ replicate (blocks - old) empty_row)
+    (grown : cells' ≡ cells ++ row) (first : place.start ≡ length cells) (last : place.end ≡ length cells') where
+  below : b < blocks
+  below = below-known blocks before (cells_of cells rows) value b shown block
 
--- a value that is shown is read at its rows
-pub is_set-view : (blocks : ℕ) (cells : List ℕ) (rows : List (Option Row)) (b : ℕ) (value : List (Option (List ℕ))) → rows_of blocks cells rows ≡ value → is_some (get_or rows b None) ≡ is_some (get_or value b None)
-is_set-view blocks cells rows b value shown = sym (ap (λ v. is_some (get_or v b None)) (sym shown) ∙ ap is_some (get_or-rows_of blocks cells rows b) ∙ is_some-cells_of cells (get_or rows b None))
+  with : IsWithBlock before after b
+  with = IsWithBlock-insert blocks before room after b below roomier wide inserted
 
-pub preds_in-view : (blocks : ℕ) (cells : List ℕ) (rows : List (Option Row)) (b : ℕ) (value : List (Option (List ℕ))) → rows_of blocks cells rows ≡ value → preds_in value b ≡ unwrap_or (cells_of cells (get_or rows b None)) []
-preds_in-view blocks cells rows b value shown = ap (λ v. preds_in v b) (sym shown) ∙ ap (λ o. unwrap_or o []) (get_or-rows_of blocks cells rows b)
+  full : length filled ≡ blocks
+  full = length-filled_up blocks old rows filled empty_row kept.few long filled_is
 
-pub preds_in-none : (blocks : ℕ) (cells : List ℕ) (rows : List (Option Row)) (b : ℕ) (value : List (Option (List ℕ))) → rows_of blocks cells rows ≡ value → length cells ≡ 0 → preds_in value b ≡ []
-preds_in-none blocks cells rows b value shown none = preds_in-view blocks cells rows b value shown ∙ by (get_or rows b None)
-  where
-    by : (row : Option Row) → unwrap_or (cells_of cells row) [] ≡ []
-    by None = refl
-    by (Some row) = nil_from_length (slice_range cells row.start row.end) (omega (arith, length-take (row.end - row.start) (drop row.start cells), length-drop row.start cells))
+  same : (k : ℕ) → get_or filled k empty_row ≡ get_or rows k empty_row
+  same = get_or-filled_up blocks old rows filled empty_row kept.few filled_is
+
+  other_row : (k : ℕ) → k ≢ b → get_or (set filled b place) k empty_row ≡ get_or rows k empty_row
+  other_row k other = get_or-set_other filled b k place empty_row other ∙ same k
+
+  -- more cells change no other row
+  other_cells : (k : ℕ) → k ≢ b → cells_of cells' (set filled b place) k ≡ cells_of cells rows k
+  other_cells k other =
+      let kept_row = kept.each k in
+      cells_of-row cells' (set filled b place) k (get_or rows k empty_row) (other_row k other)
+      ∙ ap (λ (l : List ℕ). slice_range l (get_or rows k empty_row).start (get_or rows k empty_row).end) grown
+      ∙ slice_range-append cells row (get_or rows k empty_row).start (get_or rows k empty_row).end kept_row.rising kept_row.within
+
+  own_cells : cells_of cells' (set filled b place) b ≡ row
+  own_cells =
+      cells_of-row cells' (set filled b place) b place (get_or-set_same filled b place empty_row (omega (arith, full, below)))
+      ∙ (λ i. slice_range (grown i) (first i) ((last ∙ ap length grown) i))
+      ∙ slice_range-behind cells row
+
+  pub rows_in-row : rows_in blocks after cells' (set filled b place) ≡ set value b (Some row)
+  rows_in-row =
+      known_in-with blocks before after (cells_of cells rows) (cells_of cells' (set filled b place)) b row below with own_cells other_cells
+      ∙ ap (λ (v : List (Option (List ℕ))). set v b (Some row)) shown
+
+  longer : length cells ≤ length cells'
+  longer = omega (arith, ap length grown, length-append cells row)
+
+  wider : (r : Row) → IsWithinCells (length cells) r → IsWithinCells (length cells') r
+  wider r ok = let inside = ok.within in let more = longer in record { rising = ok.rising; within = omega arith }
+
+  pub ArePredecessorRows-row : ArePredecessorRows blocks after cells' (set filled b place)
+  ArePredecessorRows-row = record {
+    few = omega (arith, length-set filled b place, full);
+    each = set-each (λ _ r. IsWithinCells (length cells') r) filled b place empty_row (omega (arith, full, below)) (let more = longer in record { rising = omega arith; within = omega arith }) (λ k. rw (same k) (wider (get_or rows k empty_row) (kept.each k)));
+    unset = λ k out. let was = unset_before before after b k with out in other_row k was.0 ∙ kept.unset k was.1;
+  }
 
 pub OnErr-always : {T E : Type 0} {P : Type 0} (result : Result T E) → P → OnErr result P
 OnErr-always (Ok value) p = tt

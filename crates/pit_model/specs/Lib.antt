@@ -1,8 +1,9 @@
 pub mod Pit
 pub mod Refusals
 pub mod Places
-pub mod Profits
 pub mod Bits
+pub mod BlockSet
+pub mod Profits
 pub mod CoefficientRows
 pub mod PredecessorRows
 pub mod Laid

@@ -1,23 +1,25 @@
 -- The predecessors of each block, in one array of cells.
-use Rattle.std.specs.Prelude.{ℕ, ◌-◌, ◌≤◌, List, ◌++◌, map, length, replicate, Option, Some, None, IfSome, slice_range}
-use Rattle.std.specs.List.{All}
+use Rattle.std.specs.Prelude.{◌≡◌, ℕ, ◌≤◌, Bool, false, List, length, slice_index_or, slice_range, Option}
+use Rattle.pit_model.specs.BlockSet.{known_in}
 use Rattle.pit_model.specs.declared.predecessors.Row.{Row}
 
-abbrev pub cells_of : List ℕ → Option Row → Option (List ℕ)
-cells_of cells None = None
-cells_of cells (Some row) = Some (slice_range cells row.start row.end)
+abbrev pub empty_row : Row
+empty_row = record { start = 0; end = 0 }
 
--- a row for each block
-abbrev pub rows_by_block : ℕ → List (Option Row) → List (Option Row)
-rows_by_block blocks rows = rows ++ replicate (blocks - length rows) None
+-- the cells of a block's row
+abbrev pub cells_of : List ℕ → List Row → ℕ → List ℕ
+cells_of cells rows block = slice_range cells (slice_index_or rows block empty_row).start (slice_index_or rows block empty_row).end
 
-abbrev pub rows_of : ℕ → List ℕ → List (Option Row) → List (Option (List ℕ))
-rows_of blocks cells rows = map (cells_of cells) (rows_by_block blocks rows)
+-- those of each block that is set
+abbrev pub rows_in : ℕ → List Bool → List ℕ → List Row → List (Option (List ℕ))
+rows_in blocks set cells rows = known_in blocks set (cells_of cells rows)
 
 pub record IsWithinCells (cells : ℕ) (row : Row) : Type 0 where
   pub rising : row.start ≤ row.end
   pub within : row.end ≤ cells
 
-pub record ArePredecessorRows (blocks : ℕ) (cells : List ℕ) (rows : List (Option Row)) : Type 0 where
+-- a block that isn't set has an empty row
+pub record ArePredecessorRows (blocks : ℕ) (set : List Bool) (cells : List ℕ) (rows : List Row) : Type 0 where
   pub few : length rows ≤ blocks
-  pub each : All (λ row. IfSome row (λ r. IsWithinCells (length cells) r)) rows
+  pub each : (block : ℕ) → IsWithinCells (length cells) (slice_index_or rows block empty_row)
+  pub unset : (block : ℕ) → slice_index_or set block false ≡ false → slice_index_or rows block empty_row ≡ empty_row

@@ -5,6 +5,7 @@
 #![tactic(auto)]
 
 mod bits;
+mod block_set;
 mod bounds;
 mod builder;
 mod coefficients;

@@ -2,7 +2,9 @@ ghost use Rattle.std.specs.Prelude.{◌≡◌, ◌==◌, not, ℕ, ◌<◌, [], 
 ghost use Rattle.std.specs.List.{All, filter, list_any};
 ghost use Rattle.std.specs.List.Sorted.{IsStrictlyIncreasing};
 ghost use Rattle.pit_model.specs.Pit.{preds_from, preds_in, with_preds_in};
+ghost use Rattle.pit_model.specs.PredecessorRows.{empty_row};
 
+use crate::block_set::BlockSet;
 use pit_num::NoMemory;
 use std::alloc::Allocator;
 use std::marker::Model;
@@ -11,9 +13,11 @@ use std::marker::Model;
 #[derive(Drop)]
 pub(crate) struct Predecessors<A: Allocator + Drop> {
     blocks: u32,
+    /// The blocks whose predecessors are set.
+    set: BlockSet<A>,
     cells: Vec<u32, A>,
-    /// By block; empty until some are set.
-    rows: Vec<Option<Row>, A>,
+    /// By block; empty until a block has some.
+    rows: Vec<Row, A>,
 }
 
 /// Where the predecessors of a block stand among the cells.
@@ -28,11 +32,11 @@ impl<A: Allocator + Drop> Model for Predecessors<A> {
 
     ghost Value = { List (Option (List ℕ)) };
 
-    ghost use Rattle.pit_model.specs.PredecessorRows.{rows_of, ArePredecessorRows};
+    ghost use Rattle.pit_model.specs.PredecessorRows.{rows_in, ArePredecessorRows};
 
-    ghost view = { λ preds. rows_of preds.blocks preds.cells.items preds.rows.items };
+    ghost view = { λ preds. rows_in preds.blocks preds.set preds.cells.items preds.rows.items };
 
-    ghost invariant = { λ preds. ArePredecessorRows preds.blocks preds.cells.items preds.rows.items };
+    ghost invariant = { λ preds. ArePredecessorRows preds.blocks preds.set preds.cells.items preds.rows.items };
 }
 
 impl<A: Allocator + Copy + Drop> Predecessors<A> {
@@ -42,6 +46,7 @@ impl<A: Allocator + Copy + Drop> Predecessors<A> {
     {
         Predecessors {
             blocks,
+            set: BlockSet::new(alloc),
             cells: Vec::new(alloc),
             rows: Vec::new(alloc),
         }
@@ -66,7 +71,7 @@ impl<A: Allocator + Copy + Drop> Predecessors<A> {
         requires { b < length self.now }
         ensures { result ≡ is_some (slice_index_or self.now b None) }
     {
-        row_at(&self.rows, b).is_some()
+        self.set.contains(b)
     }
 
     /// The predecessors of a block.
@@ -74,10 +79,8 @@ impl<A: Allocator + Copy + Drop> Predecessors<A> {
         requires { b < length self.now }
         ensures { result.now ≡ preds_in self.now b }
     {
-        match row_at(&self.rows, b) {
-            Some(row) => &self.cells[row.start..row.end],
-            None => &[],
-        }
+        let row = row_at(&self.rows, b);
+        &self.cells[row.start..row.end]
     }
 
     /// Sets the predecessors of a block, once.
@@ -89,10 +92,35 @@ impl<A: Allocator + Copy + Drop> Predecessors<A> {
         ensures err { OnErr result (self.new ≡ self.old) }
     {
         if !is_listed(b, listed) && is_rising(listed) {
-            return self.append(b, listed);
+            return self.set_row(b, listed);
         }
         let others = others(*self.cells.allocator(), b, listed)?;
-        self.append(b, &others)
+        self.set_row(b, &others)
+    }
+
+    /// Sets the row of a block that has none.
+    fn set_row(&mut self, b: u32, row: &[u32]) -> Result<(), NoMemory>
+        requires block { b < length self.old }
+        requires unset { slice_index_or self.old b None ≡ None }
+        ensures ok { OnOk result (self.new ≡ slice_set self.old b (Some row.now)) }
+        ensures err { OnErr result (self.new ≡ self.old) }
+    {
+        if row.is_empty() {
+            return self.set_empty(b);
+        }
+        self.append(b, row)
+    }
+
+    /// Sets that a block has none. No row is written.
+    fn set_empty(&mut self, b: u32) -> Result<(), NoMemory>
+        requires block { b < length self.old }
+        requires unset { slice_index_or self.old b None ≡ None }
+        ensures ok { OnOk result (self.new ≡ slice_set self.old b (Some [])) }
+        ensures err { OnErr result (self.new ≡ self.old) }
+    {
+        self.set.reserve(self.blocks)?;
+        self.set.insert(b);
+        Ok(())
     }
 
     /// Puts the row of a block behind those of the others.
@@ -101,23 +129,31 @@ impl<A: Allocator + Copy + Drop> Predecessors<A> {
         ensures ok { OnOk result (self.new ≡ slice_set self.old b (Some row.now)) }
         ensures err { OnErr result (self.new ≡ self.old) }
     {
-        self.rows.resize(self.blocks as usize, None)?;
+        self.set.reserve(self.blocks)?;
+        self.rows.resize(self.blocks as usize, no_row())?;
         let start = self.cells.len();
         self.cells.extend_from_slice(row)?;
         let end = self.cells.len();
-        self.rows[b as usize] = Some(Row { start, end });
+        self.rows[b as usize] = Row { start, end };
+        self.set.insert(b);
         Ok(())
     }
 }
 
-fn row_at(rows: &[Option<Row>], b: u32) -> Option<Row>
-    ensures { result ≡ slice_index_or rows.now b None }
+fn row_at(rows: &[Row], b: u32) -> Row
+    ensures { result ≡ slice_index_or rows.now b empty_row }
 {
     if (b as usize) < rows.len() {
         rows[b as usize]
     } else {
-        None
+        no_row()
     }
+}
+
+fn no_row() -> Row
+    ensures { result ≡ empty_row }
+{
+    Row { start: 0, end: 0 }
 }
 
 fn is_listed(b: u32, listed: &[u32]) -> bool

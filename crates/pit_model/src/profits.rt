@@ -1,7 +1,7 @@
 //! The profits of the blocks.
 ghost use Rattle.std.specs.Prelude.{◌≡◌, ◌<◌, None, Some, is_some, length, replicate, slice_index_or, slice_set, IfOk};
 
-use crate::bits::{has_bit, with_bit};
+use crate::block_set::BlockSet;
 use pit_num::NoMemory;
 use std::alloc::Allocator;
 use std::marker::Model;
@@ -10,19 +10,19 @@ use std::marker::Model;
 #[derive(Drop)]
 pub(crate) struct Profits<A: Allocator + Drop> {
     values: Vec<i64, A>,
-    /// Which are set, 64 blocks to a word. So a block that comes out of order is looked up in few words.
-    set: Vec<u64, A>,
+    /// The blocks whose profit is set.
+    set: BlockSet<A>,
 }
 
 impl<A: Allocator + Drop> Model for Profits<A> {
-    ghost use Rattle.std.specs.Prelude.{ℤ, ◌<◌, ◌*◌, List, Option, length};
+    ghost use Rattle.std.specs.Prelude.{ℤ, ◌≤◌, List, Option, length};
     ghost use Rattle.pit_model.specs.Profits.{profits_in};
 
     ghost Value = { List (Option ℤ) };
 
-    ghost view = { λ p. profits_in p.values.items p.set.items };
+    ghost view = { λ p. profits_in p.values.items p.set };
 
-    ghost invariant = { λ p. length p.values.items < 64 * length p.set.items };
+    ghost invariant = { λ p. length p.values.items ≤ length p.set };
 }
 
 impl<A: Allocator + Copy + Drop> Profits<A> {
@@ -31,7 +31,8 @@ impl<A: Allocator + Copy + Drop> Profits<A> {
         ensures { IfOk result (λ profits. profits ≡ replicate blocks None) }
     {
         let values = vec![in alloc; 0i64; blocks as usize]?;
-        let set = vec![in alloc; 0u64; blocks as usize / 64 + 1]?;
+        let mut set = BlockSet::new(alloc);
+        set.reserve(blocks)?;
         Ok(Profits { values, set })
     }
 
@@ -40,7 +41,7 @@ impl<A: Allocator + Copy + Drop> Profits<A> {
         requires { b < length self.now }
         ensures { result ≡ is_some (slice_index_or self.now b None) }
     {
-        has_bit(self.set[b as usize / 64], b % 64)
+        self.set.contains(b)
     }
 
     /// The profit of a block, where it was set.
@@ -60,8 +61,7 @@ impl<A: Allocator + Copy + Drop> Profits<A> {
         requires { b < length self.old }
         ensures { self.new ≡ slice_set self.old b (Some v) }
     {
-        let word = with_bit(self.set[b as usize / 64], b % 64);
-        self.set[b as usize / 64] = word;
+        self.set.insert(b);
         self.values[b as usize] = v;
     }
 }

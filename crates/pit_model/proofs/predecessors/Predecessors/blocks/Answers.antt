@@ -1,6 +1,7 @@
 use Rattle.std.proofs.Common.{sym}
-use Rattle.pit_model.proofs.PredecessorCells.{length-rows_of}
+use Rattle.pit_model.specs.PredecessorRows.{cells_of}
+use Rattle.pit_model.proofs.BlockSets.{length-known_in}
 use Rattle.pit_model.proofs.predecessors.Predecessors.blocks.Goals as goal
 
 pub returns : goal.returns
-returns g c = rw (← c.self.view_is) (sym (length-rows_of c.self.inside.blocks c.self.inside.cells.items c.self.inside.rows.items c.self.invariant.few))
+returns g c = rw (← c.self.view_is) (sym (length-known_in c.self.inside.blocks c.self.inside.set (cells_of c.self.inside.cells.items c.self.inside.rows.items)))

@@ -9,4 +9,4 @@ returns-then-is_rising-clause-ok g c =
     let absent : is_in c.args.b c.args.listed.now ≡ false = search rules in
     let up : IsStrictlyIncreasing c.args.listed.now = search rules in
     let same : preds_from (length c.args.self.now) c.args.b c.args.listed.now ≡ c.args.listed.now = preds_from-rising (length c.args.self.now) c.args.b c.args.listed.now c.requires.listed absent up in
-    rw same c.append.ensures.ok
+    rw same c.set_row.ensures.ok

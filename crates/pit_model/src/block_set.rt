@@ -1,0 +1,64 @@
+//! Sets of blocks.
+ghost use Rattle.std.specs.Prelude.{◌≡◌, ℕ, ◌<◌, ◌≤◌, [], true, false, length, slice_index_or, slice_set, OnOk};
+
+use crate::bits::{has_bit, with_bit};
+use pit_num::NoMemory;
+use std::alloc::Allocator;
+use std::marker::Model;
+
+/// A set of blocks, 64 of them to a word. So a block that comes out of order is looked up in few words.
+///
+/// Contracts see whether each block is in it, as far as it has room.
+#[derive(Drop)]
+pub(crate) struct BlockSet<A: Allocator + Drop> {
+    words: Vec<u64, A>,
+}
+
+impl<A: Allocator + Drop> Model for BlockSet<A> {
+    ghost use Rattle.std.specs.Prelude.{Bool, List};
+    ghost use Rattle.pit_model.specs.BlockSet.{blocks_in};
+
+    ghost Value = { List Bool };
+
+    ghost view = { λ set. blocks_in set.words.items };
+}
+
+impl<A: Allocator + Copy + Drop> BlockSet<A> {
+    /// An empty set. Takes no memory.
+    pub(crate) fn new(alloc: A) -> BlockSet<A>
+        ensures { result ≡ [] }
+    {
+        BlockSet {
+            words: Vec::new(alloc),
+        }
+    }
+
+    /// Makes room for so many blocks.
+    pub(crate) fn reserve(&mut self, blocks: u32) -> Result<(), NoMemory>
+        ensures room { OnOk result (blocks ≤ length self.new) }
+        ensures same { (b : ℕ) → slice_index_or self.new b false ≡ slice_index_or self.old b false }
+    {
+        let words = self.words.len().max(blocks as usize / 64 + 1);
+        self.words.resize(words, 0)?;
+        Ok(())
+    }
+
+    /// Whether a block is in the set.
+    pub(crate) fn contains(&self, b: u32) -> bool
+        ensures { result ≡ slice_index_or self.now b false }
+    {
+        if b as usize / 64 >= self.words.len() {
+            return false;
+        }
+        has_bit(self.words[b as usize / 64], b % 64)
+    }
+
+    /// Puts a block into the set, which has room for it.
+    pub(crate) fn insert(&mut self, b: u32)
+        requires { b < length self.old }
+        ensures { self.new ≡ slice_set self.old b true }
+    {
+        let word = with_bit(self.words[b as usize / 64], b % 64);
+        self.words[b as usize / 64] = word;
+    }
+}
