@@ -22,8 +22,8 @@ pub fn run<D: Disk, W: Sink>(
     ensures { let told = file_bytes (D.bytes_at disk.now) given.now in
         let written = writing_of (W.contents out.old) (W.contents out.new) (W.has_failed out.new) in
         OpensEach (file_opens (D.opens_at disk.now) given.now) (inputs_of engine)
-            (λ input. (result ≡ Err (CliFault.CannotRead input)) × (out.new ≡ out.old))
-            (IsRunOf engine told written result) }
+        (λ input. (result ≡ Err (CliFault.CannotRead input)) × (out.new ≡ out.old))
+        (IsRunOf engine told written result) }
 {
     match engine {
         Engine::Value => run_value(alloc, disk, given, out),
@@ -40,8 +40,8 @@ fn run_value<D: Disk, W: Sink>(
     ensures { let told = file_bytes (D.bytes_at disk.now) given.now in
         let written = writing_of (W.contents out.old) (W.contents out.new) (W.has_failed out.new) in
         OpensEach (file_opens (D.opens_at disk.now) given.now) (inputs_of value_engine)
-            (λ input. (result ≡ Err (CliFault.CannotRead input)) × (out.new ≡ out.old))
-            (IsValueRun told written result) }
+        (λ input. (result ≡ Err (CliFault.CannotRead input)) × (out.new ≡ out.old))
+        (IsValueRun told written result) }
 {
     let mut model = opened(disk, given, Input::Model)?;
     let mut solution = opened(disk, given, Input::Solution)?;
@@ -57,8 +57,8 @@ fn run_check<D: Disk, W: Sink>(
     ensures { let told = file_bytes (D.bytes_at disk.now) given.now in
         let written = writing_of (W.contents out.old) (W.contents out.new) (W.has_failed out.new) in
         OpensEach (file_opens (D.opens_at disk.now) given.now) (inputs_of check_engine)
-            (λ input. (result ≡ Err (CliFault.CannotRead input)) × (out.new ≡ out.old))
-            (IsCheckRun told written result) }
+        (λ input. (result ≡ Err (CliFault.CannotRead input)) × (out.new ≡ out.old))
+        (IsCheckRun told written result) }
 {
     let mut model = opened(disk, given, Input::Model)?;
     let mut precedence = opened(disk, given, Input::Precedence)?;
