@@ -8,7 +8,7 @@ mod reading;
 use pit_cli::{CliFault, Status, check, value};
 use pit_num::{In, Out, Sink, Source};
 use pit_sample::{TINY_MODEL, TINY_PRECEDENCE, TINY_SOLUTION};
-use std::alloc::{Allocator, Global};
+use std::alloc::Global;
 use std::process::Abort;
 use std::test::Fail;
 
@@ -44,10 +44,7 @@ fn is_answer(answered: &Answered, answer: Result<Status, CliFault>, written: &[u
 }
 
 /// What `value` answers for the small pit and its solution.
-fn value_to<A: Allocator + Copy + Drop, W: Sink>(
-    alloc: A,
-    out: &mut W,
-) -> Result<Status, CliFault> {
+fn value_to<W: Sink>(alloc: Global, out: &mut W) -> Result<Status, CliFault> {
     value(
         alloc,
         &mut In::new(TINY_MODEL),
@@ -57,10 +54,7 @@ fn value_to<A: Allocator + Copy + Drop, W: Sink>(
 }
 
 /// What `check` answers for them.
-fn check_to<A: Allocator + Copy + Drop, W: Sink>(
-    alloc: A,
-    out: &mut W,
-) -> Result<Status, CliFault> {
+fn check_to<W: Sink>(alloc: Global, out: &mut W) -> Result<Status, CliFault> {
     check(
         alloc,
         &mut In::new(TINY_MODEL),

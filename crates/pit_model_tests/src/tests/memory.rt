@@ -3,7 +3,7 @@ use super::assert_tiny;
 use Fact::{Coef, Limit, Place, Preds, Profit};
 use linked_list_allocator::LocalHeap;
 use pit_model::{BuildError, Builder, Instance};
-use pit_num::NoMemory;
+use pit_num::{NoMemory, RESOURCES_MAX};
 use pit_refuse::Refusing;
 use pit_sample::{Fact, Size, TINY, TINY_PLACES, TINY_SIZE, tell};
 use std::alloc::{Allocator, Global};
@@ -13,7 +13,7 @@ use std::process::Abort;
 type Heap<'a> = &'a Refusing<LocalHeap>;
 
 /// The bytes of a heap, of which no pit takes half.
-const BYTES: usize = 1_048_576;
+const BYTES: usize = 4_194_304;
 
 /// The builder, which is made anew where memory was refused.
 fn begun<'a>(rt: &impl Abort, heap: Heap<'a>, size: Size) -> Builder<Heap<'a>> {
@@ -134,10 +134,11 @@ fn is_unchanged_where_memory_is_refused(rt: HostRuntime) {
     panic!(rt; "never whole");
 }
 
+/// As many resources as there may be.
 const LARGE: Size = Size {
     blocks: 300,
     periods: 2,
-    resources: 8,
+    resources: RESOURCES_MAX,
 };
 
 /// The first hundred blocks, but the last of them first.
@@ -149,11 +150,17 @@ fn listed(rt: &impl Abort, alloc: Global) -> Vec<u32> {
     listed
 }
 
-/// The coefficients of each resource, of 100 blocks one behind the other: the list of each block grows after those of others.
+/// What each block takes of a resource.
+fn amount_of(r: u32) -> i32 {
+    r.cast_signed().wrapping_add(1)
+}
+
+/// The coefficients of each resource, of the blocks one behind the other: the list of each block grows after those of others.
 fn tell_coefs<'a>(rt: &impl Abort, heap: Heap<'a>, builder: &mut Builder<Heap<'a>>) {
     for r in 0..LARGE.resources {
-        for b in 0..100u32 {
-            assert_eq!(rt; tell_twice(rt, heap, builder, Coef(b, r, 1)), Ok(()));
+        for b in 0..LARGE.blocks {
+            let fact = Coef(b, r, amount_of(r));
+            assert_eq!(rt; tell_twice(rt, heap, builder, fact), Ok(()));
         }
     }
 }
@@ -176,16 +183,26 @@ fn set_twice<'a>(
     assert_eq!(rt; builder.set_preds(b, listed), Ok(()));
 }
 
-const COEFS: &[(u32, i64)] = &[
-    (0, 1),
-    (1, 1),
-    (2, 1),
-    (3, 1),
-    (4, 1),
-    (5, 1),
-    (6, 1),
-    (7, 1),
-];
+/// Whether a block has a coefficient of each resource, rising.
+fn has_each(coefs: &[(u32, i64)]) -> bool {
+    let mut next = 0;
+    for (r, v) in coefs {
+        if *r != next || *v != i64::from(amount_of(next)) {
+            return false;
+        }
+        next = next.wrapping_add(1);
+    }
+    next == LARGE.resources
+}
+
+fn has_coefs<A: Allocator + Copy + Drop>(pit: &Instance<A>) -> bool {
+    for b in 0..pit.blocks() {
+        if !has_each(pit.coefs(b)) {
+            return false;
+        }
+    }
+    true
+}
 
 /// Whether the blocks have these, rising.
 fn is_rising(blocks: &[u32], first: u32, count: usize) -> bool {
@@ -199,13 +216,13 @@ fn is_rising(blocks: &[u32], first: u32, count: usize) -> bool {
     blocks.len() == count
 }
 
-/// Whether each of the first hundred blocks has its coefficients and its successors.
+/// Whether each block has its coefficients, and each of the first hundred its successors.
 fn is_large<A: Allocator + Copy + Drop>(pit: &Instance<A>) -> bool {
-    if pit.blocks() != 300 {
+    if pit.blocks() != 300 || !has_coefs(pit) {
         return false;
     }
     for b in 0..100u32 {
-        if pit.coefs(b) != COEFS || !is_rising(pit.succs(b), 200, 20) {
+        if !is_rising(pit.succs(b), 200, 20) {
             return false;
         }
     }
@@ -227,7 +244,7 @@ fn is_large_whole(rt: &impl Abort, alloc: Global, number: u64, listed: &[u32]) -
     is_whole(rt, &heap)
 }
 
-/// The same of lists of coefficients that grow in turn, and of a hundred predecessors, which are sorted.
+/// The same of lists of coefficients that grow in turn, up to the greatest, and of a hundred predecessors, which are sorted.
 #[test]
 fn is_unchanged_where_memory_for_many_is_refused(rt: HostRuntime) {
     let listed = listed(&rt, rt.alloc());

@@ -3,6 +3,8 @@ use pit_num::{Out, WriteFault};
 use pit_sample::Narrow;
 use pit_text::write_solution;
 use std::alloc::Global;
+use std::fmt::Write;
+use std::process::Abort;
 
 const TEXTS: &[(&[Option<u32>], &[u8])] = &[
     (&[], b""),
@@ -29,17 +31,72 @@ fn texts(rt: HostRuntime) {
     }
 }
 
-/// Whether a device with this room gets that much of the text.
-fn is_front(alloc: Global, room: usize) -> bool {
-    let mut out = Narrow::new(alloc, 5, room);
-    let answer = write_solution(&mut out, SCHEDULE);
-    answer == Err(WriteFault) && Some(out.held()) == TEXT.get(..room)
+/// Whether a device that takes so much at once, and has this room, gets that much of the text.
+fn is_front(
+    alloc: Global,
+    periods: &[Option<u32>],
+    text: &[u8],
+    piece: usize,
+    room: usize,
+) -> bool {
+    let mut out = Narrow::new(alloc, piece, room);
+    let answer = write_solution(&mut out, periods);
+    answer == Err(WriteFault) && Some(out.held()) == text.get(..room)
 }
 
 // A device that fails behind so many bytes has got exactly those.
 #[test]
 fn failing_behind_each_byte(rt: HostRuntime) {
     for room in 0..TEXT.len() {
-        assert!(rt; is_front(rt.alloc(), room), "at {room}");
+        assert!(rt; is_front(rt.alloc(), SCHEDULE, TEXT, 5, room), "at {room}");
+    }
+}
+
+/// The number of blocks of a long schedule, whose text is past two chunks of 8,192 bytes.
+const BLOCKS: u32 = 2_000;
+
+/// Each third block has none, and the periods of others have up to ten digits.
+fn period_of(b: u32) -> Option<u32> {
+    if b % 3 == 2 {
+        return None;
+    }
+    Some(b.wrapping_mul(2_654_435_761))
+}
+
+fn long_schedule(rt: &impl Abort, alloc: Global) -> Vec<Option<u32>> {
+    let mut periods = Vec::new(alloc);
+    for b in 0..BLOCKS {
+        assert!(rt; periods.push(period_of(b)).is_ok());
+    }
+    periods
+}
+
+/// Its lines, each formatted by itself.
+fn long_text(rt: &impl Abort, alloc: Global) -> String {
+    let mut text = String::new(alloc);
+    for b in 0..BLOCKS {
+        if let Some(t) = period_of(b) {
+            assert!(rt; writeln!(text, "{b} {t}").is_ok());
+        }
+    }
+    text
+}
+
+/// Rooms at and round the ends of chunks.
+const ROOMS: &[usize] = &[0, 1, 8_150, 8_170, 8_191, 8_192, 8_193, 16_384];
+
+// The device is given several chunks. One that fails between them has got exactly the bytes before.
+#[test]
+fn past_a_chunk(rt: HostRuntime) {
+    let periods = long_schedule(&rt, rt.alloc());
+    let text = long_text(&rt, rt.alloc());
+    assert_written(&rt, rt.alloc(), &periods, text.as_bytes());
+}
+
+fn assert_written(rt: &impl Abort, alloc: Global, periods: &[Option<u32>], text: &[u8]) {
+    assert!(rt; text.len() > 16_384);
+    assert!(rt; is_text(alloc, periods, text));
+    for room in ROOMS {
+        assert!(rt; is_front(alloc, periods, text, 10_000, *room), "at {room}");
     }
 }
