@@ -256,3 +256,24 @@ fn is_unchanged_where_memory_for_many_is_refused(rt: HostRuntime) {
     }
     panic!(rt; "never whole");
 }
+
+/// Empty lists take fewer bytes than there are blocks.
+fn assert_bits<'a>(rt: &impl Abort, heap: Heap<'a>, builder: &mut Builder<Heap<'a>>) {
+    let before = heap.used();
+    for b in 0..LARGE.blocks {
+        assert_eq!(rt; builder.set_preds(b, &[]), Ok(()));
+    }
+    assert!(rt; heap.used().saturating_sub(before) < 300);
+}
+
+fn empty_lists(rt: &impl Abort, heap: Heap<'_>) {
+    let mut builder = begun(rt, heap, LARGE);
+    assert_bits(rt, heap, &mut builder);
+}
+
+/// A block that has no predecessors takes a bit, and no row among those of the others.
+#[test]
+fn is_a_bit_for_an_empty_list(rt: HostRuntime) {
+    let heap = Refusing::over_heap(rt.alloc(), BYTES, 0).expect(&rt, "a heap");
+    empty_lists(&rt, &heap);
+}
