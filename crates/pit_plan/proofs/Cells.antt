@@ -19,9 +19,9 @@ some-resource periods zero cell within = absurd (omega (arith, within, mul-zero 
 some-resource periods (suc n) cell within = omega arith
 
 -- each cell is that of a resource in a period
-pub place-known : (pit : Pit) (cell : ℕ) → cell < pit.periods * pit.resources
+pub pair-known : (pit : Pit) (cell : ℕ) → cell < pit.periods * pit.resources
     → (cell % pit.resources < pit.resources) × (cell / pit.resources < pit.periods) × (cell_of pit (cell % pit.resources) (cell / pit.resources) ≡ cell)
-place-known pit cell within =
+pair-known pit cell within =
     let whole : cell / pit.resources * pit.resources + cell % pit.resources ≡ cell = div-add-mod' cell pit.resources in
     let period : cell / pit.resources < pit.periods =
     elim (leb_tells pit.periods (cell / pit.resources)) [ inl past ↦ absurd (omega (arith, mul-le-mul_right pit.resources past.1, whole, within)) | inr below ↦ below.1 ] in

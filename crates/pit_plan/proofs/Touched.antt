@@ -22,7 +22,7 @@ use Rattle.pit_plan.proofs.Least.{least-lesser}
 use Rattle.pit_plan.proofs.Good.{within-from_none}
 use Rattle.pit_plan.proofs.Same.{same-load}
 use Rattle.pit_plan.proofs.Named.{Once, absent-before, laid_over-more, named-keeps, named-own, named-before, same-eq}
-use Rattle.pit_plan.proofs.Cells.{place-known}
+use Rattle.pit_plan.proofs.Cells.{pair-known}
 use Rattle.pit_model.proofs.CallerLemmas.{cells_apart, same_resource}
 
 -- ---- a cell that is set
@@ -120,9 +120,9 @@ least-after pit s writes found ordered least =
 -- ---- cells
 
 -- the period and the resource of a cell
-place : (pit : Pit) (cell x y : ℕ) → cell < pit.periods * pit.resources → y < pit.resources → cell_of pit y x ≡ cell → (x ≡ cell / pit.resources) × (y ≡ cell % pit.resources)
-place pit cell x y within ly is =
-    let known = place-known pit cell within in
+pair-of : (pit : Pit) (cell x y : ℕ) → cell < pit.periods * pit.resources → y < pit.resources → cell_of pit y x ≡ cell → (x ≡ cell / pit.resources) × (y ≡ cell % pit.resources)
+pair-of pit cell x y within ly is =
+    let known = pair-known pit cell within in
     let same = cells_apart pit.resources y (cell % pit.resources) x (cell / pit.resources) ly known.0 (is ∙ sym known.2) in
     (same, same_resource pit.resources (cell % pit.resources) y (cell / pit.resources) x (known.2 ∙ sym is) (sym same))
 
@@ -147,12 +147,12 @@ pub cell-over : (pit : Pit) (limits : ℕ → Option ℤ) (cells : List (ℕ × 
 cell-over pit limits cells cell m n load limit m_is n_is within at upper fails = rw (m_is, n_is) (record {
   passes = ((known.1, known.0, (load, ap (λ (k : ℕ). lookup (nat_eq k) cells) known.2 ∙ at, ap (is_within load) (ap limits known.2 ∙ upper) ∙ fails)), known.2);
   first = λ p is before.
-      let there = place pit cell p.0 p.1 within is.0.1 is.1 in
+      let there = pair-of pit cell p.0 p.1 within is.0.1 is.1 in
       elim before [ inl less ↦ omega (arith, less, there.0) | inr same ↦ omega (arith, same.1, there.1) ];
 })
   where
     known : (cell % pit.resources < pit.resources) × (cell / pit.resources < pit.periods) × (cell_of pit (cell % pit.resources) (cell / pit.resources) ≡ cell)
-    known = place-known pit cell within
+    known = pair-known pit cell within
 
 -- one more cell
 pub over-next-cell : (pit : Pit) (lim : ℕ → ℕ → Option ℤ) (cells : List (ℕ × ℤ)) (i : ℕ) (least found : Option (ℕ × ℕ)) → i < length cells
