@@ -6,7 +6,7 @@ use Rattle.std.proofs.lemmas.List.{drop_all, nil_from_length, length-take, take-
 use Rattle.pit_model.specs.Pit.{preds_in}
 use Rattle.pit_model.specs.PredecessorRows.{empty_row, cells_of, rows_in, IsWithinCells, ArePredecessorRows}
 use Rattle.pit_model.specs.declared.predecessors.Row.{Row}
-use Rattle.pit_model.proofs.BlockSets.{IsWithBlock, IsWithBlock-insert, length-known_in, get_or-known_in, known_in-same, known_in-with, below-known, known-view}
+use Rattle.pit_model.proofs.BlockSets.{IsWithBlock, IsWithBlock-insert, length-member_values, get_or-member_values, member_values-same, member_values-with, below-known, known-view}
 use Rattle.pit_model.proofs.Rows.{get_or-filled_up, length-filled_up, set-each}
 
 cells_of-row : (cells : List ℕ) (rows : List Row) (b : ℕ) (row : Row) → get_or rows b empty_row ≡ row → cells_of cells rows b ≡ slice_range cells row.start row.end
@@ -19,10 +19,10 @@ pub preds_in-rows : (blocks : ℕ) (known : List Bool) (cells : List ℕ) (rows 
 preds_in-rows blocks known cells rows value kept shown b =
     ap (λ (v : List (Option (List ℕ))). preds_in v b) (sym shown)
     ∙ (elim (cases_lt b blocks) as (λ _. preds_in (rows_in blocks known cells rows) b ≡ cells_of cells rows b) [
-      | inl within ↦ ap (λ (o : Option (List ℕ)). unwrap_or o []) (get_or-known_in blocks known (cells_of cells rows) b within) ∙ by (get_or known b false) (kept.unset b)
+      | inl within ↦ ap (λ (o : Option (List ℕ)). unwrap_or o []) (get_or-member_values blocks known (cells_of cells rows) b within) ∙ by (get_or known b false) (kept.unset b)
       | inr past ↦
           let few = kept.few in
-          ap (λ (o : Option (List ℕ)). unwrap_or o []) (get_or_past (rows_in blocks known cells rows) b None (omega (arith, length-known_in blocks known (cells_of cells rows))))
+          ap (λ (o : Option (List ℕ)). unwrap_or o []) (get_or_past (rows_in blocks known cells rows) b None (omega (arith, length-member_values blocks known (cells_of cells rows))))
           ∙ sym (cells_of-row cells rows b empty_row (get_or_past rows b empty_row (omega arith)))
     ])
   where
@@ -50,7 +50,7 @@ ArePredecessorRows-none blocks known cells rows none = record {
 pub rows_in-same : (blocks : ℕ) (before after : List Bool) (cells cells' : List ℕ) (rows filled : List Row) → ((k : ℕ) → get_or after k false ≡ get_or before k false) → cells' ≡ cells → ((k : ℕ) → get_or filled k empty_row ≡ get_or rows k empty_row)
     → rows_in blocks after cells' filled ≡ rows_in blocks before cells rows
 rows_in-same blocks before after cells cells' rows filled sets same each =
-    known_in-same blocks before after (cells_of cells rows) (cells_of cells' filled) sets (λ k. ap₂ (λ (l : List ℕ) (row : Row). slice_range l row.start row.end) same (each k))
+    member_values-same blocks before after (cells_of cells rows) (cells_of cells' filled) sets (λ k. ap₂ (λ (l : List ℕ) (row : Row). slice_range l row.start row.end) same (each k))
 
 -- ---- a block with no predecessors is set
 
@@ -67,7 +67,7 @@ rows_in-empty blocks b before room after cells rows value kept shown block none 
     let below : b < blocks = below-known blocks before (cells_of cells rows) value b shown block in
     let out : get_or before b false ≡ false = known-view blocks before (cells_of cells rows) value b shown block ∙ ap is_some none in
     let with : IsWithBlock before after b = IsWithBlock-insert blocks before room after b below roomier wide inserted in
-    known_in-with blocks before after (cells_of cells rows) (cells_of cells rows) b [] below with (cells_of-row cells rows b empty_row (kept.unset b out)) (λ k other. refl)
+    member_values-with blocks before after (cells_of cells rows) (cells_of cells rows) b [] below with (cells_of-row cells rows b empty_row (kept.unset b out)) (λ k other. refl)
     ∙ ap (λ (v : List (Option (List ℕ))). set v b (Some [])) shown
 
 -- ---- a block's row is put behind the others
@@ -121,7 +121,7 @@ module _ (blocks b old : ℕ) (before room after : List Bool) (cells cells' row 
 
   pub rows_in-row : rows_in blocks after cells' (set filled b place) ≡ set value b (Some row)
   rows_in-row =
-      known_in-with blocks before after (cells_of cells rows) (cells_of cells' (set filled b place)) b row below with own_cells other_cells
+      member_values-with blocks before after (cells_of cells rows) (cells_of cells' (set filled b place)) b row below with own_cells other_cells
       ∙ ap (λ (v : List (Option (List ℕ))). set v b (Some row)) shown
 
   longer : length cells ≤ length cells'

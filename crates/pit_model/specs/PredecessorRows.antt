@@ -1,6 +1,6 @@
 -- The predecessors of each block, in one array of cells.
 use Rattle.std.specs.Prelude.{◌≡◌, ℕ, ◌≤◌, Bool, false, List, length, slice_index_or, slice_range, Option}
-use Rattle.pit_model.specs.BlockSet.{known_in}
+use Rattle.pit_model.specs.BlockSet.{member_values}
 use Rattle.pit_model.specs.declared.predecessors.Row.{Row}
 
 abbrev pub empty_row : Row
@@ -12,7 +12,7 @@ cells_of cells rows block = slice_range cells (slice_index_or rows block empty_r
 
 -- those of each block that is set
 abbrev pub rows_in : ℕ → List Bool → List ℕ → List Row → List (Option (List ℕ))
-rows_in blocks set cells rows = known_in blocks set (cells_of cells rows)
+rows_in blocks set cells rows = member_values blocks set (cells_of cells rows)
 
 pub record IsWithinCells (cells : ℕ) (row : Row) : Type 0 where
   pub rising : row.start ≤ row.end
