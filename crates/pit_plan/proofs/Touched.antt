@@ -13,7 +13,7 @@ use Rattle.pit_num.specs.Least.{ComesBefore, IsLeast, IsLeastOf}
 use Rattle.pit_num.proofs.CallerLemmas.{least-same}
 use Rattle.pit_model.specs.Pit.{Pit, cell_of}
 use Rattle.pit_plan.specs.Schedule.{Writes, by_block, load_of, in_order, is_within}
-use Rattle.pit_plan.specs.Totals.{Tallied, IsTally, AreLoads, Raises, cell_load, at_cell, with_block}
+use Rattle.pit_plan.specs.Totals.{Tallied, IsTally, AreLoads, Raises, cell_load, at_cell, with_period}
 use Rattle.pit_plan.specs.Touched.{laid_over, lesser_of, IsNamed, IsOutNear, IsOverAt, IsLeastOver, AreMoved, SetsCell, LooksAt}
 use Rattle.pit_plan.specs.Breaches.{IsOrdered, IsUnderLimits, IsOutOfOrder, IsOverLimit, IsFirstBreach}
 use Rattle.pit_plan.specs.declared.breach.Breach.TheVariants.{Precedence, Over}
@@ -52,11 +52,11 @@ laid_over-next periods writes k once within =
 
 -- once its block is out of that and in its new one, the loads are those after the write
 pub loads-next : (pit : Pit) (periods : List (Option ℕ)) (writes : Writes) (k : ℕ) (loads : ℕ → ℕ → ℤ) → Once writes → k < length writes
-    → AreLoads pit (with_block (with_block (laid_over (by_block periods) (take k writes)) (get_or writes k (0, None)).0 None) (get_or writes k (0, None)).0 (get_or writes k (0, None)).1) loads
+    → AreLoads pit (with_period (with_period (laid_over (by_block periods) (take k writes)) (get_or writes k (0, None)).0 None) (get_or writes k (0, None)).0 (get_or writes k (0, None)).1) loads
     → AreLoads pit (laid_over (by_block periods) (take (k + 1) writes)) loads
 loads-next pit periods writes k loads once within are = λ r t lr lt. are r t lr lt ∙ same-load pit _ (laid_over (by_block periods) (take (k + 1) writes)) r t (λ x _. sym (laid_over-more (by_block periods) writes k x (0, None) once within ∙ sym (twice x)))
   where
-    twice : (x : ℕ) → with_block (with_block (laid_over (by_block periods) (take k writes)) (get_or writes k (0, None)).0 None) (get_or writes k (0, None)).0 (get_or writes k (0, None)).1 x
+    twice : (x : ℕ) → with_period (with_period (laid_over (by_block periods) (take k writes)) (get_or writes k (0, None)).0 None) (get_or writes k (0, None)).0 (get_or writes k (0, None)).1 x
         ≡ cond (nat_eq x (get_or writes k (0, None)).0) (get_or writes k (0, None)).1 (laid_over (by_block periods) (take k writes) x)
     twice x =
         elim (nat_eq x (get_or writes k (0, None)).0) as (λ t. cond t (get_or writes k (0, None)).1 (cond t None (laid_over (by_block periods) (take k writes) x)) ≡ cond t (get_or writes k (0, None)).1 (laid_over (by_block periods) (take k writes) x)) [

@@ -57,5 +57,5 @@ abbrev pub Raises : (ℕ → ℤ) → ℕ → ℤ → (ℕ → ℤ) → Type 0
 Raises old cell by new = (k : ℕ) → new k ≡ (if nat_eq cell k then old cell +ℤ by else old k)
 
 -- the schedule with one block's period replaced
-abbrev pub with_block : (ℕ → Option ℕ) → ℕ → Option ℕ → ℕ → Option ℕ
-with_block schedule b period x = if nat_eq x b then period else schedule x
+abbrev pub with_period : (ℕ → Option ℕ) → ℕ → Option ℕ → ℕ → Option ℕ
+with_period schedule b period x = if nat_eq x b then period else schedule x

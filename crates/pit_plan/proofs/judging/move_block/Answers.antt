@@ -1,8 +1,8 @@
 use Rattle.std.proofs.Common.{ℕ, ℤ, List, None, true, false, length, take, get_or, sym, ap, ◌∙◌}
 use Rattle.pit_plan.specs.Schedule.{by_block}
-use Rattle.pit_plan.specs.Totals.{cell_load, at_cell, with_block}
+use Rattle.pit_plan.specs.Totals.{cell_load, at_cell, with_period}
 use Rattle.pit_plan.specs.Touched.{laid_over}
-use Rattle.pit_plan.proofs.Moved.{shifted, room-for, with_block-here, period-in_range}
+use Rattle.pit_plan.proofs.Moved.{shifted, room-for, with_period-here, period-in_range}
 use Rattle.pit_plan.proofs.Touched.{laid_over-next, loads-next}
 use Rattle.pit_plan.proofs.judging.move_block.Goals as goal
 
@@ -42,7 +42,7 @@ shift-requires-2-clause-room g c =
     let new = at_cell pit (of-loads c.shift.new.loads.kept.now c.shift.new.loads.cells.entries) in
     let out = shifted pit s w.0 c.period.result false old new below
     (laid_over-next c.args.tally.now.periods c.args.writes.now c.args.k c.requires.fits.once c.requires.within ∙ sym c.period.ensures) c.requires.moved.loads c.in_ok-shift.ensures.moves in
-    room-for pit (with_block s w.0 None) w.0 w.1 true new c.blocks-blocks.ensures.sound below (with_block-here s w.0 None) out (c.requires.fits.values c.args.k (0, None) c.requires.within)
+    room-for pit (with_period s w.0 None) w.0 w.1 true new c.blocks-blocks.ensures.sound below (with_period-here s w.0 None) out (c.requires.fits.values c.args.k (0, None) c.requires.within)
 
 pub returns : goal.returns
 returns g c =
@@ -58,6 +58,6 @@ returns g c =
     record {
       same = c.in_ok-shift-2.ensures.stays ∙ (c.in_ok-shift.ensures.stays ∙ c.requires.moved.same);
       loads = loads-next pit c.args.tally.now.periods c.args.writes.now c.args.k last c.requires.fits.once c.requires.within
-          (shifted pit (with_block s w.0 None) w.0 w.1 true new last below (with_block-here s w.0 None) out c.in_ok-shift-2.ensures.moves);
+          (shifted pit (with_period s w.0 None) w.0 w.1 true new last below (with_period-here s w.0 None) out c.in_ok-shift-2.ensures.moves);
       in_range = c.in_ok-shift-2.ensures.sound;
     }
