@@ -12,7 +12,7 @@ use Rattle.pit_model.specs.Pit.{Pit, coefs_of, cell_of}
 use Rattle.pit_model.proofs.CallerLemmas.{cells_apart, same_resource}
 use Rattle.pit_plan.specs.Schedule.{coef_in, coef_of}
 use Rattle.pit_plan.specs.Totals.{cell_load, at_cell, moved_by, Moves, MovesOne, Raises}
-use Rattle.pit_plan.proofs.Named.{Once, absent-before, lookup-at, laid_over-more, same-eq, other-eq}
+use Rattle.pit_plan.proofs.Named.{Once, absent-before, lookup-at, overlaid_item-more, same-eq, other-eq}
 
 some-resource : (periods resources cell : ℕ) → cell < periods * resources → 0 < resources
 some-resource periods zero cell within = absurd (omega (arith, within, mul-zero periods))
@@ -59,7 +59,7 @@ pub moves-more : (pit : Pit) (old : ℕ → ℕ → ℤ) (t : ℕ) (up : Bool) (
     → Moves pit old t (λ r. moved_by up (coef_in (take (k + 1) row) r)) new
 moves-more pit old t up row k d now new once within lr moves one = record {
   moved = λ r lq.
-      let more = laid_over-more (λ _. pos 0) row k r d once within in
+      let more = overlaid_item-more (λ _. pos 0) row k r d once within in
       elim (eqb_tells r (get_or row k d).0) [
         | inl here ↦
             let before = none-before row k d once within in

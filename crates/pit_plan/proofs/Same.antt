@@ -11,7 +11,7 @@ use Rattle.pit_plan.specs.Standing.{Standing, IsPlanOf, limit_in_force}
 use Rattle.pit_plan.specs.Breaches.{IsFirstBreach, IsOrdered, IsOutOfOrder, IsOverLimit, IsBreachOf, IsGood, IsGoodNow}
 use Rattle.pit_plan.specs.Totals.{at_cell}
 use Rattle.pit_plan.specs.Limits.{cell_limit, by_cell}
-use Rattle.pit_plan.specs.Touched.{laid_over}
+use Rattle.pit_plan.specs.Touched.{overlaid_item}
 use Rattle.pit_plan.specs.Shortfalls.{short_at, shorts_in, shortfalls_of}
 use Rattle.std.specs.List.{range_with_len}
 use Rattle.pit_plan.specs.declared.short.Short.{Short}
@@ -106,20 +106,20 @@ breach-of inside plan periods x is same sound first commits =
 -- and what is found of these with a commit laid over them, where they are good, is found of what its commits and that one leave
 pub breach-after : (inside plan : Standing) (w : Commit) (x : Option Breach) → inside ≡ plan → IsSound inside.pit → RevisionsFit inside.pit.resources inside.pit.periods w.revises
     → (IsGood inside.pit (by_block inside.periods) (limit_in_force inside)
-    → IsFirstBreach inside.pit (laid_over (by_block inside.periods) w.writes) (at_cell inside.pit (laid_over (cell_limit inside.limits) (by_cell inside.pit w.revises))) x)
+    → IsFirstBreach inside.pit (overlaid_item (by_block inside.periods) w.writes) (at_cell inside.pit (overlaid_item (cell_limit inside.limits) (by_cell inside.pit w.revises))) x)
     → IsGoodNow plan → (commits : List Commit) → IsPlanOf plan commits → IsBreachOf plan.pit (commits ++ w ∷ []) x
 breach-after inside plan w x is sound fit first good commits =
     subst (λ (p : Standing). IsGoodNow p → IsPlanOf p commits → IsBreachOf p.pit (commits ++ w ∷ []) x) is
     (λ now st. same-limits inside.pit (held_period (commits ++ w ∷ [])) after (limit_of inside.pit (commits ++ w ∷ [])) x
     (λ r t lr lt. ap (λ (l : Option (Option ℤ)). unwrap_or l (limit_in_force inside r t)) (lookup-cell inside.pit r t w.revises lr fit)
     ∙ (ap (unwrap_or (revision_of w r t)) (st.limit r t lr lt) ∙ sym (limit_of-push inside.pit commits w r t)))
-    (same-breach inside.pit (laid_over (by_block inside.periods) w.writes) (held_period (commits ++ w ∷ [])) after x sound
+    (same-breach inside.pit (overlaid_item (by_block inside.periods) w.writes) (held_period (commits ++ w ∷ [])) after x sound
     (λ b below. ap (unwrap_or (write_of w b)) (st.period b below) ∙ sym (held_period-push commits w b))
     (first (same-limits inside.pit (by_block inside.periods) (limit_of inside.pit commits) (limit_in_force inside) None (λ r t lr lt. sym (st.limit r t lr lt))
     (same-breach inside.pit (held_period commits) (by_block inside.periods) (limit_of inside.pit commits) None sound (λ b below. sym (st.period b below)) (now commits st)))))) good
   where
     after : ℕ → ℕ → Option ℤ
-    after = at_cell inside.pit (laid_over (cell_limit inside.limits) (by_cell inside.pit w.revises))
+    after = at_cell inside.pit (overlaid_item (cell_limit inside.limits) (by_cell inside.pit w.revises))
 
 pub load-of : (inside plan : Standing) (periods : List (Option ℕ)) (r t : ℕ) (load : ℤ) → inside ≡ plan → periods ≡ inside.periods → load ≡ load_of inside.pit (by_block periods) r t
     → (commits : List Commit) → IsPlanOf plan commits → load ≡ load_of plan.pit (held_period commits) r t

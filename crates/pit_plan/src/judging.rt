@@ -8,7 +8,7 @@ ghost use Rattle.pit_plan.specs.Schedule.{by_block};
 ghost use Rattle.pit_plan.specs.Breaches.{IsFirstBreach, IsGood, IsOutOfOrder};
 ghost use Rattle.pit_plan.specs.Totals.{cell_load, at_cell, IsTally};
 ghost use Rattle.pit_plan.specs.Limits.{cell_limit, by_cell};
-ghost use Rattle.pit_plan.specs.Touched.{laid_over, lesser_of, IsOutNear, IsOverAt, IsLeastOver, IsNamed, AreMoved, SetsCell, LooksAt};
+ghost use Rattle.pit_plan.specs.Touched.{overlaid_item, lesser_of, IsOutNear, IsOverAt, IsLeastOver, IsNamed, AreMoved, SetsCell, LooksAt};
 
 use crate::breach::Breach;
 use crate::limits::Limits;
@@ -35,7 +35,7 @@ struct Overlay<'a, A: Allocator + Copy + Drop> {
 }
 
 impl<'a, A: Allocator + Copy + Drop> Schedule for Overlay<'a, A> {
-    ghost period_at = { λ s. laid_over (by_block s.periods.now) s.writes.entries };
+    ghost period_at = { λ s. overlaid_item (by_block s.periods.now) s.writes.entries };
 
     ghost count = { λ s. length s.periods.now };
 
@@ -55,7 +55,7 @@ struct RevisedLimits<'a, A: Allocator + Copy + Drop> {
 }
 
 impl<'a, A: Allocator + Copy + Drop> Limits for RevisedLimits<'a, A> {
-    ghost limit_in = { λ limits. laid_over (cell_limit limits.kept.now) limits.cells.entries };
+    ghost limit_in = { λ limits. overlaid_item (cell_limit limits.kept.now) limits.cells.entries };
 
     ghost cells = { λ limits. length limits.kept.now };
 
@@ -75,7 +75,7 @@ struct MovedLoads<'a, A: Allocator + Copy + Drop> {
 }
 
 impl<'a, A: Allocator + Copy + Drop> Loads for MovedLoads<'a, A> {
-    ghost load_in = { λ loads. laid_over (cell_load loads.kept.now) loads.cells.entries };
+    ghost load_in = { λ loads. overlaid_item (cell_load loads.kept.now) loads.cells.entries };
 
     ghost base = { λ loads. loads.kept.now };
 
@@ -106,8 +106,8 @@ pub(crate) fn first_breach_after<A: Allocator + Copy + Drop>(
     requires writes { Fits pit.now.blocks pit.now.periods writes.now }
     requires revises { RevisionsFit pit.now.resources pit.now.periods (revisions_of revises.now) }
     ensures breach { IfOk result (λ breach. IsGood pit.now (by_block tally.now.periods) (at_cell pit.now (cell_limit limits.now))
-        → IsFirstBreach pit.now (laid_over (by_block tally.now.periods) writes.now)
-        (at_cell pit.now (laid_over (cell_limit limits.now) (by_cell pit.now (revisions_of revises.now)))) breach) }
+        → IsFirstBreach pit.now (overlaid_item (by_block tally.now.periods) writes.now)
+        (at_cell pit.now (overlaid_item (cell_limit limits.now) (by_cell pit.now (revisions_of revises.now)))) breach) }
     ensures refused { IfErr result (λ e. (writes.now ≢ []) ⊎ (revises.now ≢ [])) }
 {
     let after = Overlay {
@@ -295,7 +295,7 @@ fn look_at<'a, A: Allocator + Copy + Drop>(
 ) -> Result<(), NoMemory>
     requires within { cell < length loads.old.kept.now }
     ensures stays { OnOk result (loads.new.kept.now ≡ loads.old.kept.now) }
-    ensures sets { OnOk result (SetsCell loads.old.cells.entries cell (laid_over (cell_load loads.old.kept.now) loads.old.cells.entries cell) loads.new.cells.entries) }
+    ensures sets { OnOk result (SetsCell loads.old.cells.entries cell (overlaid_item (cell_load loads.old.kept.now) loads.old.cells.entries cell) loads.new.cells.entries) }
 {
     let load = load_in(loads.kept, &loads.cells, cell);
     loads.cells.insert(cell, load)?;
@@ -305,7 +305,7 @@ fn look_at<'a, A: Allocator + Copy + Drop>(
 /// The load of a cell: as it was moved, or else as it is kept.
 fn load_in<A: Allocator + Copy + Drop>(kept: &[i128], cells: &Cells<A>, cell: u32) -> i128
     requires { cell < length kept.now }
-    ensures { result ≡ laid_over (cell_load kept.now) cells.now.entries cell }
+    ensures { result ≡ overlaid_item (cell_load kept.now) cells.now.entries cell }
 {
     match cells.get(&cell) {
         Some(load) => *load,
