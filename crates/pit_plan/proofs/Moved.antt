@@ -14,7 +14,7 @@ use Rattle.pit_num.proofs.CallerLemmas.{factor_le}
 use Rattle.pit_plan.proofs.Bounds.{IsWithin, zero-within, product-within}
 use Rattle.pit_plan.specs.Sums.{total}
 use Rattle.pit_plan.specs.Schedule.{by_block, coef_in, coef_of, share, load_of, earned_in, value_of, is_in}
-use Rattle.pit_plan.specs.Totals.{cell_load, at_cell, AreLoads, AreTotals, Tallied, IsTally, MovesIn, moved_by, with_period}
+use Rattle.pit_plan.specs.Totals.{cell_load, at_cell, AreLoads, AreTotals, Tallied, IsTally, MovesIn, signed_coef, with_period}
 use Rattle.pit_plan.proofs.Named.{same-eq, other-eq}
 use Rattle.pit_plan.proofs.Sums.{total-same, total-more, total-nothing}
 use Rattle.pit_plan.proofs.Same.{same-load, same-value}
@@ -141,7 +141,7 @@ moved-in pit old new (Some u) by r t lr moves =
 
 -- into a period, or out of it
 pub shifted : (pit : Pit) (s : ℕ → Option ℕ) (b : ℕ) (p : Option ℕ) (up : Bool) (old new : ℕ → ℕ → ℤ) → b < pit.blocks → s b ≡ cond up None p → AreLoads pit s old
-    → MovesIn pit old p (λ r. moved_by up (coef_of pit b r)) new → AreLoads pit (with_period s b (cond up p None)) new
+    → MovesIn pit old p (λ r. signed_coef up (coef_of pit b r)) new → AreLoads pit (with_period s b (cond up p None)) new
 shifted pit s b p true old new below is are moves = λ r t lr lt.
     let changed = load-with pit s b p None r t below is in
     let moved = moved-in pit old new p (λ q. coef_of pit b q) r t lr moves in
@@ -153,7 +153,7 @@ shifted pit s b p false old new below is are moves = λ r t lr lt.
     omega (arith, ints, changed, are r t lr lt, moved, opposite)
 
 room : (pit : Pit) (s : ℕ → Option ℕ) (b t r : ℕ) (up : Bool) (load : ℤ) → IsSound pit → b < pit.blocks → s b ≡ cond up None (Some t) → load ≡ load_of pit s r t
-    → FitsSigned w128 (load +ℤ moved_by up (coef_of pit b r))
+    → FitsSigned w128 (load +ℤ signed_coef up (coef_of pit b r))
 room pit s b t r true load sound below is kept =
     let changed = load-with pit s b (Some t) None r t below is in
     let share = ap (λ x. cond x (coef_of pit b r) (pos 0)) (is_in-same t) in
@@ -167,12 +167,12 @@ room pit s b t r false load sound below is kept =
 
 -- so there is room for a block where it comes to, or where it leaves
 pub room-for : (pit : Pit) (s : ℕ → Option ℕ) (b : ℕ) (p : Option ℕ) (up : Bool) (loads : ℕ → ℕ → ℤ) → IsSound pit → b < pit.blocks → s b ≡ cond up None p → AreLoads pit s loads
-    → IfSome p (λ t. t < pit.periods) → IfSome p (λ t. (r : ℕ) → r < pit.resources → FitsSigned w128 (loads r t +ℤ moved_by up (coef_of pit b r)))
+    → IfSome p (λ t. t < pit.periods) → IfSome p (λ t. (r : ℕ) → r < pit.resources → FitsSigned w128 (loads r t +ℤ signed_coef up (coef_of pit b r)))
 room-for pit s b None up loads sound below is are in_range = tt
 room-for pit s b (Some t) up loads sound below is are in_range = λ r lr. room pit s b t r up (loads r t) sound below is (are r t lr in_range)
 
 pub taken : (pit : Pit) (s : ℕ → Option ℕ) (b : ℕ) (p : Option ℕ) (old new : List ℤ) (sum less : ℤ) → b < pit.blocks → s b ≡ p → AreTotals pit s old sum
-    → MovesIn pit (at_cell pit (cell_load old)) p (λ r. moved_by false (coef_of pit b r)) (at_cell pit (cell_load new)) → less ≡ sum -ℤ earned_in pit b p → AreTotals pit (with_period s b None) new less
+    → MovesIn pit (at_cell pit (cell_load old)) p (λ r. signed_coef false (coef_of pit b r)) (at_cell pit (cell_load new)) → less ≡ sum -ℤ earned_in pit b p → AreTotals pit (with_period s b None) new less
 taken pit s b p old new sum less below is are moves after = record {
   each = shifted pit s b p false (at_cell pit (cell_load old)) (at_cell pit (cell_load new)) below is are.each moves;
   value = let changed = value-with pit s b None p below is in omega (arith, ints, changed, are.value, after);
@@ -185,7 +185,7 @@ sum-out pit s b p sum sound below is kept =
     omega (arith, ints, changed, kept, small.low, small.high, sound.few_blocks)
 
 pub put : (pit : Pit) (s : ℕ → Option ℕ) (b : ℕ) (p : Option ℕ) (old new : List ℤ) (sum more : ℤ) → b < pit.blocks → s b ≡ None → AreTotals pit s old sum
-    → MovesIn pit (at_cell pit (cell_load old)) p (λ r. moved_by true (coef_of pit b r)) (at_cell pit (cell_load new)) → more ≡ sum +ℤ earned_in pit b p → AreTotals pit (with_period s b p) new more
+    → MovesIn pit (at_cell pit (cell_load old)) p (λ r. signed_coef true (coef_of pit b r)) (at_cell pit (cell_load new)) → more ≡ sum +ℤ earned_in pit b p → AreTotals pit (with_period s b p) new more
 put pit s b p old new sum more below is are moves after = record {
   each = shifted pit s b p true (at_cell pit (cell_load old)) (at_cell pit (cell_load new)) below is are.each moves;
   value = let changed = value-with pit s b p None below is in omega (arith, ints, changed, are.value, after);

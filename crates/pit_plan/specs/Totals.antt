@@ -34,8 +34,8 @@ pub record IsTally (pit : Pit) (tally : Tallied) : Type 0 where
   pub totals : AreTotals pit (by_block tally.periods) tally.loads tally.worth
 
 -- a coefficient that is put in, or taken out
-abbrev pub moved_by : Bool → ℤ → ℤ
-moved_by up coef = if up then coef else neg_ℤ coef
+abbrev pub signed_coef : Bool → ℤ → ℤ
+signed_coef up coef = if up then coef else neg_ℤ coef
 
 -- the loads of one period are moved by what `by` says of each resource, and no other is
 pub record Moves (pit : Pit) (old : ℕ → ℕ → ℤ) (t : ℕ) (by : ℕ → ℤ) (new : ℕ → ℕ → ℤ) : Type 0 where
