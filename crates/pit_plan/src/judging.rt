@@ -8,7 +8,7 @@ ghost use Rattle.pit_plan.specs.Schedule.{by_block};
 ghost use Rattle.pit_plan.specs.Breaches.{IsFirstBreach, IsGood, IsOutOfOrder};
 ghost use Rattle.pit_plan.specs.Totals.{cell_load, at_cell, IsTally};
 ghost use Rattle.pit_plan.specs.Limits.{cell_limit, by_cell};
-ghost use Rattle.pit_plan.specs.Touched.{laid_over, lesser_of, IsOutNear, IsOverAt, IsLeastOver, IsNamed, AreMoved, SetsCell, LooksAt};
+ghost use Rattle.pit_plan.specs.Touched.{overlaid_item, lesser_of, IsOutNear, IsOverAt, IsLeastOver, IsNamed, AreMoved, SetsCell, LooksAt};
 
 use crate::breach::Breach;
 use crate::limits::Limits;
@@ -33,7 +33,7 @@ struct Overlay<'a, X: Copy, A: Allocator + Copy + Drop> {
 
 /// Periods, over which writes are laid.
 impl<'a, A: Allocator + Copy + Drop> Schedule for Overlay<'a, Option<u32>, A> {
-    ghost period_at = { λ s. laid_over (by_block s.kept.now) s.pairs.entries };
+    ghost period_at = { λ s. overlaid_item (by_block s.kept.now) s.pairs.entries };
 
     ghost count = { λ s. length s.kept.now };
 
@@ -44,7 +44,7 @@ impl<'a, A: Allocator + Copy + Drop> Schedule for Overlay<'a, Option<u32>, A> {
 
 /// Limits, over which those that are revised are laid, each by its cell.
 impl<'a, A: Allocator + Copy + Drop> Limits for Overlay<'a, Option<i64>, A> {
-    ghost limit_in = { λ limits. laid_over (cell_limit limits.kept.now) limits.pairs.entries };
+    ghost limit_in = { λ limits. overlaid_item (cell_limit limits.kept.now) limits.pairs.entries };
 
     ghost cells = { λ limits. length limits.kept.now };
 
@@ -55,7 +55,7 @@ impl<'a, A: Allocator + Copy + Drop> Limits for Overlay<'a, Option<i64>, A> {
 
 /// Loads, over which those that are moved are laid, each by its cell.
 impl<'a, A: Allocator + Copy + Drop> Loads for Overlay<'a, i128, A> {
-    ghost load_in = { λ loads. laid_over (cell_load loads.kept.now) loads.pairs.entries };
+    ghost load_in = { λ loads. overlaid_item (cell_load loads.kept.now) loads.pairs.entries };
 
     ghost base = { λ loads. loads.kept.now };
 
@@ -73,7 +73,7 @@ impl<'a, A: Allocator + Copy + Drop> Loads for Overlay<'a, i128, A> {
 /// What the pairs say of a number, else what is kept of it.
 fn value_of<X: Copy, A: Allocator + Copy + Drop>(kept: &[X], pairs: &Pairs<X, A>, k: u32) -> X
     requires { k < length kept.now }
-    ensures { (absent : X) → result ≡ laid_over (λ n. slice_index_or kept.now n absent) pairs.now.entries k }
+    ensures { (absent : X) → result ≡ overlaid_item (λ n. slice_index_or kept.now n absent) pairs.now.entries k }
 {
     match pairs.get(&k) {
         Some(value) => *value,
@@ -97,8 +97,8 @@ pub(crate) fn first_breach_after<A: Allocator + Copy + Drop>(
     requires writes { Fits pit.now.blocks pit.now.periods writes.now }
     requires revises { RevisionsFit pit.now.resources pit.now.periods (revisions_of revises.now) }
     ensures breach { IfOk result (λ breach. IsGood pit.now (by_block tally.now.periods) (at_cell pit.now (cell_limit limits.now))
-        → IsFirstBreach pit.now (laid_over (by_block tally.now.periods) writes.now)
-        (at_cell pit.now (laid_over (cell_limit limits.now) (by_cell pit.now (revisions_of revises.now)))) breach) }
+        → IsFirstBreach pit.now (overlaid_item (by_block tally.now.periods) writes.now)
+        (at_cell pit.now (overlaid_item (cell_limit limits.now) (by_cell pit.now (revisions_of revises.now)))) breach) }
     ensures refused { IfErr result (λ e. (writes.now ≢ []) ⊎ (revises.now ≢ [])) }
 {
     let after = Overlay {
@@ -286,7 +286,7 @@ fn look_at<'a, A: Allocator + Copy + Drop>(
 ) -> Result<(), NoMemory>
     requires within { cell < length loads.old.kept.now }
     ensures stays { OnOk result (loads.new.kept.now ≡ loads.old.kept.now) }
-    ensures sets { OnOk result (SetsCell loads.old.pairs.entries cell (laid_over (cell_load loads.old.kept.now) loads.old.pairs.entries cell) loads.new.pairs.entries) }
+    ensures sets { OnOk result (SetsCell loads.old.pairs.entries cell (overlaid_item (cell_load loads.old.kept.now) loads.old.pairs.entries cell) loads.new.pairs.entries) }
 {
     let load = value_of(loads.kept, &loads.pairs, cell);
     loads.pairs.insert(cell, load)?;

@@ -3,7 +3,7 @@ use Rattle.std.proofs.lemmas.List.{take_all}
 use Rattle.pit_num.specs.Fitting.{revisions_of}
 use Rattle.pit_plan.specs.Limits.{by_cell}
 use Rattle.pit_plan.specs.Totals.{cell_load}
-use Rattle.pit_plan.specs.Touched.{LooksAt, SetsCell, laid_over}
+use Rattle.pit_plan.specs.Touched.{LooksAt, SetsCell, overlaid_item}
 use Rattle.pit_plan.proofs.ByCell.{length-cells, cell-at, cell-known, cell-below}
 use Rattle.pit_plan.proofs.Touched.{looks-none, looks-more}
 use Rattle.pit_plan.proofs.judging.look_at_revised.Goals as goal
@@ -22,7 +22,7 @@ loop-resource-preserved g c =
     let cell : c.cell.result ≡ (get_or cells k (0, None)).0 = c.cell.ensures.cell ∙ sym (ap (λ (w : ℕ × Option ℤ). w.0) here) in
     looks-more cells k (0, None) c.args.loads.now.kept.now c.loop-resource.loads.kept.now c.look_at.new.loads.kept.now c.args.loads.now.pairs.entries c.loop-resource.loads.pairs.entries c.look_at.new.loads.pairs.entries
     within (omega (arith, ap (λ (w : ℕ × Option ℤ). w.0) here, cell-below pit _ _ known.0 known.1, c.requires.each)) c.loop-resource.invariant c.in_ok-look_at.ensures.stays
-    (subst (λ (n : ℕ). SetsCell c.loop-resource.loads.pairs.entries n (laid_over (cell_load c.loop-resource.loads.kept.now) c.loop-resource.loads.pairs.entries n) c.look_at.new.loads.pairs.entries) cell c.in_ok-look_at.ensures.sets)
+    (subst (λ (n : ℕ). SetsCell c.loop-resource.loads.pairs.entries n (overlaid_item (cell_load c.loop-resource.loads.kept.now) c.loop-resource.loads.pairs.entries n) c.look_at.new.loads.pairs.entries) cell c.in_ok-look_at.ensures.sets)
 
 pub returns-clause-looks : goal.returns-clause-looks
 returns-clause-looks g c =
