@@ -1,5 +1,5 @@
 //! Each allocation refused in turn, and what is freed after a fault.
-use super::{REPEATED, fault};
+use super::{BLOCK_RANGE, REPEATED, fault};
 use linked_list_allocator::LocalHeap;
 use pit_model::{Builder, Instance};
 use pit_refuse::Refusing;
@@ -208,13 +208,46 @@ fn of_read_solution(rt: HostRuntime) {
     refuse_each(&rt, rt.alloc(), Kind::Solution, text.as_str(), BUILDER + 12);
 }
 
-/// A fault of the header comes before any request for memory.
+/// Texts for which no reader takes memory, what is answered, and the requests of what they are read into: those of a builder, and for a
+/// pit the factors. A header is judged first, and so is a line of places; a line that mines nothing needs no slot.
+const QUIET: &[(Kind, &[u8], Result<bool, TextError>, u64)] = &[
+    (
+        Kind::Model,
+        b"TYPE: PCPSP",
+        Err(TextError {
+            line: 1,
+            cause: Cause::NotCpit,
+        }),
+        0,
+    ),
+    (
+        Kind::Blocks,
+        b"0 1 2\n",
+        Err(TextError {
+            line: 1,
+            cause: Cause::FieldCount,
+        }),
+        BUILDER,
+    ),
+    (Kind::Solution, b"0 0 1 0\n", Ok(false), BUILDER + 1),
+    (
+        Kind::Solution,
+        b"0 0 1 0\n1500 0\n",
+        Err(TextError {
+            line: 2,
+            cause: BLOCK_RANGE,
+        }),
+        BUILDER + 1,
+    ),
+];
+
 #[test]
-fn of_read_model_with_a_fault(rt: HostRuntime) {
-    let heap = Refusing::over_heap(rt.alloc(), BYTES, 1).expect(&rt, "a heap");
-    let answer = read(&heap, Kind::Model, b"TYPE: PCPSP");
-    assert_eq!(rt; answer, Err(fault(1, Cause::NotCpit)));
-    assert_eq!(rt; heap.count().asked, 0);
+fn is_not_asked_for_in_vain(rt: HostRuntime) {
+    for (kind, text, wanted, requests) in QUIET {
+        let heap = Refusing::over_heap(rt.alloc(), BYTES, 0).expect(&rt, "a heap");
+        assert_eq!(rt; read(&heap, *kind, text), *wanted);
+        assert_eq!(rt; heap.count().asked, *requests);
+    }
 }
 
 /// Texts with a fault behind what takes memory, and the line of it.
