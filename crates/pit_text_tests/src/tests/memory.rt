@@ -185,7 +185,13 @@ fn of_read_precedence(rt: HostRuntime) {
     for b in 200..240u32 {
         push_preds(&rt, &mut text, b);
     }
-    refuse_each(&rt, rt.alloc(), Kind::Precedence, text.as_str(), BUILDER + 18);
+    refuse_each(
+        &rt,
+        rt.alloc(),
+        Kind::Precedence,
+        text.as_str(),
+        BUILDER + 18,
+    );
 }
 
 /// All places are one request, and the factors another.
