@@ -6,7 +6,7 @@ use Rattle.std.proofs.lemmas.List.{length-replicate, get_or-replicate, get_or_pa
 use Rattle.std.proofs.lemmas.List.FromFn.{length-map-range_with_len, get_or-map-range_with_len}
 use Rattle.std.proofs.lemmas.Nat.Bits.{bit_at-zero}
 use Rattle.pit_model.specs.Bits.{IsWithBit}
-use Rattle.pit_model.specs.BlockSet.{has_block, blocks_in, known_of, known_in}
+use Rattle.pit_model.specs.BlockSet.{has_block, blocks_in, member_value, member_values}
 
 -- ---- the bits of a set
 
@@ -73,52 +73,52 @@ IsWithBlock-insert blocks before room after b below same wide is = record {
 
 -- ---- what is known of the blocks in a set
 
-pub length-known_in : {X : Type 0} (blocks : ℕ) (set : List Bool) (value : ℕ → X) → length (known_in blocks set value) ≡ blocks
-length-known_in blocks set value = length-map-range_with_len (known_of set value) 0 blocks
+pub length-member_values : {X : Type 0} (blocks : ℕ) (set : List Bool) (value : ℕ → X) → length (member_values blocks set value) ≡ blocks
+length-member_values blocks set value = length-map-range_with_len (member_value set value) 0 blocks
 
-pub get_or-known_in : {X : Type 0} (blocks : ℕ) (set : List Bool) (value : ℕ → X) (b : ℕ) → b < blocks → get_or (known_in blocks set value) b None ≡ known_of set value b
-get_or-known_in blocks set value b within = get_or-map-range_with_len (known_of set value) 0 blocks b b None within (omega arith)
+pub get_or-member_values : {X : Type 0} (blocks : ℕ) (set : List Bool) (value : ℕ → X) (b : ℕ) → b < blocks → get_or (member_values blocks set value) b None ≡ member_value set value b
+get_or-member_values blocks set value b within = get_or-map-range_with_len (member_value set value) 0 blocks b b None within (omega arith)
 
-pub known_in-none : {X : Type 0} (blocks : ℕ) (set : List Bool) (value : ℕ → X) → ((b : ℕ) → get_or set b false ≡ false) → known_in blocks set value ≡ replicate blocks None
-known_in-none blocks set value none =
-    ext_get_or None (known_in blocks set value) (replicate blocks None) (length-known_in blocks set value ∙ sym (length-replicate blocks None)) (λ k k_in.
-    let within : k < blocks = omega (arith, length-known_in blocks set value) in
-    get_or-known_in blocks set value k within ∙ ap (λ (c : Bool). cond c (Some (value k)) None) (none k) ∙ sym (get_or-replicate blocks k None None within))
+pub member_values-none : {X : Type 0} (blocks : ℕ) (set : List Bool) (value : ℕ → X) → ((b : ℕ) → get_or set b false ≡ false) → member_values blocks set value ≡ replicate blocks None
+member_values-none blocks set value none =
+    ext_get_or None (member_values blocks set value) (replicate blocks None) (length-member_values blocks set value ∙ sym (length-replicate blocks None)) (λ k k_in.
+    let within : k < blocks = omega (arith, length-member_values blocks set value) in
+    get_or-member_values blocks set value k within ∙ ap (λ (c : Bool). cond c (Some (value k)) None) (none k) ∙ sym (get_or-replicate blocks k None None within))
 
-pub known_in-same : {X : Type 0} (blocks : ℕ) (before after : List Bool) (value value' : ℕ → X) → ((k : ℕ) → get_or after k false ≡ get_or before k false) → ((k : ℕ) → value' k ≡ value k) → known_in blocks after value' ≡ known_in blocks before value
-known_in-same {X = X} blocks before after value value' sets values =
-    ext_get_or None (known_in blocks after value') (known_in blocks before value) (length-known_in blocks after value' ∙ sym (length-known_in blocks before value)) (λ k k_in.
-    let within : k < blocks = omega (arith, length-known_in blocks after value') in
-    get_or-known_in blocks after value' k within ∙ ap₂ (λ (c : Bool) (x : X). cond c (Some x) None) (sets k) (values k) ∙ sym (get_or-known_in blocks before value k within))
+pub member_values-same : {X : Type 0} (blocks : ℕ) (before after : List Bool) (value value' : ℕ → X) → ((k : ℕ) → get_or after k false ≡ get_or before k false) → ((k : ℕ) → value' k ≡ value k) → member_values blocks after value' ≡ member_values blocks before value
+member_values-same {X = X} blocks before after value value' sets values =
+    ext_get_or None (member_values blocks after value') (member_values blocks before value) (length-member_values blocks after value' ∙ sym (length-member_values blocks before value)) (λ k k_in.
+    let within : k < blocks = omega (arith, length-member_values blocks after value') in
+    get_or-member_values blocks after value' k within ∙ ap₂ (λ (c : Bool) (x : X). cond c (Some x) None) (sets k) (values k) ∙ sym (get_or-member_values blocks before value k within))
 
-pub known_in-with : {X : Type 0} (blocks : ℕ) (before after : List Bool) (value value' : ℕ → X) (b : ℕ) (x : X) → b < blocks → IsWithBlock before after b → value' b ≡ x → ((k : ℕ) → k ≢ b → value' k ≡ value k) → known_in blocks after value' ≡ set (known_in blocks before value) b (Some x)
-known_in-with {X = X} blocks before after value value' b x below with here others =
-    let was : List (Option X) = known_in blocks before value in
-    let long : length was ≡ blocks = length-known_in blocks before value in
-    ext_get_or None (known_in blocks after value') (set was b (Some x)) (length-known_in blocks after value' ∙ sym (length-set was b (Some x) ∙ long)) (λ k k_in.
-    let within : k < blocks = omega (arith, length-known_in blocks after value') in
-    get_or-known_in blocks after value' k within
-    ∙ (elim (cases_eq k b) as (λ _. known_of after value' k ≡ get_or (set was b (Some x)) k None) [
+pub member_values-with : {X : Type 0} (blocks : ℕ) (before after : List Bool) (value value' : ℕ → X) (b : ℕ) (x : X) → b < blocks → IsWithBlock before after b → value' b ≡ x → ((k : ℕ) → k ≢ b → value' k ≡ value k) → member_values blocks after value' ≡ set (member_values blocks before value) b (Some x)
+member_values-with {X = X} blocks before after value value' b x below with here others =
+    let was : List (Option X) = member_values blocks before value in
+    let long : length was ≡ blocks = length-member_values blocks before value in
+    ext_get_or None (member_values blocks after value') (set was b (Some x)) (length-member_values blocks after value' ∙ sym (length-set was b (Some x) ∙ long)) (λ k k_in.
+    let within : k < blocks = omega (arith, length-member_values blocks after value') in
+    get_or-member_values blocks after value' k within
+    ∙ (elim (cases_eq k b) as (λ _. member_value after value' k ≡ get_or (set was b (Some x)) k None) [
       | inl same ↦
-          ap (known_of after value') same
+          ap (member_value after value') same
           ∙ ap₂ (λ (c : Bool) (y : X). cond c (Some y) None) with.here here
           ∙ sym (ap (λ (i : ℕ). get_or (set was b (Some x)) i None) same ∙ get_or-set_same was b (Some x) None (omega (arith, long)))
       | inr other ↦
           ap₂ (λ (c : Bool) (y : X). cond c (Some y) None) (with.others k other) (others k other)
-          ∙ sym (get_or-set_other was b k (Some x) None other ∙ get_or-known_in blocks before value k within)
+          ∙ sym (get_or-set_other was b k (Some x) None other ∙ get_or-member_values blocks before value k within)
     ]))
 
 -- ---- what is read of a value that is shown
 
-pub below-known : {X : Type 0} (blocks : ℕ) (set : List Bool) (value : ℕ → X) (shown : List (Option X)) (b : ℕ) → known_in blocks set value ≡ shown → b < length shown → b < blocks
-below-known blocks set value shown b view_is within = omega (arith, ap length view_is, length-known_in blocks set value)
+pub below-known : {X : Type 0} (blocks : ℕ) (set : List Bool) (value : ℕ → X) (shown : List (Option X)) (b : ℕ) → member_values blocks set value ≡ shown → b < length shown → b < blocks
+below-known blocks set value shown b view_is within = omega (arith, ap length view_is, length-member_values blocks set value)
 
 is_some-cond : {X : Type 0} (c : Bool) (x : X) → is_some (cond c (Some x) None) ≡ c
 is_some-cond true x = refl
 is_some-cond false x = refl
 
 -- it has something of the blocks in the set
-pub known-view : {X : Type 0} (blocks : ℕ) (set : List Bool) (value : ℕ → X) (shown : List (Option X)) (b : ℕ) → known_in blocks set value ≡ shown → b < length shown → get_or set b false ≡ is_some (get_or shown b None)
+pub known-view : {X : Type 0} (blocks : ℕ) (set : List Bool) (value : ℕ → X) (shown : List (Option X)) (b : ℕ) → member_values blocks set value ≡ shown → b < length shown → get_or set b false ≡ is_some (get_or shown b None)
 known-view {X = X} blocks set value shown b view_is within =
     sym (is_some-cond (get_or set b false) (value b))
-    ∙ ap is_some (sym (get_or-known_in blocks set value b (below-known blocks set value shown b view_is within)) ∙ ap (λ (l : List (Option X)). get_or l b None) view_is)
+    ∙ ap is_some (sym (get_or-member_values blocks set value b (below-known blocks set value shown b view_is within)) ∙ ap (λ (l : List (Option X)). get_or l b None) view_is)

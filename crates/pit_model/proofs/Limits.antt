@@ -6,7 +6,7 @@ use Rattle.std.proofs.lemmas.List.{length-replicate}
 use Rattle.std.proofs.lemmas.Nat.{mul-add-lt}
 use Rattle.std.proofs.lemmas.Bool.{cond-true, cond-false}
 use Rattle.std.proofs.lemmas.Bool.Decides.{eqb_tells}
-use Rattle.pit_model.specs.Pit.{Pit, empty_pit, bounds_of, lower_of, upper_of, cell_of, tighter, tighter_bounds}
+use Rattle.pit_model.specs.Pit.{Pit, empty_pit, bounds_of, lower_of, upper_of, cell_of, tighter_bound, tighter_bounds}
 use Rattle.pit_model.specs.Tightest.{IsTightest, LimitLine, is_for, lowers_for, uppers_for, with_line, AreTightest}
 use Rattle.pit_model.proofs.Rows.{get_or-replicate_default}
 use Rattle.pit_model.proofs.Cells.{cells_apart, same_resource}
@@ -48,13 +48,13 @@ bounds-there pit line r t ll lr apart =
 
 -- one side of them
 side-with : (pit : Pit) (line : LimitLine) (r t : ℕ) (side : Option ℤ × Option ℤ → Option ℤ) (pick : ℤ → ℤ → ℤ) (last : Option ℤ) → length pit.bounds ≡ pit.periods * pit.resources → line.resource < pit.resources → line.period < pit.periods → r < pit.resources
-    → ((bounds : Option ℤ × Option ℤ) → side (tighter_bounds bounds line.lower line.upper) ≡ tighter pick (side bounds) last)
-    → side (bounds_of (with_line pit line) r t) ≡ cond (is_for r t line) (tighter pick (side (bounds_of pit r t)) last) (side (bounds_of pit r t))
+    → ((bounds : Option ℤ × Option ℤ) → side (tighter_bounds bounds line.lower line.upper) ≡ tighter_bound pick (side bounds) last)
+    → side (bounds_of (with_line pit line) r t) ≡ cond (is_for r t line) (tighter_bound pick (side (bounds_of pit r t)) last) (side (bounds_of pit r t))
 side-with pit line r t side pick last long ll lt lr by =
     elim (tells line r t) [
       | inl here ↦
-          subst (λ (q : ℕ). side (bounds_of (with_line pit line) q t) ≡ tighter pick (side (bounds_of pit q t)) last) here.1.0
-          (subst (λ (u : ℕ). side (bounds_of (with_line pit line) line.resource u) ≡ tighter pick (side (bounds_of pit line.resource u)) last) here.1.1
+          subst (λ (q : ℕ). side (bounds_of (with_line pit line) q t) ≡ tighter_bound pick (side (bounds_of pit q t)) last) here.1.0
+          (subst (λ (u : ℕ). side (bounds_of (with_line pit line) line.resource u) ≡ tighter_bound pick (side (bounds_of pit line.resource u)) last) here.1.1
           (ap side (bounds-here pit line long ll lt) ∙ by (bounds_of pit line.resource line.period)))
           ∙ sym (cond-true (is_for r t line) _ _ here.0)
       | inr there ↦ ap side (bounds-there pit line r t ll lr there.1) ∙ sym (cond-false (is_for r t line) _ _ there.0)

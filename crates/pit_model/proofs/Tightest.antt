@@ -4,7 +4,7 @@ use Rattle.std.specs.Int.{int_min, int_max}
 use Rattle.std.proofs.lemmas.Int.{ints, clamps}
 use Rattle.std.proofs.lemmas.List.{append-nil}
 use Rattle.std.proofs.Math.Logic.{⊎_elim}
-use Rattle.pit_model.specs.Pit.{tighter}
+use Rattle.pit_model.specs.Pit.{tighter_bound}
 use Rattle.pit_model.specs.Tightest.{IsGiven, IsTightest}
 
 -- how one of two bounds is picked
@@ -45,7 +45,7 @@ module _ (IsInside : ℤ → ℤ → Type 0) (pick : ℤ → ℤ → ℤ) (is : 
   some_same : (o : Option ℤ) (x y : ℤ) → o ≡ Some x → o ≡ Some y → IsInside x y
   some_same o x y at_x at_y = let same : x ≡ y = (let both : Some x ≡ Some y = sym at_x ∙ at_y in cc) in subst (λ z. IsInside x z) same (is.same x)
 
-  from_either : (o other : Option ℤ) (bound : ℤ) → tighter pick o other ≡ Some bound → (o ≡ Some bound) ⊎ (other ≡ Some bound)
+  from_either : (o other : Option ℤ) (bound : ℤ) → tighter_bound pick o other ≡ Some bound → (o ≡ Some bound) ⊎ (other ≡ Some bound)
   from_either None other bound h = inr h
   from_either (Some x) None bound h = inl h
   from_either (Some x) (Some y) bound h =
@@ -54,18 +54,18 @@ module _ (IsInside : ℤ → ℤ → Type 0) (pick : ℤ → ℤ → ℤ) (is : 
         | inr there ↦ let same : Some y ≡ Some bound = cc in inr same
       ]
 
-  within_left : (o other : Option ℤ) (x : ℤ) → o ≡ Some x → (m : ℤ) × (tighter pick o other ≡ Some m) × IsInside m x
+  within_left : (o other : Option ℤ) (x : ℤ) → o ≡ Some x → (m : ℤ) × (tighter_bound pick o other ≡ Some m) × IsInside m x
   within_left None other x h = let clash : None ≡ Some x = h in cc
   within_left (Some y) None x h = (y, refl, some_same (Some y) y x refl h)
   within_left (Some y) (Some z) x h = (pick y z, refl, is.over (pick y z) y x (is.left y z) (some_same (Some y) y x refl h))
 
-  within_right : (o other : Option ℤ) (x : ℤ) → other ≡ Some x → (m : ℤ) × (tighter pick o other ≡ Some m) × IsInside m x
+  within_right : (o other : Option ℤ) (x : ℤ) → other ≡ Some x → (m : ℤ) × (tighter_bound pick o other ≡ Some m) × IsInside m x
   within_right None other x h = (x, h, is.same x)
   within_right (Some y) None x h = let clash : None ≡ Some x = h in cc
   within_right (Some y) (Some z) x h = (pick y z, refl, is.over (pick y z) z x (is.right y z) (some_same (Some z) z x refl h))
 
   -- what is kept is inside each one that is given
-  reached : (given : List (Option ℤ)) (kept last : Option ℤ) (other : ℤ) → IsTightest IsInside given kept → IsGiven (given ++ last ∷ []) other → (m : ℤ) × (tighter pick kept last ≡ Some m) × IsInside m other
+  reached : (given : List (Option ℤ)) (kept last : Option ℤ) (other : ℤ) → IsTightest IsInside given kept → IsGiven (given ++ last ∷ []) other → (m : ℤ) × (tighter_bound pick kept last ≡ Some m) × IsInside m other
   reached given kept last other was among =
       elim (given-either given last other among) [
         | inl before ↦
@@ -76,15 +76,15 @@ module _ (IsInside : ℤ → ℤ → Type 0) (pick : ℤ → ℤ → ℤ) (is : 
       ]
 
   -- one more is given
-  tightest-more : (given : List (Option ℤ)) (kept last : Option ℤ) → IsTightest IsInside given kept → IsTightest IsInside (given ++ last ∷ []) (tighter pick kept last)
+  tightest-more : (given : List (Option ℤ)) (kept last : Option ℤ) → IsTightest IsInside given kept → IsTightest IsInside (given ++ last ∷ []) (tighter_bound pick kept last)
   tightest-more given kept last was = record {
     one = λ bound h. elim (from_either kept last bound h) [ inl before ↦ given-front given last bound (was.one bound before) | inr here ↦ given-last given last bound here ];
-    inside = λ bound other h among. let m = reached given kept last other was among in is.over bound m.0 other (some_same (tighter pick kept last) bound m.0 h m.1) m.2;
+    inside = λ bound other h among. let m = reached given kept last other was among in is.over bound m.0 other (some_same (tighter_bound pick kept last) bound m.0 h m.1) m.2;
     some = λ other among none. let m = reached given kept last other was among in let clash : None ≡ Some m.0 = sym none ∙ m.1 in cc;
   }
 
   -- one more is given, or is not
-  pub tightest-with : (given all : List (Option ℤ)) (kept new last : Option ℤ) (more : Bool) → all ≡ given ++ cond more (last ∷ []) [] → new ≡ cond more (tighter pick kept last) kept → IsTightest IsInside given kept → IsTightest IsInside all new
+  pub tightest-with : (given all : List (Option ℤ)) (kept new last : Option ℤ) (more : Bool) → all ≡ given ++ cond more (last ∷ []) [] → new ≡ cond more (tighter_bound pick kept last) kept → IsTightest IsInside given kept → IsTightest IsInside all new
   tightest-with given all kept new last true lists bounds was =
       subst (λ (os : List (Option ℤ)). IsTightest IsInside os new) (sym lists) (subst (λ (o : Option ℤ). IsTightest IsInside (given ++ last ∷ []) o) (sym bounds) (tightest-more given kept last was))
   tightest-with given all kept new last false lists bounds was =

@@ -11,8 +11,8 @@ abbrev pub blocks_in : List ℕ → List Bool
 blocks_in words = map (has_block words) (range_with_len 0 (64 * length words))
 
 -- a value for a block in the set
-abbrev pub known_of : {X : Type 0} → List Bool → (ℕ → X) → ℕ → Option X
-known_of set value block = if slice_index_or set block false then Some (value block) else None
+abbrev pub member_value : {X : Type 0} → List Bool → (ℕ → X) → ℕ → Option X
+member_value set value block = if slice_index_or set block false then Some (value block) else None
 
-abbrev pub known_in : {X : Type 0} → ℕ → List Bool → (ℕ → X) → List (Option X)
-known_in blocks set value = map (known_of set value) (range_with_len 0 blocks)
+abbrev pub member_values : {X : Type 0} → ℕ → List Bool → (ℕ → X) → List (Option X)
+member_values blocks set value = map (member_value set value) (range_with_len 0 blocks)

@@ -124,14 +124,14 @@ abbrev pub with_preds : Pit → ℕ → List ℕ → Pit
 with_preds pit block listed = record pit { preds = with_preds_in pit.preds block listed }
 
 -- of two bounds the one that is picked, where none is no bound
-abbrev pub tighter : (ℤ → ℤ → ℤ) → Option ℤ → Option ℤ → Option ℤ
-tighter pick None other = other
-tighter pick (Some bound) None = Some bound
-tighter pick (Some bound) (Some other) = Some (pick bound other)
+abbrev pub tighter_bound : (ℤ → ℤ → ℤ) → Option ℤ → Option ℤ → Option ℤ
+tighter_bound pick None other = other
+tighter_bound pick (Some bound) None = Some bound
+tighter_bound pick (Some bound) (Some other) = Some (pick bound other)
 
 -- the greater of the lower bounds, and the lesser of the upper bounds
 abbrev pub tighter_bounds : Option ℤ × Option ℤ → Option ℤ → Option ℤ → Option ℤ × Option ℤ
-tighter_bounds bounds lo hi = (tighter int_max bounds.0 lo, tighter int_min bounds.1 hi)
+tighter_bounds bounds lo hi = (tighter_bound int_max bounds.0 lo, tighter_bound int_min bounds.1 hi)
 
 abbrev pub with_limit : Pit → ℕ → ℕ → Option ℤ → Option ℤ → Pit
 with_limit pit resource period lo hi =

@@ -3,7 +3,7 @@ ghost use Rattle.std.specs.Prelude.{◌≡◌, ℕ, ℤ, ◌<◌, ◌≤◌, ◌
 ghost use Rattle.pit_model.specs.Tightest.{LimitLine, with_line, AreTightest};
 ghost use Rattle.std.specs.Int.{int_max, int_min};
 ghost use Rattle.pit_num.specs.declared.limits.TheConstants.{PERIODS_MAX, RESOURCES_MAX};
-ghost use Rattle.pit_model.specs.Pit.{Pit, is_below_zero, tighter, empty_pit, with_profit, with_coef, with_preds, with_place};
+ghost use Rattle.pit_model.specs.Pit.{Pit, is_below_zero, tighter_bound, empty_pit, with_profit, with_coef, with_preds, with_place};
 ghost use Rattle.pit_model.specs.Pit.{tighter_bounds as tighter_bounds_of};
 ghost use Rattle.pit_model.specs.Refusals.{is_empty_interval as is_empty};
 
@@ -62,7 +62,7 @@ pub fn bounds_are_tightest()
 
 /// The greater of two bounds, where none is no bound.
 fn greater(bound: Option<i64>, other: Option<i64>) -> Option<i64>
-    ensures { result ≡ tighter int_max bound other }
+    ensures { result ≡ tighter_bound int_max bound other }
 {
     match (bound, other) {
         (Some(bound), Some(other)) => Some(bound.max(other)),
@@ -73,7 +73,7 @@ fn greater(bound: Option<i64>, other: Option<i64>) -> Option<i64>
 
 /// The lesser of two bounds, where none is no bound.
 fn lesser(bound: Option<i64>, other: Option<i64>) -> Option<i64>
-    ensures { result ≡ tighter int_min bound other }
+    ensures { result ≡ tighter_bound int_min bound other }
 {
     match (bound, other) {
         (Some(bound), Some(other)) => Some(bound.min(other)),

@@ -179,8 +179,8 @@ impl<A: Allocator + Copy + Drop> Builder<A> {
         if is_empty_interval(lo, hi) {
             return Err(BuildError::Interval);
         }
-        let place = cell_of(self.resources, r, t);
-        self.bounds[place] = tighter_bounds(self.bounds[place], lo, hi);
+        let cell = cell_of(self.resources, r, t);
+        self.bounds[cell] = tighter_bounds(self.bounds[cell], lo, hi);
         Ok(())
     }
 

@@ -2,7 +2,7 @@ ghost use Rattle.std.specs.Prelude.{◌≡◌, ◌==◌, not, ℕ, ◌<◌, [], 
 ghost use Rattle.std.specs.List.{All, filter, list_any};
 ghost use Rattle.std.specs.List.Sorted.{IsStrictlyIncreasing};
 ghost use Rattle.pit_model.specs.Pit.{preds_from, preds_in, with_preds_in};
-ghost use Rattle.pit_model.specs.PredecessorRows.{empty_row};
+ghost use Rattle.pit_model.specs.PredecessorRows.{no_cells};
 
 use crate::block_set::BlockSet;
 use pit_num::NoMemory;
@@ -141,7 +141,7 @@ impl<A: Allocator + Copy + Drop> Predecessors<A> {
 }
 
 fn row_at(rows: &[Row], b: u32) -> Row
-    ensures { result ≡ slice_index_or rows.now b empty_row }
+    ensures { result ≡ slice_index_or rows.now b no_cells }
 {
     if (b as usize) < rows.len() {
         rows[b as usize]
@@ -151,7 +151,7 @@ fn row_at(rows: &[Row], b: u32) -> Row
 }
 
 fn no_row() -> Row
-    ensures { result ≡ empty_row }
+    ensures { result ≡ no_cells }
 {
     Row { start: 0, end: 0 }
 }

@@ -5,7 +5,7 @@ use Rattle.std.proofs.lemmas.Bool.Decides.{eqb_tells}
 use Rattle.pit_num.specs.Least.{ComesBefore, IsLeastOf, IsLeast}
 pub use Rattle.pit_num.proofs.Factors.{factor_le}
 pub use Rattle.pit_num.proofs.Fitting.{writes_of-fits, AreKeyed-nil, Decides-pair_eq}
-pub use Rattle.pit_num.proofs.Triples.{Triple, places-of, once-of, fit-of}
+pub use Rattle.pit_num.proofs.Triples.{Triple, pairs-of, once-of, fit-of}
 pub use Rattle.pit_num.proofs.Written.{appends_nothing, appends_more, front_more, front_after, failed_early_if_any, map_err, map_ok}
 
 -- ---- the least is one

@@ -7,7 +7,7 @@ use Rattle.std.proofs.lemmas.List.{take_all, drop_all, append-nil, take_at}
 use Rattle.std.proofs.lemmas.List.Folds.{list_all-append}
 use Rattle.std.proofs.lemmas.List.Sums.{prefix_len_stops, prefix_len-le-length, prefix_len-drop_no, prefix_len-drop_all}
 use Rattle.std.proofs.lemmas.Bool.Decides.{nat_tests}
-use Rattle.pit_num.specs.Decimal.{are_digits, is_point, is_e, is_negative, after_sign, after_front_point, mantissa, whole_part, fraction_part, has_exponent, signed_exponent, with_sign, micro_of, millionths, raises, lowers, significand, exponent, is_number, is_decimal, is_too_long}
+use Rattle.pit_num.specs.Decimal.{are_digits, is_point, is_e, is_negative, after_sign, after_front_point, mantissa, whole_part, fraction_part, has_exponent, signed_exponent, with_sign, micro_of, millionths, raising_power, lowering_power, significand, exponent, is_number, is_decimal, is_too_long}
 use Rattle.pit_num.specs.declared.limits.TheConstants.{MICRO_LIMIT}
 use Rattle.pit_num.specs.Rounding.{nearest}
 use Rattle.std.proofs.lemmas.Nat.{pow-add}
@@ -108,8 +108,8 @@ pub plain_millionths : (text W F : List ℕ) → IsPlain text W F → length F �
 plain_millionths text W F plain few =
     let all : length F + (6 - length F) ≡ 6 = omega arith in
     let powers : 10 ^ length F * 10 ^ (6 - length F) ≡ 10 ^ 6 = sym (pow-add 10 (length F) (6 - length F)) ∙ ap (λ (k : ℕ). 10 ^ k) all in
-    ap (λ (ds : List ℕ). nearest (digits_value 10 (ds ++ fraction_part text) * 10 ^ raises text * 10 ^ 6) (10 ^ (length (fraction_part text) + lowers text))) plain.whole
-    ∙ ap (λ (ds : List ℕ). nearest (digits_value 10 (W ++ ds) * 10 ^ raises text * 10 ^ 6) (10 ^ (length ds + lowers text))) plain.fraction
+    ap (λ (ds : List ℕ). nearest (digits_value 10 (ds ++ fraction_part text) * 10 ^ raising_power text * 10 ^ 6) (10 ^ (length (fraction_part text) + lowering_power text))) plain.whole
+    ∙ ap (λ (ds : List ℕ). nearest (digits_value 10 (W ++ ds) * 10 ^ raising_power text * 10 ^ 6) (10 ^ (length ds + lowering_power text))) plain.fraction
     ∙ ap (λ (ds : List ℕ). nearest (digits_value 10 (W ++ F) * 10 ^ (if is_negative ds then 0 else digits_value 10 (after_sign ds)) * 10 ^ 6) (10 ^ (length F + (if is_negative ds then digits_value 10 (after_sign ds) else 0)))) plain.nothing
     ∙ ap (λ (k : ℕ). nearest (digits_value 10 (W ++ F) * 10 ^ 0 * 10 ^ 6) (10 ^ k)) (add-zero (length F))
     ∙ scaled_up (digits_value 10 (W ++ F)) 0 (length F) few

@@ -80,18 +80,18 @@ abbrev pub is_too_long : List ℕ → Bool
 is_too_long text = nat_lt DIGITS_MAX (length (significand text)) || nat_lt EXPONENT_DIGITS_MAX (length (exponent text))
 
 -- ten to the exponent stands in the numerator, or in the denominator
-abbrev pub raises : List ℕ → ℕ
-raises text = if is_negative (signed_exponent text) then 0 else digits_value 10 (exponent text)
+abbrev pub raising_power : List ℕ → ℕ
+raising_power text = if is_negative (signed_exponent text) then 0 else digits_value 10 (exponent text)
 
-abbrev pub lowers : List ℕ → ℕ
-lowers text = if is_negative (signed_exponent text) then digits_value 10 (exponent text) else 0
+abbrev pub lowering_power : List ℕ → ℕ
+lowering_power text = if is_negative (signed_exponent text) then digits_value 10 (exponent text) else 0
 
 -- the magnitude that the text stands for is numerator over denominator
 abbrev pub numerator : List ℕ → ℕ
-numerator text = digits_value 10 (significand text) * 10 ^ raises text
+numerator text = digits_value 10 (significand text) * 10 ^ raising_power text
 
 abbrev pub denominator : List ℕ → ℕ
-denominator text = 10 ^ (length (fraction_part text) + lowers text)
+denominator text = 10 ^ (length (fraction_part text) + lowering_power text)
 
 -- the magnitude in millionths, a half away from zero
 abbrev pub millionths : List ℕ → ℕ

@@ -20,8 +20,8 @@ pub cell-below : (pit : Pit) (r t : ℕ) → r < pit.resources → t < pit.perio
 cell-below pit r t lr lt = omega (arith, mul-add-lt t pit.resources r pit.periods lt lr)
 
 -- two resources and periods of one cell are the same
-pub same-place : (pit : Pit) (r q t u : ℕ) → r < pit.resources → q < pit.resources → cell_of pit r t ≡ cell_of pit q u → ◌≡◌ {A = ℕ × ℕ} (r, t) (q, u)
-same-place pit r q t u lr lq e =
+pub same-pair : (pit : Pit) (r q t u : ℕ) → r < pit.resources → q < pit.resources → cell_of pit r t ≡ cell_of pit q u → ◌≡◌ {A = ℕ × ℕ} (r, t) (q, u)
+same-pair pit r q t u lr lq e =
     let period : t ≡ u = cells_apart pit.resources r q t u lr lq e in
     ap (λ (x : ℕ). (x, t)) (sym (same_resource pit.resources r q t u e period)) ∙ ap (λ (y : ℕ). (q, y)) period
 
@@ -36,7 +36,7 @@ lookup-cell pit r t revisions lr fit = by revisions (recursion_from_All (λ v. (
         elim (eqb_tells (cell_of pit r t) (cell_of pit v.0.0 v.0.1)) [
           | inl here ↦
               cond-true _ _ _ here.0
-              ∙ sym (cond-true (pair_eq (r, t) v.0) (Some v.1) (lookup (pair_eq (r, t)) vs) ((Decides-pair_eq (r, t) v.0).1 (same-place pit r v.0.0 t v.0.1 lr each.0.0 here.1)))
+              ∙ sym (cond-true (pair_eq (r, t) v.0) (Some v.1) (lookup (pair_eq (r, t)) vs) ((Decides-pair_eq (r, t) v.0).1 (same-pair pit r v.0.0 t v.0.1 lr each.0.0 here.1)))
           | inr there ↦
               cond-false _ _ _ there.0
               ∙ (by vs each.1 ∙ sym (cond-false (pair_eq (r, t) v.0) (Some v.1) (lookup (pair_eq (r, t)) vs)
@@ -55,7 +55,7 @@ once-cells pit revisions fit = λ i j d lt l e.
     let other = ap (λ (w : ℕ × Option ℤ). w.0) (get_or-map (λ v. (cell_of pit v.0.0 v.0.1, v.1)) revisions j none d within) in
     let lr = (fit.keys i none (omega (arith, lt, within))).0 in
     let lq = (fit.keys j none within).0 in
-    fit.once i j none lt within (same-place pit _ _ _ _ lr lq (sym one ∙ (e ∙ other)))
+    fit.once i j none lt within (same-pair pit _ _ _ _ lr lq (sym one ∙ (e ∙ other)))
 
 pub length-cells : (pit : Pit) (triples : List (ℕ × ℕ × Option ℤ)) → length (by_cell pit (revisions_of triples)) ≡ length triples
 length-cells pit triples = length-map {B = ℕ × Option ℤ} (revisions_of triples) (λ v. (cell_of pit v.0.0 v.0.1, v.1)) ∙ length-map {B = (ℕ × ℕ) × Option ℤ} triples (λ v. ((v.0, v.1), v.2))

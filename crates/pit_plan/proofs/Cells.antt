@@ -11,17 +11,17 @@ use Rattle.std.proofs.lemmas.Bool.Decides.{leb_tells, eqb_tells}
 use Rattle.pit_model.specs.Pit.{Pit, coefs_of, cell_of}
 use Rattle.pit_model.proofs.CallerLemmas.{cells_apart, same_resource}
 use Rattle.pit_plan.specs.Schedule.{coef_in, coef_of}
-use Rattle.pit_plan.specs.Totals.{cell_load, at_cell, moved_by, Moves, MovesOne, Raises}
-use Rattle.pit_plan.proofs.Named.{Once, absent-before, lookup-at, laid_over-more, same-eq, other-eq}
+use Rattle.pit_plan.specs.Totals.{cell_load, at_cell, signed_coef, Moves, MovesOne, Raises}
+use Rattle.pit_plan.proofs.Named.{Once, absent-before, lookup-at, overlaid_item-more, same-eq, other-eq}
 
 some-resource : (periods resources cell : ℕ) → cell < periods * resources → 0 < resources
 some-resource periods zero cell within = absurd (omega (arith, within, mul-zero periods))
 some-resource periods (suc n) cell within = omega arith
 
 -- each cell is that of a resource in a period
-pub place-known : (pit : Pit) (cell : ℕ) → cell < pit.periods * pit.resources
+pub pair-known : (pit : Pit) (cell : ℕ) → cell < pit.periods * pit.resources
     → (cell % pit.resources < pit.resources) × (cell / pit.resources < pit.periods) × (cell_of pit (cell % pit.resources) (cell / pit.resources) ≡ cell)
-place-known pit cell within =
+pair-known pit cell within =
     let whole : cell / pit.resources * pit.resources + cell % pit.resources ≡ cell = div-add-mod' cell pit.resources in
     let period : cell / pit.resources < pit.periods =
     elim (leb_tells pit.periods (cell / pit.resources)) [ inl past ↦ absurd (omega (arith, mul-le-mul_right pit.resources past.1, whole, within)) | inr below ↦ below.1 ] in
@@ -50,22 +50,22 @@ moves-one pit old new r t by lr raises = record {
 pub none-before : (row : List (ℕ × ℤ)) (k : ℕ) (d : ℕ × ℤ) → Once row → k < length row → coef_in (take k row) (get_or row k d).0 ≡ pos 0
 none-before row k d once within = ap (λ (x : Option ℤ). unwrap_or x (pos 0)) (absent-before row k d once within)
 
-nothing : (up : Bool) (x : ℤ) → x +ℤ moved_by up (pos 0) ≡ x
-nothing up x = elim up as (λ (b : Bool). x +ℤ moved_by b (pos 0) ≡ x) [ true ↦ omega (arith, ints) | false ↦ omega (arith, ints) ]
+nothing : (up : Bool) (x : ℤ) → x +ℤ signed_coef up (pos 0) ≡ x
+nothing up x = elim up as (λ (b : Bool). x +ℤ signed_coef b (pos 0) ≡ x) [ true ↦ omega (arith, ints) | false ↦ omega (arith, ints) ]
 
 -- one more pair of the row
 pub moves-more : (pit : Pit) (old : ℕ → ℕ → ℤ) (t : ℕ) (up : Bool) (row : List (ℕ × ℤ)) (k : ℕ) (d : ℕ × ℤ) (now new : ℕ → ℕ → ℤ) → Once row → k < length row → (get_or row k d).0 < pit.resources
-    → Moves pit old t (λ r. moved_by up (coef_in (take k row) r)) now → MovesOne pit.resources now (get_or row k d).0 t (moved_by up (get_or row k d).1) new
-    → Moves pit old t (λ r. moved_by up (coef_in (take (k + 1) row) r)) new
+    → Moves pit old t (λ r. signed_coef up (coef_in (take k row) r)) now → MovesOne pit.resources now (get_or row k d).0 t (signed_coef up (get_or row k d).1) new
+    → Moves pit old t (λ r. signed_coef up (coef_in (take (k + 1) row) r)) new
 moves-more pit old t up row k d now new once within lr moves one = record {
   moved = λ r lq.
-      let more = laid_over-more (λ _. pos 0) row k r d once within in
+      let more = overlaid_item-more (λ _. pos 0) row k r d once within in
       elim (eqb_tells r (get_or row k d).0) [
         | inl here ↦
             let before = none-before row k d once within in
             let coef = more ∙ cond-true (nat_eq r (get_or row k d).0) (get_or row k d).1 (coef_in (take k row) r) here.0 in
             let now_is = moves.moved (get_or row k d).0 lr in
-            rw (coef, here.1) (one.moved ∙ ap (λ (x : ℤ). x +ℤ moved_by up (get_or row k d).1) (now_is ∙ (ap (λ (x : ℤ). old (get_or row k d).0 t +ℤ moved_by up x) before ∙ nothing up (old (get_or row k d).0 t))))
+            rw (coef, here.1) (one.moved ∙ ap (λ (x : ℤ). x +ℤ signed_coef up (get_or row k d).1) (now_is ∙ (ap (λ (x : ℤ). old (get_or row k d).0 t +ℤ signed_coef up x) before ∙ nothing up (old (get_or row k d).0 t))))
         | inr there ↦
             let coef = more ∙ cond-false (nat_eq r (get_or row k d).0) (get_or row k d).1 (coef_in (take k row) r) there.0 in
             rw (coef) (one.others r t lq (λ e. there.1 e.0) ∙ moves.moved r lq)
@@ -75,11 +75,11 @@ moves-more pit old t up row k d now new once within lr moves one = record {
 
 -- so there is room for it where there is room for the whole row
 pub room-more : (pit : Pit) (old now : ℕ → ℕ → ℤ) (b t : ℕ) (up : Bool) (k : ℕ) (d : ℕ × ℤ) → Once (coefs_of pit b) → k < length (coefs_of pit b) → (get_or (coefs_of pit b) k d).0 < pit.resources
-    → ((r : ℕ) → r < pit.resources → FitsSigned w128 (old r t +ℤ moved_by up (coef_of pit b r))) → Moves pit old t (λ r. moved_by up (coef_in (take k (coefs_of pit b)) r)) now
-    → FitsSigned w128 (now (get_or (coefs_of pit b) k d).0 t +ℤ moved_by up (get_or (coefs_of pit b) k d).1)
+    → ((r : ℕ) → r < pit.resources → FitsSigned w128 (old r t +ℤ signed_coef up (coef_of pit b r))) → Moves pit old t (λ r. signed_coef up (coef_in (take k (coefs_of pit b)) r)) now
+    → FitsSigned w128 (now (get_or (coefs_of pit b) k d).0 t +ℤ signed_coef up (get_or (coefs_of pit b) k d).1)
 room-more pit old now b t up k d once within lr room moves =
     let row = coefs_of pit b in
     let r = (get_or (coefs_of pit b) k d).0 in
     let whole : coef_of pit b r ≡ (get_or row k d).1 = ap (λ (x : Option ℤ). unwrap_or x (pos 0)) (lookup-at row k d once within) in
-    let now_is : now r t ≡ old r t = moves.moved r lr ∙ (ap (λ (x : ℤ). old r t +ℤ moved_by up x) (none-before row k d once within) ∙ nothing up (old r t)) in
-    subst (λ (x : ℤ). FitsSigned w128 (x +ℤ moved_by up (get_or row k d).1)) (sym now_is) (subst (λ (x : ℤ). FitsSigned w128 (old r t +ℤ moved_by up x)) whole (room r lr))
+    let now_is : now r t ≡ old r t = moves.moved r lr ∙ (ap (λ (x : ℤ). old r t +ℤ signed_coef up x) (none-before row k d once within) ∙ nothing up (old r t)) in
+    subst (λ (x : ℤ). FitsSigned w128 (x +ℤ signed_coef up (get_or row k d).1)) (sym now_is) (subst (λ (x : ℤ). FitsSigned w128 (old r t +ℤ signed_coef up x)) whole (room r lr))

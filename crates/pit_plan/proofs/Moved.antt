@@ -14,20 +14,20 @@ use Rattle.pit_num.proofs.CallerLemmas.{factor_le}
 use Rattle.pit_plan.proofs.Bounds.{IsWithin, zero-within, product-within}
 use Rattle.pit_plan.specs.Sums.{total}
 use Rattle.pit_plan.specs.Schedule.{by_block, coef_in, coef_of, share, load_of, earned_in, value_of, is_in}
-use Rattle.pit_plan.specs.Totals.{cell_load, at_cell, AreLoads, AreTotals, Tallied, IsTally, MovesIn, moved_by, with_block}
+use Rattle.pit_plan.specs.Totals.{cell_load, at_cell, AreLoads, AreTotals, Tallied, IsTally, MovesIn, signed_coef, with_period}
 use Rattle.pit_plan.proofs.Named.{same-eq, other-eq}
 use Rattle.pit_plan.proofs.Sums.{total-same, total-more, total-nothing}
 use Rattle.pit_plan.proofs.Same.{same-load, same-value}
 
 -- ---- one block's period replaced
 
-pub with_block-here : (s : ℕ → Option ℕ) (b : ℕ) (p : Option ℕ) → with_block s b p b ≡ p
-with_block-here s b p = ap (λ x. cond x p (s b)) (same-eq b b refl)
+pub with_period-here : (s : ℕ → Option ℕ) (b : ℕ) (p : Option ℕ) → with_period s b p b ≡ p
+with_period-here s b p = ap (λ x. cond x p (s b)) (same-eq b b refl)
 
-with_block-other : (s : ℕ → Option ℕ) (b : ℕ) (p : Option ℕ) (x : ℕ) → x ≢ b → with_block s b p x ≡ s x
-with_block-other s b p x n = ap (λ y. cond y p (s x)) (other-eq x b n)
+with_period-other : (s : ℕ → Option ℕ) (b : ℕ) (p : Option ℕ) (x : ℕ) → x ≢ b → with_period s b p x ≡ s x
+with_period-other s b p x n = ap (λ y. cond y p (s x)) (other-eq x b n)
 
-by_block-set : (periods : List (Option ℕ)) (b : ℕ) (p : Option ℕ) (x : ℕ) → b < length periods → with_block (by_block periods) b p x ≡ by_block (slice_set periods b p) x
+by_block-set : (periods : List (Option ℕ)) (b : ℕ) (p : Option ℕ) (x : ℕ) → b < length periods → with_period (by_block periods) b p x ≡ by_block (slice_set periods b p) x
 by_block-set periods b p x below =
     elim (eqb_tells x b) [
       | inl here ↦
@@ -38,10 +38,10 @@ by_block-set periods b p x below =
 
 -- totals of a list with one item replaced
 pub totals-set : (pit : Pit) (periods : List (Option ℕ)) (b : ℕ) (p : Option ℕ) (loads : List ℤ) (sum : ℤ) → b < length periods
-    → AreTotals pit (with_block (by_block periods) b p) loads sum → AreTotals pit (by_block (slice_set periods b p)) loads sum
+    → AreTotals pit (with_period (by_block periods) b p) loads sum → AreTotals pit (by_block (slice_set periods b p)) loads sum
 totals-set pit periods b p loads sum below are = record {
-  each = λ r t lr lt. are.each r t lr lt ∙ same-load pit (with_block (by_block periods) b p) (by_block (slice_set periods b p)) r t (λ x _. by_block-set periods b p x below);
-  value = are.value ∙ same-value pit (with_block (by_block periods) b p) (by_block (slice_set periods b p)) (λ x _. by_block-set periods b p x below);
+  each = λ r t lr lt. are.each r t lr lt ∙ same-load pit (with_period (by_block periods) b p) (by_block (slice_set periods b p)) r t (λ x _. by_block-set periods b p x below);
+  value = are.value ∙ same-value pit (with_period (by_block periods) b p) (by_block (slice_set periods b p)) (λ x _. by_block-set periods b p x below);
 }
 
 -- ---- a sum of which one term changes
@@ -105,21 +105,21 @@ share-at pit s r t b p is = ap (λ x. cond (is_in x t) (coef_of pit b r) (pos 0)
 
 -- a load changes by the block's new share less its old one
 load-with : (pit : Pit) (s : ℕ → Option ℕ) (b : ℕ) (p q : Option ℕ) (r t : ℕ) → b < pit.blocks → s b ≡ q
-    → load_of pit (with_block s b p) r t +ℤ cond (is_in q t) (coef_of pit b r) (pos 0) ≡ load_of pit s r t +ℤ cond (is_in p t) (coef_of pit b r) (pos 0)
+    → load_of pit (with_period s b p) r t +ℤ cond (is_in q t) (coef_of pit b r) (pos 0) ≡ load_of pit s r t +ℤ cond (is_in p t) (coef_of pit b r) (pos 0)
 load-with pit s b p q r t below is =
-    let changed = total-changed (share pit s r t) (share pit (with_block s b p) r t) b pit.blocks below
-    (λ x other. ap (λ y. cond (is_in y t) (coef_of pit x r) (pos 0)) (sym (with_block-other s b p x other))) in
+    let changed = total-changed (share pit s r t) (share pit (with_period s b p) r t) b pit.blocks below
+    (λ x other. ap (λ y. cond (is_in y t) (coef_of pit x r) (pos 0)) (sym (with_period-other s b p x other))) in
     let before = share-at pit s r t b q is in
-    let after = share-at pit (with_block s b p) r t b p (with_block-here s b p) in
+    let after = share-at pit (with_period s b p) r t b p (with_period-here s b p) in
     omega (arith, ints, changed, before, after)
 
 value-with : (pit : Pit) (s : ℕ → Option ℕ) (b : ℕ) (p q : Option ℕ) → b < pit.blocks → s b ≡ q
-    → value_of pit (with_block s b p) +ℤ earned_in pit b q ≡ value_of pit s +ℤ earned_in pit b p
+    → value_of pit (with_period s b p) +ℤ earned_in pit b q ≡ value_of pit s +ℤ earned_in pit b p
 value-with pit s b p q below is =
-    let changed = total-changed (λ x. earned_in pit x (s x)) (λ x. earned_in pit x (with_block s b p x)) b pit.blocks below
-    (λ x other. ap (earned_in pit x) (sym (with_block-other s b p x other))) in
+    let changed = total-changed (λ x. earned_in pit x (s x)) (λ x. earned_in pit x (with_period s b p x)) b pit.blocks below
+    (λ x other. ap (earned_in pit x) (sym (with_period-other s b p x other))) in
     let before = ap (earned_in pit b) is in
-    let after = ap (earned_in pit b) (with_block-here s b p) in
+    let after = ap (earned_in pit b) (with_period-here s b p) in
     omega (arith, ints, changed, before, after)
 
 is_in-same : (t : ℕ) → is_in (Some t) t ≡ true
@@ -141,7 +141,7 @@ moved-in pit old new (Some u) by r t lr moves =
 
 -- into a period, or out of it
 pub shifted : (pit : Pit) (s : ℕ → Option ℕ) (b : ℕ) (p : Option ℕ) (up : Bool) (old new : ℕ → ℕ → ℤ) → b < pit.blocks → s b ≡ cond up None p → AreLoads pit s old
-    → MovesIn pit old p (λ r. moved_by up (coef_of pit b r)) new → AreLoads pit (with_block s b (cond up p None)) new
+    → MovesIn pit old p (λ r. signed_coef up (coef_of pit b r)) new → AreLoads pit (with_period s b (cond up p None)) new
 shifted pit s b p true old new below is are moves = λ r t lr lt.
     let changed = load-with pit s b p None r t below is in
     let moved = moved-in pit old new p (λ q. coef_of pit b q) r t lr moves in
@@ -153,26 +153,26 @@ shifted pit s b p false old new below is are moves = λ r t lr lt.
     omega (arith, ints, changed, are r t lr lt, moved, opposite)
 
 room : (pit : Pit) (s : ℕ → Option ℕ) (b t r : ℕ) (up : Bool) (load : ℤ) → IsSound pit → b < pit.blocks → s b ≡ cond up None (Some t) → load ≡ load_of pit s r t
-    → FitsSigned w128 (load +ℤ moved_by up (coef_of pit b r))
+    → FitsSigned w128 (load +ℤ signed_coef up (coef_of pit b r))
 room pit s b t r true load sound below is kept =
     let changed = load-with pit s b (Some t) None r t below is in
     let share = ap (λ x. cond x (coef_of pit b r) (pos 0)) (is_in-same t) in
-    let small = load-within pit (with_block s b (Some t)) r t sound in
+    let small = load-within pit (with_period s b (Some t)) r t sound in
     omega (arith, ints, changed, share, kept, small.low, small.high, sound.few_blocks)
 room pit s b t r false load sound below is kept =
     let changed = load-with pit s b None (Some t) r t below is in
     let share = ap (λ x. cond x (coef_of pit b r) (pos 0)) (is_in-same t) in
-    let small = load-within pit (with_block s b None) r t sound in
+    let small = load-within pit (with_period s b None) r t sound in
     omega (arith, ints, changed, share, kept, small.low, small.high, sound.few_blocks)
 
 -- so there is room for a block where it comes to, or where it leaves
 pub room-for : (pit : Pit) (s : ℕ → Option ℕ) (b : ℕ) (p : Option ℕ) (up : Bool) (loads : ℕ → ℕ → ℤ) → IsSound pit → b < pit.blocks → s b ≡ cond up None p → AreLoads pit s loads
-    → IfSome p (λ t. t < pit.periods) → IfSome p (λ t. (r : ℕ) → r < pit.resources → FitsSigned w128 (loads r t +ℤ moved_by up (coef_of pit b r)))
+    → IfSome p (λ t. t < pit.periods) → IfSome p (λ t. (r : ℕ) → r < pit.resources → FitsSigned w128 (loads r t +ℤ signed_coef up (coef_of pit b r)))
 room-for pit s b None up loads sound below is are in_range = tt
 room-for pit s b (Some t) up loads sound below is are in_range = λ r lr. room pit s b t r up (loads r t) sound below is (are r t lr in_range)
 
 pub taken : (pit : Pit) (s : ℕ → Option ℕ) (b : ℕ) (p : Option ℕ) (old new : List ℤ) (sum less : ℤ) → b < pit.blocks → s b ≡ p → AreTotals pit s old sum
-    → MovesIn pit (at_cell pit (cell_load old)) p (λ r. moved_by false (coef_of pit b r)) (at_cell pit (cell_load new)) → less ≡ sum -ℤ earned_in pit b p → AreTotals pit (with_block s b None) new less
+    → MovesIn pit (at_cell pit (cell_load old)) p (λ r. signed_coef false (coef_of pit b r)) (at_cell pit (cell_load new)) → less ≡ sum -ℤ earned_in pit b p → AreTotals pit (with_period s b None) new less
 taken pit s b p old new sum less below is are moves after = record {
   each = shifted pit s b p false (at_cell pit (cell_load old)) (at_cell pit (cell_load new)) below is are.each moves;
   value = let changed = value-with pit s b None p below is in omega (arith, ints, changed, are.value, after);
@@ -181,11 +181,11 @@ taken pit s b p old new sum less below is are moves after = record {
 pub sum-out : (pit : Pit) (s : ℕ → Option ℕ) (b : ℕ) (p : Option ℕ) (sum : ℤ) → IsSound pit → b < pit.blocks → s b ≡ p → sum ≡ value_of pit s → FitsSigned w128 (sum -ℤ earned_in pit b p)
 sum-out pit s b p sum sound below is kept =
     let changed = value-with pit s b None p below is in
-    let small = value-within pit (with_block s b None) sound in
+    let small = value-within pit (with_period s b None) sound in
     omega (arith, ints, changed, kept, small.low, small.high, sound.few_blocks)
 
 pub put : (pit : Pit) (s : ℕ → Option ℕ) (b : ℕ) (p : Option ℕ) (old new : List ℤ) (sum more : ℤ) → b < pit.blocks → s b ≡ None → AreTotals pit s old sum
-    → MovesIn pit (at_cell pit (cell_load old)) p (λ r. moved_by true (coef_of pit b r)) (at_cell pit (cell_load new)) → more ≡ sum +ℤ earned_in pit b p → AreTotals pit (with_block s b p) new more
+    → MovesIn pit (at_cell pit (cell_load old)) p (λ r. signed_coef true (coef_of pit b r)) (at_cell pit (cell_load new)) → more ≡ sum +ℤ earned_in pit b p → AreTotals pit (with_period s b p) new more
 put pit s b p old new sum more below is are moves after = record {
   each = shifted pit s b p true (at_cell pit (cell_load old)) (at_cell pit (cell_load new)) below is are.each moves;
   value = let changed = value-with pit s b p None below is in omega (arith, ints, changed, are.value, after);
@@ -194,7 +194,7 @@ put pit s b p old new sum more below is are moves after = record {
 pub sum-in : (pit : Pit) (s : ℕ → Option ℕ) (b : ℕ) (p : Option ℕ) (sum : ℤ) → IsSound pit → b < pit.blocks → s b ≡ None → sum ≡ value_of pit s → FitsSigned w128 (sum +ℤ earned_in pit b p)
 sum-in pit s b p sum sound below is kept =
     let changed = value-with pit s b p None below is in
-    let small = value-within pit (with_block s b p) sound in
+    let small = value-within pit (with_period s b p) sound in
     omega (arith, ints, changed, kept, small.low, small.high, sound.few_blocks)
 
 -- ---- tallies
@@ -206,7 +206,7 @@ period-in_range pit tally b p is below has =
 
 -- a tally with one block's period replaced, whose totals are those of the schedule
 pub tally-set : (pit : Pit) (old : Tallied) (b : ℕ) (p : Option ℕ) (loads : List ℤ) (worth : ℤ) → IsTally pit old → b < pit.blocks → IfSome p (λ t. t < pit.periods)
-    → length loads ≡ length old.loads → AreTotals pit (with_block (by_block old.periods) b p) loads worth
+    → length loads ≡ length old.loads → AreTotals pit (with_period (by_block old.periods) b p) loads worth
     → IsTally pit (record { periods = slice_set old.periods b p; loads = loads; worth = worth })
 tally-set pit old b p loads worth is below in_range len totals = record {
   each_period = length-set old.periods b p ∙ is.each_period;

@@ -7,7 +7,7 @@ use Rattle.std.proofs.lemmas.Bool.{cond-true, cond-false}
 use Rattle.std.proofs.lemmas.Bool.Decides.{eqb_tells}
 use Rattle.std.proofs.lemmas.List.{take_more, get_or-map, length-map}
 use Rattle.std.proofs.lemmas.List.Kept.{AllPairs-from_increasing}
-use Rattle.pit_plan.specs.Touched.{laid_over, IsNamed}
+use Rattle.pit_plan.specs.Touched.{overlaid_item, IsNamed}
 
 pub same-eq : (x b : ℕ) → x ≡ b → nat_eq x b ≡ true
 same-eq x b e = elim (eqb_tells x b) [ inl h ↦ h.0 | inr h ↦ absurd (h.1 e) ]
@@ -40,13 +40,13 @@ module _ {X : Type 0} where
       cond-false _ _ _ (first-apart p ps j d once (omega (arith, within))) ∙ lookup-at ps j d (once-tail p ps once) (omega (arith, within))
 
   -- a pair more, whose number isn't named yet
-  laid_over-push : (before : ℕ → X) (ps : List (ℕ × X)) (p : ℕ × X) (k : ℕ) → lookup (nat_eq p.0) ps ≡ None → laid_over before (ps ++ p ∷ []) k ≡ cond (nat_eq k p.0) p.1 (laid_over before ps k)
-  laid_over-push before [] p k none = elim (nat_eq k p.0) as (λ (b : Bool). unwrap_or (cond b (Some p.1) None) (before k) ≡ cond b p.1 (before k)) [ true ↦ refl | false ↦ refl ]
-  laid_over-push before (q ∷ qs) p k none =
+  overlaid_item-push : (before : ℕ → X) (ps : List (ℕ × X)) (p : ℕ × X) (k : ℕ) → lookup (nat_eq p.0) ps ≡ None → overlaid_item before (ps ++ p ∷ []) k ≡ cond (nat_eq k p.0) p.1 (overlaid_item before ps k)
+  overlaid_item-push before [] p k none = elim (nat_eq k p.0) as (λ (b : Bool). unwrap_or (cond b (Some p.1) None) (before k) ≡ cond b p.1 (before k)) [ true ↦ refl | false ↦ refl ]
+  overlaid_item-push before (q ∷ qs) p k none =
       elim (eqb_tells p.0 q.0) [
         | inl same ↦ absurd (cc (cond-true (nat_eq p.0 q.0) (Some q.1) (lookup (nat_eq p.0) qs) same.0, none))
         | inr apart ↦
-            let rest = laid_over-push before qs p k (sym (cond-false (nat_eq p.0 q.0) (Some q.1) (lookup (nat_eq p.0) qs) apart.0) ∙ none) in
+            let rest = overlaid_item-push before qs p k (sym (cond-false (nat_eq p.0 q.0) (Some q.1) (lookup (nat_eq p.0) qs) apart.0) ∙ none) in
             elim (eqb_tells k q.0) [
               | inl here ↦
                   ap (λ (b : Bool). unwrap_or (cond b (Some q.1) (lookup (nat_eq k) (qs ++ p ∷ []))) (before k)) here.0
@@ -57,9 +57,9 @@ module _ {X : Type 0} where
             ]
       ]
 
-  pub laid_over-more : (before : ℕ → X) (ps : List (ℕ × X)) (i k : ℕ) (d : ℕ × X) → Once ps → i < length ps
-      → laid_over before (take (i + 1) ps) k ≡ cond (nat_eq k (get_or ps i d).0) (get_or ps i d).1 (laid_over before (take i ps) k)
-  laid_over-more before ps i k d once within = rw (take_more ps i d within) (laid_over-push before (take i ps) (get_or ps i d) k (absent-before ps i d once within))
+  pub overlaid_item-more : (before : ℕ → X) (ps : List (ℕ × X)) (i k : ℕ) (d : ℕ × X) → Once ps → i < length ps
+      → overlaid_item before (take (i + 1) ps) k ≡ cond (nat_eq k (get_or ps i d).0) (get_or ps i d).1 (overlaid_item before (take i ps) k)
+  overlaid_item-more before ps i k d once within = rw (take_more ps i d within) (overlaid_item-push before (take i ps) (get_or ps i d) k (absent-before ps i d once within))
 
   named-push : (ps : List (ℕ × X)) (p : ℕ × X) (k : ℕ) → IsNamed ps k → IsNamed (ps ++ p ∷ []) k
   named-push [] p k is = absurd (cc (is))

@@ -7,11 +7,11 @@ use Rattle.pit_num.specs.Fitting.{RevisionsFit}
 use Rattle.pit_model.specs.Pit.{Pit, IsSound, lower_of}
 use Rattle.pit_plan.proofs.Sums.{total-same}
 use Rattle.pit_plan.specs.Schedule.{Commit, IsPred, by_block, coef_of, write_of, revision_of, held_period, limit_of, is_in, share, load_of, value_of, earned_in, in_order, is_within}
-use Rattle.pit_plan.specs.Standing.{Standing, StandsFor, limit_in_force}
+use Rattle.pit_plan.specs.Standing.{Standing, IsPlanOf, limit_in_force}
 use Rattle.pit_plan.specs.Breaches.{IsFirstBreach, IsOrdered, IsOutOfOrder, IsOverLimit, IsBreachOf, IsGood, IsGoodNow}
 use Rattle.pit_plan.specs.Totals.{at_cell}
 use Rattle.pit_plan.specs.Limits.{cell_limit, by_cell}
-use Rattle.pit_plan.specs.Touched.{laid_over}
+use Rattle.pit_plan.specs.Touched.{overlaid_item}
 use Rattle.pit_plan.specs.Shortfalls.{short_at, shorts_in, shortfalls_of}
 use Rattle.std.specs.List.{range_with_len}
 use Rattle.pit_plan.specs.declared.short.Short.{Short}
@@ -96,9 +96,9 @@ same-limits pit s lim also (Some (Over resource period load top)) h f = record {
 
 -- what is found of its periods and its limits is found of what its commits leave
 pub breach-of : (inside plan : Standing) (periods : List (Option ℕ)) (x : Option Breach) → inside ≡ plan → periods ≡ inside.periods → IsSound inside.pit
-    → IsFirstBreach inside.pit (by_block periods) (limit_in_force inside) x → (commits : List Commit) → StandsFor plan commits → IsBreachOf plan.pit commits x
+    → IsFirstBreach inside.pit (by_block periods) (limit_in_force inside) x → (commits : List Commit) → IsPlanOf plan commits → IsBreachOf plan.pit commits x
 breach-of inside plan periods x is same sound first commits =
-    subst (λ (p : Standing). StandsFor p commits → IsBreachOf p.pit commits x) is
+    subst (λ (p : Standing). IsPlanOf p commits → IsBreachOf p.pit commits x) is
     (λ st. same-limits inside.pit (held_period commits) (limit_in_force inside) (limit_of inside.pit commits) x st.limit
     (same-breach inside.pit (by_block inside.periods) (held_period commits) (limit_in_force inside) x sound st.period
     (subst (λ (ps : List (Option ℕ)). IsFirstBreach inside.pit (by_block ps) (limit_in_force inside) x) same first)))
@@ -106,40 +106,40 @@ breach-of inside plan periods x is same sound first commits =
 -- and what is found of these with a commit laid over them, where they are good, is found of what its commits and that one leave
 pub breach-after : (inside plan : Standing) (w : Commit) (x : Option Breach) → inside ≡ plan → IsSound inside.pit → RevisionsFit inside.pit.resources inside.pit.periods w.revises
     → (IsGood inside.pit (by_block inside.periods) (limit_in_force inside)
-    → IsFirstBreach inside.pit (laid_over (by_block inside.periods) w.writes) (at_cell inside.pit (laid_over (cell_limit inside.limits) (by_cell inside.pit w.revises))) x)
-    → IsGoodNow plan → (commits : List Commit) → StandsFor plan commits → IsBreachOf plan.pit (commits ++ w ∷ []) x
+    → IsFirstBreach inside.pit (overlaid_item (by_block inside.periods) w.writes) (at_cell inside.pit (overlaid_item (cell_limit inside.limits) (by_cell inside.pit w.revises))) x)
+    → IsGoodNow plan → (commits : List Commit) → IsPlanOf plan commits → IsBreachOf plan.pit (commits ++ w ∷ []) x
 breach-after inside plan w x is sound fit first good commits =
-    subst (λ (p : Standing). IsGoodNow p → StandsFor p commits → IsBreachOf p.pit (commits ++ w ∷ []) x) is
+    subst (λ (p : Standing). IsGoodNow p → IsPlanOf p commits → IsBreachOf p.pit (commits ++ w ∷ []) x) is
     (λ now st. same-limits inside.pit (held_period (commits ++ w ∷ [])) after (limit_of inside.pit (commits ++ w ∷ [])) x
     (λ r t lr lt. ap (λ (l : Option (Option ℤ)). unwrap_or l (limit_in_force inside r t)) (lookup-cell inside.pit r t w.revises lr fit)
     ∙ (ap (unwrap_or (revision_of w r t)) (st.limit r t lr lt) ∙ sym (limit_of-push inside.pit commits w r t)))
-    (same-breach inside.pit (laid_over (by_block inside.periods) w.writes) (held_period (commits ++ w ∷ [])) after x sound
+    (same-breach inside.pit (overlaid_item (by_block inside.periods) w.writes) (held_period (commits ++ w ∷ [])) after x sound
     (λ b below. ap (unwrap_or (write_of w b)) (st.period b below) ∙ sym (held_period-push commits w b))
     (first (same-limits inside.pit (by_block inside.periods) (limit_of inside.pit commits) (limit_in_force inside) None (λ r t lr lt. sym (st.limit r t lr lt))
     (same-breach inside.pit (held_period commits) (by_block inside.periods) (limit_of inside.pit commits) None sound (λ b below. sym (st.period b below)) (now commits st)))))) good
   where
     after : ℕ → ℕ → Option ℤ
-    after = at_cell inside.pit (laid_over (cell_limit inside.limits) (by_cell inside.pit w.revises))
+    after = at_cell inside.pit (overlaid_item (cell_limit inside.limits) (by_cell inside.pit w.revises))
 
 pub load-of : (inside plan : Standing) (periods : List (Option ℕ)) (r t : ℕ) (load : ℤ) → inside ≡ plan → periods ≡ inside.periods → load ≡ load_of inside.pit (by_block periods) r t
-    → (commits : List Commit) → StandsFor plan commits → load ≡ load_of plan.pit (held_period commits) r t
+    → (commits : List Commit) → IsPlanOf plan commits → load ≡ load_of plan.pit (held_period commits) r t
 load-of inside plan periods r t load is same found commits =
-    subst (λ (p : Standing). StandsFor p commits → load ≡ load_of p.pit (held_period commits) r t) is
+    subst (λ (p : Standing). IsPlanOf p commits → load ≡ load_of p.pit (held_period commits) r t) is
     (λ st. found ∙ (ap (λ (ps : List (Option ℕ)). load_of inside.pit (by_block ps) r t) same ∙ same-load inside.pit (by_block inside.periods) (held_period commits) r t st.period))
 
 pub value-of : (inside plan : Standing) (periods : List (Option ℕ)) (worth : ℤ) → inside ≡ plan → periods ≡ inside.periods → worth ≡ value_of inside.pit (by_block periods)
-    → (commits : List Commit) → StandsFor plan commits → worth ≡ value_of plan.pit (held_period commits)
+    → (commits : List Commit) → IsPlanOf plan commits → worth ≡ value_of plan.pit (held_period commits)
 value-of inside plan periods worth is same found commits =
-    subst (λ (p : Standing). StandsFor p commits → worth ≡ value_of p.pit (held_period commits)) is
+    subst (λ (p : Standing). IsPlanOf p commits → worth ≡ value_of p.pit (held_period commits)) is
     (λ st. found ∙ (ap (λ (ps : List (Option ℕ)). value_of inside.pit (by_block ps)) same ∙ same-value inside.pit (by_block inside.periods) (held_period commits) st.period))
 
 pub shortfalls-of : (inside plan : Standing) (periods : List (Option ℕ)) (shorts : List Short) → inside ≡ plan → periods ≡ inside.periods → shorts ≡ shortfalls_of inside.pit (by_block periods)
-    → (commits : List Commit) → StandsFor plan commits → shorts ≡ shortfalls_of plan.pit (held_period commits)
+    → (commits : List Commit) → IsPlanOf plan commits → shorts ≡ shortfalls_of plan.pit (held_period commits)
 shortfalls-of inside plan periods shorts is same found commits =
-    subst (λ (p : Standing). StandsFor p commits → shorts ≡ shortfalls_of p.pit (held_period commits)) is
+    subst (λ (p : Standing). IsPlanOf p commits → shorts ≡ shortfalls_of p.pit (held_period commits)) is
     (λ st. found ∙ (ap (λ (ps : List (Option ℕ)). shortfalls_of inside.pit (by_block ps)) same ∙ same-shortfalls inside.pit (by_block inside.periods) (held_period commits) st.period))
 
 pub shortfalls-some : (inside plan : Standing) (periods : List (Option ℕ)) → inside ≡ plan → periods ≡ inside.periods → shortfalls_of inside.pit (by_block periods) ≢ []
-    → (commits : List Commit) → StandsFor plan commits → shortfalls_of plan.pit (held_period commits) ≢ []
+    → (commits : List Commit) → IsPlanOf plan commits → shortfalls_of plan.pit (held_period commits) ≢ []
 shortfalls-some inside plan periods is same some commits stands =
     λ none. some (shortfalls-of inside plan periods (shortfalls_of inside.pit (by_block periods)) is same refl commits stands ∙ none)

@@ -10,7 +10,7 @@ use Rattle.std.proofs.lemmas.Bool.Decides.{eqb_tells}
 use Rattle.pit_num.specs.Fitting.{Fits, RevisionsFit}
 use Rattle.pit_model.specs.Pit.{Pit, cell_of, upper_of}
 use Rattle.pit_plan.specs.Schedule.{Commit, write_of, revision_of, held_period, last_number, limit_of}
-use Rattle.pit_plan.specs.Standing.{Standing, StandsFor, Adds}
+use Rattle.pit_plan.specs.Standing.{Standing, IsPlanOf, Adds}
 use Rattle.pit_plan.specs.InsidePlan.{with_writes}
 use Rattle.pit_plan.specs.Totals.{at_cell}
 use Rattle.pit_plan.specs.Limits.{cell_limit, by_cell}
@@ -96,7 +96,7 @@ with_writes-adds old commit periods versions limits fits revised = record {
   };
 }
   where
-    by-period : (commits : List Commit) → StandsFor old commits → (b : ℕ) → b < old.pit.blocks → (x : Option (Option ℕ)) → write_of commit b ≡ x
+    by-period : (commits : List Commit) → IsPlanOf old commits → (b : ℕ) → b < old.pit.blocks → (x : Option (Option ℕ)) → write_of commit b ≡ x
         → get_or (with_writes (λ w. w.1) old.periods commit.writes) b None ≡ held_period (commits ++ commit ∷ []) b
     by-period commits st b below None is =
         with_writes-other (λ w. w.1) old.periods commit.writes b None is ∙ (st.period b below ∙ sym (held_period-push commits commit b ∙ ap (λ y. unwrap_or y (held_period commits b)) is))
@@ -104,7 +104,7 @@ with_writes-adds old commit periods versions limits fits revised = record {
         with_writes-named (λ w. w.1) old.periods commit.writes b None p (once-from_pairs commit.writes fits.once) (omega (arith, below, periods)) is
         ∙ sym (held_period-push commits commit b ∙ ap (λ y. unwrap_or y (held_period commits b)) is)
 
-    by-version : (commits : List Commit) → StandsFor old commits → (b : ℕ) → b < old.pit.blocks → (x : Option (Option ℕ)) → write_of commit b ≡ x
+    by-version : (commits : List Commit) → IsPlanOf old commits → (b : ℕ) → b < old.pit.blocks → (x : Option (Option ℕ)) → write_of commit b ≡ x
         → get_or (with_writes (λ w. old.commits + 1) old.versions commit.writes) b 0 ≡ last_number (commits ++ commit ∷ []) b
     by-version commits st b below None is =
         with_writes-other (λ w. old.commits + 1) old.versions commit.writes b 0 is
@@ -113,7 +113,7 @@ with_writes-adds old commit periods versions limits fits revised = record {
         with_writes-named (λ w. old.commits + 1) old.versions commit.writes b 0 p (once-from_pairs commit.writes fits.once) (omega (arith, below, versions)) is
         ∙ (omega (arith, st.count) ∙ sym (last_number-push commits commit b ∙ ap (λ y. cond (is_some y) (length commits + 1) (last_number commits b)) is))
 
-    by-limit : (commits : List Commit) → StandsFor old commits → (r t : ℕ) → r < old.pit.resources → t < old.pit.periods → (x : Option (Option ℤ)) → revision_of commit r t ≡ x
+    by-limit : (commits : List Commit) → IsPlanOf old commits → (r t : ℕ) → r < old.pit.resources → t < old.pit.periods → (x : Option (Option ℤ)) → revision_of commit r t ≡ x
         → get_or (with_writes (λ v. v.1) old.limits (by_cell old.pit commit.revises)) (cell_of old.pit r t) None ≡ limit_of old.pit (commits ++ commit ∷ []) r t
     by-limit commits st r t lr lt None is =
         with_writes-other (λ v. v.1) old.limits (by_cell old.pit commit.revises) (cell_of old.pit r t) None (lookup-cell old.pit r t commit.revises lr revised ∙ is)
@@ -125,7 +125,7 @@ with_writes-adds old commit periods versions limits fits revised = record {
 
 -- a pit without a period for any block, and with its own limits
 pub nothing-stands : (pit : Pit) (limits : List (Option ℤ)) → ((r t : ℕ) → r < pit.resources → t < pit.periods → at_cell pit (cell_limit limits) r t ≡ upper_of pit r t)
-    → StandsFor (record { pit = pit; commits = 0; periods = replicate pit.blocks None; versions = replicate pit.blocks 0; limits = limits }) []
+    → IsPlanOf (record { pit = pit; commits = 0; periods = replicate pit.blocks None; versions = replicate pit.blocks 0; limits = limits }) []
 nothing-stands pit limits each = record {
   count = refl;
   period = λ b below. get_or-replicate pit.blocks b None None below ∙ sym (held_period-nil b);

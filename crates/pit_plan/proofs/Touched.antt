@@ -13,24 +13,24 @@ use Rattle.pit_num.specs.Least.{ComesBefore, IsLeast, IsLeastOf}
 use Rattle.pit_num.proofs.CallerLemmas.{least-same}
 use Rattle.pit_model.specs.Pit.{Pit, cell_of}
 use Rattle.pit_plan.specs.Schedule.{Writes, by_block, load_of, in_order, is_within}
-use Rattle.pit_plan.specs.Totals.{Tallied, IsTally, AreLoads, Raises, cell_load, at_cell, with_block}
-use Rattle.pit_plan.specs.Touched.{laid_over, lesser_of, IsNamed, IsOutNear, IsOverAt, IsLeastOver, AreMoved, SetsCell, LooksAt}
+use Rattle.pit_plan.specs.Totals.{Tallied, IsTally, AreLoads, Raises, cell_load, at_cell, with_period}
+use Rattle.pit_plan.specs.Touched.{overlaid_item, lesser_of, IsNamed, IsOutNear, IsOverAt, IsLeastOver, AreMoved, SetsCell, LooksAt}
 use Rattle.pit_plan.specs.Breaches.{IsOrdered, IsUnderLimits, IsOutOfOrder, IsOverLimit, IsFirstBreach}
 use Rattle.pit_plan.specs.declared.breach.Breach.TheVariants.{Precedence, Over}
 use Rattle.pit_plan.specs.declared.breach.Breach.{Breach}
 use Rattle.pit_plan.proofs.Least.{least-lesser}
 use Rattle.pit_plan.proofs.Good.{within-from_none}
 use Rattle.pit_plan.proofs.Same.{same-load}
-use Rattle.pit_plan.proofs.Named.{Once, absent-before, laid_over-more, named-keeps, named-own, named-before, same-eq}
-use Rattle.pit_plan.proofs.Cells.{place-known}
+use Rattle.pit_plan.proofs.Named.{Once, absent-before, overlaid_item-more, named-keeps, named-own, named-before, same-eq}
+use Rattle.pit_plan.proofs.Cells.{pair-known}
 use Rattle.pit_model.proofs.CallerLemmas.{cells_apart, same_resource}
 
 -- ---- a cell that is set
 
-pub raises-cell : (kept : ℕ → ℤ) (cells new : List (ℕ × ℤ)) (cell : ℕ) (by : ℤ) → SetsCell cells cell (laid_over kept cells cell +ℤ by) new → Raises (laid_over kept cells) cell by (laid_over kept new)
+pub raises-cell : (kept : ℕ → ℤ) (cells new : List (ℕ × ℤ)) (cell : ℕ) (by : ℤ) → SetsCell cells cell (overlaid_item kept cells cell +ℤ by) new → Raises (overlaid_item kept cells) cell by (overlaid_item kept new)
 raises-cell kept cells new cell by sets k =
     ap (λ (x : Option ℤ). unwrap_or x (kept k)) (sets k)
-    ∙ elim (nat_eq cell k) as (λ t. unwrap_or (cond t (Some (laid_over kept cells cell +ℤ by)) (lookup (nat_eq k) cells)) (kept k) ≡ cond t (laid_over kept cells cell +ℤ by) (laid_over kept cells k)) [
+    ∙ elim (nat_eq cell k) as (λ t. unwrap_or (cond t (Some (overlaid_item kept cells cell +ℤ by)) (lookup (nat_eq k) cells)) (kept k) ≡ cond t (overlaid_item kept cells cell +ℤ by) (overlaid_item kept cells k)) [
       | true ↦ refl
       | false ↦ refl
     ]
@@ -45,21 +45,21 @@ named-set cells new cell n load sets below each k is =
 -- ---- a write more
 
 -- the block of the next write has the period that it had
-pub laid_over-next : (periods : List (Option ℕ)) (writes : Writes) (k : ℕ) → Once writes → k < length writes
-    → laid_over (by_block periods) (take k writes) (get_or writes k (0, None)).0 ≡ by_block periods (get_or writes k (0, None)).0
-laid_over-next periods writes k once within =
+pub overlaid_item-next : (periods : List (Option ℕ)) (writes : Writes) (k : ℕ) → Once writes → k < length writes
+    → overlaid_item (by_block periods) (take k writes) (get_or writes k (0, None)).0 ≡ by_block periods (get_or writes k (0, None)).0
+overlaid_item-next periods writes k once within =
     ap (λ (x : Option (Option ℕ)). unwrap_or x (by_block periods (get_or writes k (0, None)).0)) (absent-before writes k (0, None) once within)
 
 -- once its block is out of that and in its new one, the loads are those after the write
 pub loads-next : (pit : Pit) (periods : List (Option ℕ)) (writes : Writes) (k : ℕ) (loads : ℕ → ℕ → ℤ) → Once writes → k < length writes
-    → AreLoads pit (with_block (with_block (laid_over (by_block periods) (take k writes)) (get_or writes k (0, None)).0 None) (get_or writes k (0, None)).0 (get_or writes k (0, None)).1) loads
-    → AreLoads pit (laid_over (by_block periods) (take (k + 1) writes)) loads
-loads-next pit periods writes k loads once within are = λ r t lr lt. are r t lr lt ∙ same-load pit _ (laid_over (by_block periods) (take (k + 1) writes)) r t (λ x _. sym (laid_over-more (by_block periods) writes k x (0, None) once within ∙ sym (twice x)))
+    → AreLoads pit (with_period (with_period (overlaid_item (by_block periods) (take k writes)) (get_or writes k (0, None)).0 None) (get_or writes k (0, None)).0 (get_or writes k (0, None)).1) loads
+    → AreLoads pit (overlaid_item (by_block periods) (take (k + 1) writes)) loads
+loads-next pit periods writes k loads once within are = λ r t lr lt. are r t lr lt ∙ same-load pit _ (overlaid_item (by_block periods) (take (k + 1) writes)) r t (λ x _. sym (overlaid_item-more (by_block periods) writes k x (0, None) once within ∙ sym (twice x)))
   where
-    twice : (x : ℕ) → with_block (with_block (laid_over (by_block periods) (take k writes)) (get_or writes k (0, None)).0 None) (get_or writes k (0, None)).0 (get_or writes k (0, None)).1 x
-        ≡ cond (nat_eq x (get_or writes k (0, None)).0) (get_or writes k (0, None)).1 (laid_over (by_block periods) (take k writes) x)
+    twice : (x : ℕ) → with_period (with_period (overlaid_item (by_block periods) (take k writes)) (get_or writes k (0, None)).0 None) (get_or writes k (0, None)).0 (get_or writes k (0, None)).1 x
+        ≡ cond (nat_eq x (get_or writes k (0, None)).0) (get_or writes k (0, None)).1 (overlaid_item (by_block periods) (take k writes) x)
     twice x =
-        elim (nat_eq x (get_or writes k (0, None)).0) as (λ t. cond t (get_or writes k (0, None)).1 (cond t None (laid_over (by_block periods) (take k writes) x)) ≡ cond t (get_or writes k (0, None)).1 (laid_over (by_block periods) (take k writes) x)) [
+        elim (nat_eq x (get_or writes k (0, None)).0) as (λ t. cond t (get_or writes k (0, None)).1 (cond t None (overlaid_item (by_block periods) (take k writes) x)) ≡ cond t (get_or writes k (0, None)).1 (overlaid_item (by_block periods) (take k writes) x)) [
           | true ↦ refl
           | false ↦ refl
         ]
@@ -88,15 +88,15 @@ out-next pit s writes k w least before behind within is near first last =
     NearOrFirst p = IsOutNear pit s (take k writes) p ⊎ (IsOutOfOrder pit s p × (p.0 ≡ w))
 
 -- a number that the list doesn't name has what was there
-laid_over-absent : {X : Type 0} (before : ℕ → X) (pairs : List (ℕ × X)) (k : ℕ) → is_some (lookup (nat_eq k) pairs) ≡ false → laid_over before pairs k ≡ before k
-laid_over-absent {X = X} before pairs k none = by (lookup (nat_eq k) pairs) none
+overlaid_item-absent : {X : Type 0} (before : ℕ → X) (pairs : List (ℕ × X)) (k : ℕ) → is_some (lookup (nat_eq k) pairs) ≡ false → overlaid_item before pairs k ≡ before k
+overlaid_item-absent {X = X} before pairs k none = by (lookup (nat_eq k) pairs) none
   where
     by : (x : Option X) → is_some x ≡ false → unwrap_or x (before k) ≡ before k
     by None e = refl
     by (Some v) e = absurd (true≢false e)
 
 -- where no block is written no pair is out of order that wasn't
-near-out : (pit : Pit) (s : ℕ → Option ℕ) (writes : Writes) (p : ℕ × ℕ) → IsOrdered pit s → IsOutOfOrder pit (laid_over s writes) p → IsOutNear pit (laid_over s writes) writes p
+near-out : (pit : Pit) (s : ℕ → Option ℕ) (writes : Writes) (p : ℕ × ℕ) → IsOrdered pit s → IsOutOfOrder pit (overlaid_item s writes) p → IsOutNear pit (overlaid_item s writes) writes p
 near-out pit s writes p ordered out =
     elim (cases_Bool (is_some (lookup (nat_eq p.0) writes))) [
       | inl named ↦ (out, inl named)
@@ -105,24 +105,24 @@ near-out pit s writes p ordered out =
             | inl named ↦ (out, inr named)
             | inr also ↦
                 let old : in_order (s p.0) (s p.1) ≡ false =
-                ap (λ (x : Option ℕ). in_order x (s p.1)) (sym (laid_over-absent s writes p.0 kept))
-                ∙ (ap (λ (x : Option ℕ). in_order (laid_over s writes p.0) x) (sym (laid_over-absent s writes p.1 also)) ∙ out.1) in
+                ap (λ (x : Option ℕ). in_order x (s p.1)) (sym (overlaid_item-absent s writes p.0 kept))
+                ∙ (ap (λ (x : Option ℕ). in_order (overlaid_item s writes p.0) x) (sym (overlaid_item-absent s writes p.1 also)) ∙ out.1) in
                 absurd (true≢false (sym (ordered p.0 p.1 out.0) ∙ old))
           ]
     ]
 
 -- so the least of the pairs near the writes is the least of all
-pub least-after : (pit : Pit) (s : ℕ → Option ℕ) (writes : Writes) (found : Option (ℕ × ℕ)) → IsOrdered pit s → IsLeast ComesBefore (IsOutNear pit (laid_over s writes) writes) found
-    → IsLeast ComesBefore (IsOutOfOrder pit (laid_over s writes)) found
+pub least-after : (pit : Pit) (s : ℕ → Option ℕ) (writes : Writes) (found : Option (ℕ × ℕ)) → IsOrdered pit s → IsLeast ComesBefore (IsOutNear pit (overlaid_item s writes) writes) found
+    → IsLeast ComesBefore (IsOutOfOrder pit (overlaid_item s writes)) found
 least-after pit s writes found ordered least =
-    least-same ComesBefore (IsOutNear pit (laid_over s writes) writes) (IsOutOfOrder pit (laid_over s writes)) found least (λ p near. near.0) (λ p out. near-out pit s writes p ordered out)
+    least-same ComesBefore (IsOutNear pit (overlaid_item s writes) writes) (IsOutOfOrder pit (overlaid_item s writes)) found least (λ p near. near.0) (λ p out. near-out pit s writes p ordered out)
 
 -- ---- cells
 
 -- the period and the resource of a cell
-place : (pit : Pit) (cell x y : ℕ) → cell < pit.periods * pit.resources → y < pit.resources → cell_of pit y x ≡ cell → (x ≡ cell / pit.resources) × (y ≡ cell % pit.resources)
-place pit cell x y within ly is =
-    let known = place-known pit cell within in
+pair-of : (pit : Pit) (cell x y : ℕ) → cell < pit.periods * pit.resources → y < pit.resources → cell_of pit y x ≡ cell → (x ≡ cell / pit.resources) × (y ≡ cell % pit.resources)
+pair-of pit cell x y within ly is =
+    let known = pair-known pit cell within in
     let same = cells_apart pit.resources y (cell % pit.resources) x (cell / pit.resources) ly known.0 (is ∙ sym known.2) in
     (same, same_resource pit.resources (cell % pit.resources) y (cell / pit.resources) x (known.2 ∙ sym is) (sym same))
 
@@ -147,12 +147,12 @@ pub cell-over : (pit : Pit) (limits : ℕ → Option ℤ) (cells : List (ℕ × 
 cell-over pit limits cells cell m n load limit m_is n_is within at upper fails = rw (m_is, n_is) (record {
   passes = ((known.1, known.0, (load, ap (λ (k : ℕ). lookup (nat_eq k) cells) known.2 ∙ at, ap (is_within load) (ap limits known.2 ∙ upper) ∙ fails)), known.2);
   first = λ p is before.
-      let there = place pit cell p.0 p.1 within is.0.1 is.1 in
+      let there = pair-of pit cell p.0 p.1 within is.0.1 is.1 in
       elim before [ inl less ↦ omega (arith, less, there.0) | inr same ↦ omega (arith, same.1, there.1) ];
 })
   where
     known : (cell % pit.resources < pit.resources) × (cell / pit.resources < pit.periods) × (cell_of pit (cell % pit.resources) (cell / pit.resources) ≡ cell)
-    known = place-known pit cell within
+    known = pair-known pit cell within
 
 -- one more cell
 pub over-next-cell : (pit : Pit) (lim : ℕ → ℕ → Option ℤ) (cells : List (ℕ × ℤ)) (i : ℕ) (least found : Option (ℕ × ℕ)) → i < length cells
@@ -177,7 +177,7 @@ over-all-cells pit lim cells n least whole is =
 
 -- the load of a cell that was moved is that of the schedule after the writes
 cell-load : (pit : Pit) (tally : Tallied) (writes : Writes) (kept : List ℤ) (cells : List (ℕ × ℤ)) (r t : ℕ) (load : ℤ) → AreMoved pit tally writes kept cells → r < pit.resources → t < pit.periods
-    → lookup (nat_eq (cell_of pit r t)) cells ≡ Some load → load ≡ load_of pit (laid_over (by_block tally.periods) writes) r t
+    → lookup (nat_eq (cell_of pit r t)) cells ≡ Some load → load ≡ load_of pit (overlaid_item (by_block tally.periods) writes) r t
 cell-load pit tally writes kept cells r t load moved lr lt at = ap (λ (x : Option ℤ). unwrap_or x (cell_load kept (cell_of pit r t))) (sym at) ∙ moved.loads r t lr lt
 
 -- the limits are as before but for cells that are among those that are moved
@@ -186,13 +186,13 @@ IsRevisedAt pit old lim cells = (r t : ℕ) → lookup (nat_eq (cell_of pit r t)
 
 -- a load that is above its limit was moved, or its limit revised
 over-cell : (pit : Pit) (tally : Tallied) (writes : Writes) (kept : List ℤ) (cells : List (ℕ × ℤ)) (old lim : ℕ → ℕ → Option ℤ) (p : ℕ × ℕ) → IsTally pit tally → AreMoved pit tally writes kept cells
-    → IsRevisedAt pit old lim cells → IsUnderLimits pit (by_block tally.periods) old → IsOverLimit pit (laid_over (by_block tally.periods) writes) lim p → IsOverAt pit lim cells p
+    → IsRevisedAt pit old lim cells → IsUnderLimits pit (by_block tally.periods) old → IsOverLimit pit (overlaid_item (by_block tally.periods) writes) lim p → IsOverAt pit lim cells p
 over-cell pit tally writes kept cells old lim p is moved revised under over = by (lookup (nat_eq (cell_of pit p.1 p.0)) cells) refl
   where
     by : (x : Option ℤ) → lookup (nat_eq (cell_of pit p.1 p.0)) cells ≡ x → IsOverAt pit lim cells p
     by (Some load) e = (over.0, over.1, (load, e, ap (λ (z : ℤ). is_within z (lim p.1 p.0)) (cell-load pit tally writes kept cells p.1 p.0 load moved over.1 over.0 e) ∙ over.2))
     by None e =
-        let loads : load_of pit (by_block tally.periods) p.1 p.0 ≡ load_of pit (laid_over (by_block tally.periods) writes) p.1 p.0 =
+        let loads : load_of pit (by_block tally.periods) p.1 p.0 ≡ load_of pit (overlaid_item (by_block tally.periods) writes) p.1 p.0 =
         sym (is.totals.each p.1 p.0 over.1 over.0)
         ∙ (ap (λ (loads : List ℤ). cell_load loads (cell_of pit p.1 p.0)) (sym moved.same)
         ∙ (ap (λ (x : Option ℤ). unwrap_or x (cell_load kept (cell_of pit p.1 p.0))) (sym e) ∙ moved.loads p.1 p.0 over.1 over.0)) in
@@ -202,9 +202,9 @@ over-cell pit tally writes kept cells old lim p is moved revised under over = by
 -- so the least of the moved cells is the least load of all that is above its limit
 over-after : (pit : Pit) (tally : Tallied) (writes : Writes) (kept : List ℤ) (cells : List (ℕ × ℤ)) (old lim : ℕ → ℕ → Option ℤ) (found : Option (ℕ × ℕ)) → IsTally pit tally → AreMoved pit tally writes kept cells
     → IsRevisedAt pit old lim cells → IsUnderLimits pit (by_block tally.periods) old → IsLeast ComesBefore (IsOverAt pit lim cells) found
-    → IsLeast ComesBefore (IsOverLimit pit (laid_over (by_block tally.periods) writes) lim) found
+    → IsLeast ComesBefore (IsOverLimit pit (overlaid_item (by_block tally.periods) writes) lim) found
 over-after pit tally writes kept cells old lim found is moved revised under least =
-    least-same ComesBefore (IsOverAt pit lim cells) (IsOverLimit pit (laid_over (by_block tally.periods) writes) lim) found least
+    least-same ComesBefore (IsOverAt pit lim cells) (IsOverLimit pit (overlaid_item (by_block tally.periods) writes) lim) found least
     (λ p over. (over.0, over.1, ap (λ (z : ℤ). is_within z (lim p.1 p.0)) (sym (cell-load pit tally writes kept cells p.1 p.0 over.2.0 moved over.1 over.0 over.2.1)) ∙ over.2.2))
     (λ p over. over-cell pit tally writes kept cells old lim p is moved revised under over)
 
@@ -215,17 +215,17 @@ pub moved-looked : (pit : Pit) (tally : Tallied) (writes : Writes) (revised : Li
     → LooksAt revised kept cells new_kept new → AreMoved pit tally writes new_kept new
 moved-looked pit tally writes revised kept new_kept cells new moved looks = record {
   same = looks.same ∙ moved.same;
-  loads = λ r t lr lt. ap (λ (ks : List ℤ). laid_over (cell_load ks) new (cell_of pit r t)) looks.same ∙ (looks.loads (cell_of pit r t) ∙ moved.loads r t lr lt);
+  loads = λ r t lr lt. ap (λ (ks : List ℤ). overlaid_item (cell_load ks) new (cell_of pit r t)) looks.same ∙ (looks.loads (cell_of pit r t) ∙ moved.loads r t lr lt);
   in_range = λ k is. subst (λ (ks : List ℤ). k < length ks) (sym looks.same) (looks.in_range k is);
 }
 
 -- a cell that isn't looked at has the limit that it had
 pub revised-looked : (pit : Pit) (limits : ℕ → Option ℤ) (revised : List (ℕ × Option ℤ)) (cells : List (ℕ × ℤ)) → ((k : ℕ) → IsNamed revised k → IsNamed cells k)
-    → IsRevisedAt pit (at_cell pit limits) (at_cell pit (laid_over limits revised)) cells
+    → IsRevisedAt pit (at_cell pit limits) (at_cell pit (overlaid_item limits revised)) cells
 revised-looked pit limits revised cells named r t none =
     elim (cases_Bool (is_some (lookup (nat_eq (cell_of pit r t)) revised))) [
       | inl is ↦ absurd (true≢false (sym (named (cell_of pit r t) is) ∙ ap (λ (x : Option ℤ). is_some x) none))
-      | inr absent ↦ laid_over-absent limits revised (cell_of pit r t) absent
+      | inr absent ↦ overlaid_item-absent limits revised (cell_of pit r t) absent
     ]
 
 pub looks-none : (kept : List ℤ) (cells : List (ℕ × ℤ)) → ((k : ℕ) → IsNamed cells k → k < length kept) → LooksAt [] kept cells kept cells
@@ -238,7 +238,7 @@ looks-none kept cells below = record {
 
 -- one more revised cell is looked at
 pub looks-more : (revised : List (ℕ × Option ℤ)) (i : ℕ) (d : ℕ × Option ℤ) (kept now_kept new_kept : List ℤ) (cells now new : List (ℕ × ℤ)) → i < length revised → (get_or revised i d).0 < length kept
-    → LooksAt (take i revised) kept cells now_kept now → new_kept ≡ now_kept → SetsCell now (get_or revised i d).0 (laid_over (cell_load now_kept) now (get_or revised i d).0) new
+    → LooksAt (take i revised) kept cells now_kept now → new_kept ≡ now_kept → SetsCell now (get_or revised i d).0 (overlaid_item (cell_load now_kept) now (get_or revised i d).0) new
     → LooksAt (take (i + 1) revised) kept cells new_kept new
 looks-more revised i d kept now_kept new_kept cells now new within below looks stays sets = record {
   same = stays ∙ looks.same;
@@ -253,12 +253,12 @@ looks-more revised i d kept now_kept new_kept cells now new within below looks s
     at : ℕ
     at = (get_or revised i d).0
 
-    same-load-at : (k : ℕ) → laid_over (cell_load kept) new k ≡ laid_over (cell_load kept) now k
+    same-load-at : (k : ℕ) → overlaid_item (cell_load kept) new k ≡ overlaid_item (cell_load kept) now k
     same-load-at k =
         elim (eqb_tells at k) [
           | inl here ↦
               ap (λ (x : Option ℤ). unwrap_or x (cell_load kept k)) (sets k ∙ cond-true _ _ _ here.0)
-              ∙ (ap (λ (ks : List ℤ). laid_over (cell_load ks) now at) looks.same ∙ ap (λ (n : ℕ). laid_over (cell_load kept) now n) here.1)
+              ∙ (ap (λ (ks : List ℤ). overlaid_item (cell_load ks) now at) looks.same ∙ ap (λ (n : ℕ). overlaid_item (cell_load kept) now n) here.1)
           | inr there ↦ ap (λ (x : Option ℤ). unwrap_or x (cell_load kept k)) (sets k ∙ cond-false _ _ _ there.0)
         ]
 
@@ -272,11 +272,11 @@ looks-more revised i d kept now_kept new_kept cells now new within below looks s
 -- ---- the first breach that the writes leave
 
 pub over-found : (pit : Pit) (tally : Tallied) (writes : Writes) (kept : List ℤ) (cells : List (ℕ × ℤ)) (old lim : ℕ → ℕ → Option ℤ) (found : Option Breach) → IsTally pit tally → AreMoved pit tally writes kept cells
-    → IsRevisedAt pit old lim cells → IsUnderLimits pit (by_block tally.periods) old → IsOrdered pit (laid_over (by_block tally.periods) writes)
-    → IfNone found (IsLeast ComesBefore (IsOverAt pit lim cells) None) → IfSome found (IsLeastOver pit lim cells) → IsFirstBreach pit (laid_over (by_block tally.periods) writes) lim found
+    → IsRevisedAt pit old lim cells → IsUnderLimits pit (by_block tally.periods) old → IsOrdered pit (overlaid_item (by_block tally.periods) writes)
+    → IfNone found (IsLeast ComesBefore (IsOverAt pit lim cells) None) → IfSome found (IsLeastOver pit lim cells) → IsFirstBreach pit (overlaid_item (by_block tally.periods) writes) lim found
 over-found pit tally writes kept cells old lim None is moved revised under ordered none some = record {
   ordered = ordered;
-  within = within-from_none pit (laid_over (by_block tally.periods) writes) lim (over-after pit tally writes kept cells old lim None is moved revised under none);
+  within = within-from_none pit (overlaid_item (by_block tally.periods) writes) lim (over-after pit tally writes kept cells old lim None is moved revised under none);
 }
 over-found pit tally writes kept cells old lim (Some (Precedence block before)) is moved revised under ordered none some = absurd some
 over-found pit tally writes kept cells old lim (Some (Over r t load top)) is moved revised under ordered none some = record {

@@ -3,7 +3,7 @@ use Rattle.std.specs.Prelude.{◌≡◌, ℕ, ◌<◌, ℤ, true, false, List, O
 use Rattle.pit_num.specs.Least.{ComesBefore, IsLeastOf}
 use Rattle.pit_model.specs.Pit.{Pit}
 use Rattle.pit_plan.specs.Schedule.{Commit, held_period, limit_of, load_of, in_order, is_within, IsPred}
-use Rattle.pit_plan.specs.Standing.{Standing, StandsFor}
+use Rattle.pit_plan.specs.Standing.{Standing, IsPlanOf}
 use Rattle.pit_plan.specs.declared.breach.Breach.{Breach}
 use Rattle.pit_plan.specs.declared.breach.Breach.TheVariants.{Precedence, Over}
 
@@ -51,4 +51,4 @@ IsBreachOf pit commits breach = IsFirstBreach pit (held_period commits) (limit_o
 
 -- no plan that stands as this one does has a breach
 abbrev pub IsGoodNow : Standing → Type 0
-IsGoodNow plan = (commits : List Commit) → StandsFor plan commits → AreGood plan.pit commits
+IsGoodNow plan = (commits : List Commit) → IsPlanOf plan commits → AreGood plan.pit commits

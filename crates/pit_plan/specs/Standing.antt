@@ -24,7 +24,7 @@ abbrev pub limit_in_force : Standing → ℕ → ℕ → Option ℤ
 limit_in_force plan r t = at_cell plan.pit (cell_limit plan.limits) r t
 
 -- the plan is what the commits leave
-pub record StandsFor (plan : Standing) (commits : List Commit) : Type 0 where
+pub record IsPlanOf (plan : Standing) (commits : List Commit) : Type 0 where
   pub count : plan.commits ≡ length commits
   pub period : (b : ℕ) → b < plan.pit.blocks → period_of plan b ≡ held_period commits b
   pub version : (b : ℕ) → b < plan.pit.blocks → version_of plan b ≡ last_number commits b
@@ -33,4 +33,4 @@ pub record StandsFor (plan : Standing) (commits : List Commit) : Type 0 where
 -- a commit was added: whatever the plan stood for, it stands for that and then the commit
 pub record Adds (old : Standing) (commit : Commit) (new : Standing) : Type 0 where
   pub pit : new.pit ≡ old.pit
-  pub stands : (commits : List Commit) → StandsFor old commits → StandsFor new (commits ++ commit ∷ [])
+  pub stands : (commits : List Commit) → IsPlanOf old commits → IsPlanOf new (commits ++ commit ∷ [])

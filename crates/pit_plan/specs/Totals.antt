@@ -34,8 +34,8 @@ pub record IsTally (pit : Pit) (tally : Tallied) : Type 0 where
   pub totals : AreTotals pit (by_block tally.periods) tally.loads tally.worth
 
 -- a coefficient that is put in, or taken out
-abbrev pub moved_by : Bool → ℤ → ℤ
-moved_by up coef = if up then coef else neg_ℤ coef
+abbrev pub signed_coef : Bool → ℤ → ℤ
+signed_coef up coef = if up then coef else neg_ℤ coef
 
 -- the loads of one period are moved by what `by` says of each resource, and no other is
 pub record Moves (pit : Pit) (old : ℕ → ℕ → ℤ) (t : ℕ) (by : ℕ → ℤ) (new : ℕ → ℕ → ℤ) : Type 0 where
@@ -57,5 +57,5 @@ abbrev pub Raises : (ℕ → ℤ) → ℕ → ℤ → (ℕ → ℤ) → Type 0
 Raises old cell by new = (k : ℕ) → new k ≡ (if nat_eq cell k then old cell +ℤ by else old k)
 
 -- the schedule with one block's period replaced
-abbrev pub with_block : (ℕ → Option ℕ) → ℕ → Option ℕ → ℕ → Option ℕ
-with_block schedule b period x = if nat_eq x b then period else schedule x
+abbrev pub with_period : (ℕ → Option ℕ) → ℕ → Option ℕ → ℕ → Option ℕ
+with_period schedule b period x = if nat_eq x b then period else schedule x

@@ -10,8 +10,8 @@ use Rattle.pit_plan.specs.declared.breach.Breach.{Breach}
 use Rattle.pit_plan.specs.declared.breach.Breach.TheVariants.{Precedence, Over}
 
 -- what the pairs say of a number, else what was there
-abbrev pub laid_over : {X : Type 0} → (ℕ → X) → List (ℕ × X) → ℕ → X
-laid_over before pairs k = unwrap_or (lookup (nat_eq k) pairs) (before k)
+abbrev pub overlaid_item : {X : Type 0} → (ℕ → X) → List (ℕ × X) → ℕ → X
+overlaid_item before pairs k = unwrap_or (lookup (nat_eq k) pairs) (before k)
 
 -- a pair of the list names the number
 abbrev pub IsNamed : {X : Type 0} → List (ℕ × X) → ℕ → Type 0
@@ -30,7 +30,7 @@ IsOverAt pit limit cells pair =
 -- the loads that the writes leave: those that are kept, and over them those of the cells that were moved
 pub record AreMoved (pit : Pit) (tally : Tallied) (writes : Writes) (kept : List ℤ) (cells : List (ℕ × ℤ)) : Type 0 where
   pub same : kept ≡ tally.loads
-  pub loads : AreLoads pit (laid_over (by_block tally.periods) writes) (at_cell pit (laid_over (cell_load kept) cells))
+  pub loads : AreLoads pit (overlaid_item (by_block tally.periods) writes) (at_cell pit (overlaid_item (cell_load kept) cells))
   pub in_range : (cell : ℕ) → IsNamed cells cell → cell < length kept
 
 -- the cells with one of them set
@@ -40,7 +40,7 @@ SetsCell cells cell load new = (k : ℕ) → lookup (nat_eq k) new ≡ (if nat_e
 -- each revised cell is among those that are moved, and no load is another
 pub record LooksAt (revised : List (ℕ × Option ℤ)) (kept : List ℤ) (cells : List (ℕ × ℤ)) (new_kept : List ℤ) (new : List (ℕ × ℤ)) : Type 0 where
   pub same : new_kept ≡ kept
-  pub loads : (k : ℕ) → laid_over (cell_load kept) new k ≡ laid_over (cell_load kept) cells k
+  pub loads : (k : ℕ) → overlaid_item (cell_load kept) new k ≡ overlaid_item (cell_load kept) cells k
   pub named : (k : ℕ) → IsNamed revised k → IsNamed new k
   pub in_range : (k : ℕ) → IsNamed new k → k < length kept
 

@@ -8,7 +8,7 @@ ghost use Rattle.pit_plan.specs.Schedule.{by_block};
 ghost use Rattle.pit_plan.specs.Breaches.{IsFirstBreach, IsGood, IsOutOfOrder};
 ghost use Rattle.pit_plan.specs.Totals.{cell_load, at_cell, IsTally};
 ghost use Rattle.pit_plan.specs.Limits.{cell_limit, by_cell};
-ghost use Rattle.pit_plan.specs.Touched.{laid_over, lesser_of, IsOutNear, IsOverAt, IsLeastOver, IsNamed, AreMoved, SetsCell, LooksAt};
+ghost use Rattle.pit_plan.specs.Touched.{overlaid_item, lesser_of, IsOutNear, IsOverAt, IsLeastOver, IsNamed, AreMoved, SetsCell, LooksAt};
 
 use crate::breach::Breach;
 use crate::limits::Limits;
@@ -21,72 +21,63 @@ use pit_num::NoMemory;
 use std::alloc::Allocator;
 use std::hash::{BuildHasherDefault, FoldHasher};
 
-type Written<A> = IndexMap<u32, Option<u32>, BuildHasherDefault<FoldHasher>, A>;
+/// Pairs, each of a number and what is said of it.
+type Pairs<X, A> = IndexMap<u32, X, BuildHasherDefault<FoldHasher>, A>;
 
-type Cells<A> = IndexMap<u32, i128, BuildHasherDefault<FoldHasher>, A>;
-
-type Revised<A> = IndexMap<u32, Option<i64>, BuildHasherDefault<FoldHasher>, A>;
-
-/// Periods with writes laid over them.
+/// What is kept of each number, with pairs laid over it.
 #[derive(Drop)]
-struct Overlay<'a, A: Allocator + Copy + Drop> {
-    periods: &'a [Option<u32>],
-    writes: Written<A>,
+struct Overlay<'a, X: Copy, A: Allocator + Copy + Drop> {
+    kept: &'a [X],
+    pairs: Pairs<X, A>,
 }
 
-impl<'a, A: Allocator + Copy + Drop> Schedule for Overlay<'a, A> {
-    ghost period_at = { λ s. laid_over (by_block s.periods.now) s.writes.entries };
+/// Periods, over which writes are laid.
+impl<'a, A: Allocator + Copy + Drop> Schedule for Overlay<'a, Option<u32>, A> {
+    ghost period_at = { λ s. overlaid_item (by_block s.kept.now) s.pairs.entries };
 
-    ghost count = { λ s. length s.periods.now };
+    ghost count = { λ s. length s.kept.now };
 
     fn period(&self, b: u32) -> Option<u32> {
-        match self.writes.get(&b) {
-            Some(period) => *period,
-            None => self.periods[b as usize],
-        }
+        value_of(self.kept, &self.pairs, b)
     }
 }
 
-/// Limits of which some are revised, each of these by its cell.
-#[derive(Drop)]
-struct RevisedLimits<'a, A: Allocator + Copy + Drop> {
-    kept: &'a [Option<i64>],
-    cells: Revised<A>,
-}
-
-impl<'a, A: Allocator + Copy + Drop> Limits for RevisedLimits<'a, A> {
-    ghost limit_in = { λ limits. laid_over (cell_limit limits.kept.now) limits.cells.entries };
+/// Limits, over which those that are revised are laid, each by its cell.
+impl<'a, A: Allocator + Copy + Drop> Limits for Overlay<'a, Option<i64>, A> {
+    ghost limit_in = { λ limits. overlaid_item (cell_limit limits.kept.now) limits.pairs.entries };
 
     ghost cells = { λ limits. length limits.kept.now };
 
     fn limit(&self, cell: u32) -> Option<i64> {
-        match self.cells.get(&cell) {
-            Some(limit) => *limit,
-            None => self.kept[cell as usize],
-        }
+        value_of(self.kept, &self.pairs, cell)
     }
 }
 
-/// Loads of which some are moved, each of these by its cell.
-#[derive(Drop)]
-struct MovedLoads<'a, A: Allocator + Copy + Drop> {
-    kept: &'a [i128],
-    cells: Cells<A>,
-}
-
-impl<'a, A: Allocator + Copy + Drop> Loads for MovedLoads<'a, A> {
-    ghost load_in = { λ loads. laid_over (cell_load loads.kept.now) loads.cells.entries };
+/// Loads, over which those that are moved are laid, each by its cell.
+impl<'a, A: Allocator + Copy + Drop> Loads for Overlay<'a, i128, A> {
+    ghost load_in = { λ loads. overlaid_item (cell_load loads.kept.now) loads.pairs.entries };
 
     ghost base = { λ loads. loads.kept.now };
 
-    ghost is_sound = { λ loads. (cell : ℕ) → IsNamed loads.cells.entries cell → cell < length loads.kept.now };
+    ghost is_sound = { λ loads. (cell : ℕ) → IsNamed loads.pairs.entries cell → cell < length loads.kept.now };
 
     ghost can_refuse = { true };
 
     fn add(&mut self, cell: u32, term: i128) -> Result<(), NoMemory> {
-        let load = plus(load_in(self.kept, &self.cells, cell), term);
-        self.cells.insert(cell, load)?;
+        let load = plus(value_of(self.kept, &self.pairs, cell), term);
+        self.pairs.insert(cell, load)?;
         Ok(())
+    }
+}
+
+/// What the pairs say of a number, else what is kept of it.
+fn value_of<X: Copy, A: Allocator + Copy + Drop>(kept: &[X], pairs: &Pairs<X, A>, k: u32) -> X
+    requires { k < length kept.now }
+    ensures { (absent : X) → result ≡ overlaid_item (λ n. slice_index_or kept.now n absent) pairs.now.entries k }
+{
+    match pairs.get(&k) {
+        Some(value) => *value,
+        None => kept[k as usize],
     }
 }
 
@@ -106,31 +97,31 @@ pub(crate) fn first_breach_after<A: Allocator + Copy + Drop>(
     requires writes { Fits pit.now.blocks pit.now.periods writes.now }
     requires revises { RevisionsFit pit.now.resources pit.now.periods (revisions_of revises.now) }
     ensures breach { IfOk result (λ breach. IsGood pit.now (by_block tally.now.periods) (at_cell pit.now (cell_limit limits.now))
-        → IsFirstBreach pit.now (laid_over (by_block tally.now.periods) writes.now)
-        (at_cell pit.now (laid_over (cell_limit limits.now) (by_cell pit.now (revisions_of revises.now)))) breach) }
+        → IsFirstBreach pit.now (overlaid_item (by_block tally.now.periods) writes.now)
+        (at_cell pit.now (overlaid_item (cell_limit limits.now) (by_cell pit.now (revisions_of revises.now)))) breach) }
     ensures refused { IfErr result (λ e. (writes.now ≢ []) ⊎ (revises.now ≢ [])) }
 {
     let after = Overlay {
-        periods: &tally.periods,
-        writes: written(alloc, writes)?,
+        kept: &tally.periods,
+        pairs: written(alloc, writes)?,
     };
     if let Some((block, before)) = first_out_near(pit, &after, writes) {
         return Ok(Some(Breach::Precedence { block, before }));
     }
-    let revised = RevisedLimits {
+    let revised = Overlay {
         kept: limits,
-        cells: revised(alloc, pit, revises)?,
+        pairs: revised(alloc, pit, revises)?,
     };
     let mut loads = moved_loads(alloc, pit, tally, writes)?;
     look_at_revised(pit, revises, &mut loads)?;
-    Ok(first_over_after(pit, &revised, &loads.cells))
+    Ok(first_over_after(pit, &revised, &loads.pairs))
 }
 
 /// The writes, by block.
 fn written<A: Allocator + Copy + Drop>(
     alloc: A,
     writes: &[(u32, Option<u32>)],
-) -> Result<Written<A>, NoMemory>
+) -> Result<Pairs<Option<u32>, A>, NoMemory>
     requires { AllPairs (λ v w. v.0 ≢ w.0) writes.now }
     ensures entries { IfOk result (λ map. map.entries ≡ writes.now) }
     ensures refused { IfErr result (λ e. writes.now ≢ []) }
@@ -147,7 +138,7 @@ fn revised<A: Allocator + Copy + Drop>(
     alloc: A,
     pit: &Instance<A>,
     revises: &[(u32, u32, Option<i64>)],
-) -> Result<Revised<A>, NoMemory>
+) -> Result<Pairs<Option<i64>, A>, NoMemory>
     requires { RevisionsFit pit.now.resources pit.now.periods (revisions_of revises.now) }
     ensures entries { IfOk result (λ map. map.entries ≡ by_cell pit.now (revisions_of revises.now)) }
     ensures refused { IfErr result (λ e. revises.now ≢ []) }
@@ -233,15 +224,15 @@ fn moved_loads<'a, A: Allocator + Copy + Drop>(
     pit: &Instance<A>,
     tally: &'a Tally<A>,
     writes: &[(u32, Option<u32>)],
-) -> Result<MovedLoads<'a, A>, NoMemory>
+) -> Result<Overlay<'a, i128, A>, NoMemory>
     requires tally { IsTally pit.now tally.now }
     requires fits { Fits pit.now.blocks pit.now.periods writes.now }
-    ensures moved { IfOk result (λ loads. AreMoved pit.now tally.now writes.now loads.kept.now loads.cells.entries) }
+    ensures moved { IfOk result (λ loads. AreMoved pit.now tally.now writes.now loads.kept.now loads.pairs.entries) }
     ensures refused { IfErr result (λ e. writes.now ≢ []) }
 {
-    let mut loads = MovedLoads {
+    let mut loads = Overlay {
         kept: &tally.loads,
-        cells: IndexMap::new(alloc),
+        pairs: IndexMap::new(alloc),
     };
     for k in 0..writes.len() {
         move_block(pit, tally, writes, k, &mut loads)?;
@@ -255,13 +246,13 @@ fn move_block<'a, A: Allocator + Copy + Drop>(
     tally: &Tally<A>,
     writes: &[(u32, Option<u32>)],
     k: usize,
-    loads: &mut MovedLoads<'a, A>,
+    loads: &mut Overlay<'a, i128, A>,
 ) -> Result<(), NoMemory>
     requires tally { IsTally pit.now tally.now }
     requires fits { Fits pit.now.blocks pit.now.periods writes.now }
     requires within { k < length writes.now }
-    requires moved { AreMoved pit.now tally.now (take k writes.now) loads.old.kept.now loads.old.cells.entries }
-    ensures { OnOk result (AreMoved pit.now tally.now (take (k + 1) writes.now) loads.new.kept.now loads.new.cells.entries) }
+    requires moved { AreMoved pit.now tally.now (take k writes.now) loads.old.kept.now loads.old.pairs.entries }
+    ensures { OnOk result (AreMoved pit.now tally.now (take (k + 1) writes.now) loads.new.kept.now loads.new.pairs.entries) }
 {
     let _blocks = pit.blocks();
     let (block, period) = writes[k];
@@ -274,12 +265,12 @@ fn move_block<'a, A: Allocator + Copy + Drop>(
 fn look_at_revised<'a, A: Allocator + Copy + Drop>(
     pit: &Instance<A>,
     revises: &[(u32, u32, Option<i64>)],
-    loads: &mut MovedLoads<'a, A>,
+    loads: &mut Overlay<'a, i128, A>,
 ) -> Result<(), NoMemory>
     requires fits { RevisionsFit pit.now.resources pit.now.periods (revisions_of revises.now) }
     requires each { length loads.old.kept.now ≡ pit.now.periods * pit.now.resources }
-    requires in_range { (cell : ℕ) → IsNamed loads.old.cells.entries cell → cell < length loads.old.kept.now }
-    ensures looks { OnOk result (LooksAt (by_cell pit.now (revisions_of revises.now)) loads.old.kept.now loads.old.cells.entries loads.new.kept.now loads.new.cells.entries) }
+    requires in_range { (cell : ℕ) → IsNamed loads.old.pairs.entries cell → cell < length loads.old.kept.now }
+    ensures looks { OnOk result (LooksAt (by_cell pit.now (revisions_of revises.now)) loads.old.kept.now loads.old.pairs.entries loads.new.kept.now loads.new.pairs.entries) }
     ensures refused { IfErr result (λ e. revises.now ≢ []) }
 {
     for (resource, period, _) in revises {
@@ -290,34 +281,23 @@ fn look_at_revised<'a, A: Allocator + Copy + Drop>(
 
 /// Takes a cell among those that are moved, with the load that it has.
 fn look_at<'a, A: Allocator + Copy + Drop>(
-    loads: &mut MovedLoads<'a, A>,
+    loads: &mut Overlay<'a, i128, A>,
     cell: u32,
 ) -> Result<(), NoMemory>
     requires within { cell < length loads.old.kept.now }
     ensures stays { OnOk result (loads.new.kept.now ≡ loads.old.kept.now) }
-    ensures sets { OnOk result (SetsCell loads.old.cells.entries cell (laid_over (cell_load loads.old.kept.now) loads.old.cells.entries cell) loads.new.cells.entries) }
+    ensures sets { OnOk result (SetsCell loads.old.pairs.entries cell (overlaid_item (cell_load loads.old.kept.now) loads.old.pairs.entries cell) loads.new.pairs.entries) }
 {
-    let load = load_in(loads.kept, &loads.cells, cell);
-    loads.cells.insert(cell, load)?;
+    let load = value_of(loads.kept, &loads.pairs, cell);
+    loads.pairs.insert(cell, load)?;
     Ok(())
-}
-
-/// The load of a cell: as it was moved, or else as it is kept.
-fn load_in<A: Allocator + Copy + Drop>(kept: &[i128], cells: &Cells<A>, cell: u32) -> i128
-    requires { cell < length kept.now }
-    ensures { result ≡ laid_over (cell_load kept.now) cells.now.entries cell }
-{
-    match cells.get(&cell) {
-        Some(load) => *load,
-        None => kept[cell as usize],
-    }
 }
 
 /// The load of the least period, and in it of the least resource, that is above its limit, as a breach.
 fn first_over_after<L: Limits, A: Allocator + Copy + Drop>(
     pit: &Instance<A>,
     limits: &L,
-    cells: &Cells<A>,
+    cells: &Pairs<i128, A>,
 ) -> Option<Breach>
     requires limits { L.cells limits.now ≡ pit.now.periods * pit.now.resources }
     requires cells { (cell : ℕ) → IsNamed cells.now.entries cell → cell < pit.now.periods * pit.now.resources }
@@ -340,7 +320,7 @@ fn first_over_after<L: Limits, A: Allocator + Copy + Drop>(
 fn least_over<L: Limits, A: Allocator + Copy + Drop>(
     pit: &Instance<A>,
     limits: &L,
-    cells: &Cells<A>,
+    cells: &Pairs<i128, A>,
 ) -> Option<(u32, u32)>
     requires limits { L.cells limits.now ≡ pit.now.periods * pit.now.resources }
     requires cells { (cell : ℕ) → IsNamed cells.now.entries cell → cell < pit.now.periods * pit.now.resources }
@@ -357,7 +337,7 @@ fn least_over<L: Limits, A: Allocator + Copy + Drop>(
 fn over_at<L: Limits, A: Allocator + Copy + Drop>(
     pit: &Instance<A>,
     limits: &L,
-    cells: &Cells<A>,
+    cells: &Pairs<i128, A>,
     i: usize,
 ) -> Option<(u32, u32)>
     requires limits { L.cells limits.now ≡ pit.now.periods * pit.now.resources }

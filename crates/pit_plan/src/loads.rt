@@ -2,7 +2,7 @@
 ghost use Rattle.std.specs.Prelude.{◌≡◌, ℕ, ℤ, ◌*◌, ◌<◌, ◌+ℤ◌, true, length, Bool, List, FitsSigned, IfErr, IfSome, OnOk};
 ghost use Rattle.std.specs.Int.{w128};
 ghost use Rattle.pit_plan.specs.Schedule.{coef_of};
-ghost use Rattle.pit_plan.specs.Totals.{at_cell, Raises, MovesIn, moved_by};
+ghost use Rattle.pit_plan.specs.Totals.{at_cell, Raises, MovesIn, signed_coef};
 
 use pit_model::Instance;
 use pit_num::NoMemory;
@@ -46,10 +46,10 @@ pub(crate) fn shift<L: Loads, A: Allocator + Copy + Drop>(
     requires sound { L.is_sound loads.old }
     requires cells { length (L.base loads.old) ≡ pit.now.periods * pit.now.resources }
     requires room { IfSome period (λ t. (r : ℕ) → r < pit.now.resources
-        → FitsSigned w128 (at_cell pit.now (L.load_in loads.old) r t +ℤ moved_by up (coef_of pit.now b r))) }
+        → FitsSigned w128 (at_cell pit.now (L.load_in loads.old) r t +ℤ signed_coef up (coef_of pit.now b r))) }
     ensures sound { OnOk result (L.is_sound loads.new) }
     ensures stays { OnOk result (L.base loads.new ≡ L.base loads.old) }
-    ensures moves { OnOk result (MovesIn pit.now (at_cell pit.now (L.load_in loads.old)) period (λ r. moved_by up (coef_of pit.now b r))
+    ensures moves { OnOk result (MovesIn pit.now (at_cell pit.now (L.load_in loads.old)) period (λ r. signed_coef up (coef_of pit.now b r))
         (at_cell pit.now (L.load_in loads.new))) }
     ensures refused { IfErr result (λ e. L.can_refuse ≡ true) }
 {
@@ -72,7 +72,7 @@ pub(crate) fn plus(sum: i128, term: i128) -> i128
 
 /// A coefficient, or its opposite.
 fn moved(up: bool, coef: i64) -> i128
-    ensures { result ≡ moved_by up coef }
+    ensures { result ≡ signed_coef up coef }
 {
     let term = i128::from(coef);
     if up { term } else { -term }

@@ -2,7 +2,7 @@ ghost use Rattle.std.specs.Prelude.{◌≡◌, ◌≢◌, ℕ, ◌*◌, ◌<◌,
 ghost use Rattle.pit_num.specs.Fitting.{Fits, RevisionsFit, revisions_of};
 ghost use Rattle.pit_model.specs.Pit.{upper_of};
 ghost use Rattle.pit_plan.specs.Schedule.{Commit, held_period, load_of, value_of};
-ghost use Rattle.pit_plan.specs.Standing.{StandsFor, period_of, version_of, limit_in_force, Adds};
+ghost use Rattle.pit_plan.specs.Standing.{IsPlanOf, period_of, version_of, limit_in_force, Adds};
 ghost use Rattle.pit_plan.specs.InsidePlan.{with_writes};
 ghost use Rattle.pit_plan.specs.Totals.{IsTally, at_cell};
 ghost use Rattle.pit_plan.specs.Limits.{cell_limit};
@@ -58,7 +58,7 @@ impl<A: Allocator + Drop> Model for Plan<A> {
 impl<A: Allocator + Copy + Drop> Plan<A> {
     /// A plan after no commit, in which no block has a period. Where memory runs out, the pit is handed back.
     pub fn empty(alloc: A, pit: Instance<A>) -> Result<Plan<A>, (Instance<A>, NoMemory)>
-        ensures ok { IfOk result (λ plan. (plan.pit ≡ pit) × StandsFor plan []) }
+        ensures ok { IfOk result (λ plan. (plan.pit ≡ pit) × IsPlanOf plan []) }
         ensures err { IfErr result (λ refused. refused.0 ≡ pit) }
     {
         match nothing(alloc, &pit) {
@@ -116,7 +116,7 @@ impl<A: Allocator + Copy + Drop> Plan<A> {
     pub fn load(&self, r: u32, t: u32) -> i128
         requires resource { r < self.now.pit.resources }
         requires period { t < self.now.pit.periods }
-        ensures { (commits : List Commit) → StandsFor self.now commits
+        ensures { (commits : List Commit) → IsPlanOf self.now commits
             → result ≡ load_of self.now.pit (held_period commits) r t }
     {
         schedule::load(&self.pit, &self.tally, r, t)
@@ -134,7 +134,7 @@ impl<A: Allocator + Copy + Drop> Plan<A> {
 
     /// The discounted profit, in units of 10^-18, which is exact.
     pub fn value(&self) -> i128
-        ensures { (commits : List Commit) → StandsFor self.now commits
+        ensures { (commits : List Commit) → IsPlanOf self.now commits
             → result ≡ value_of self.now.pit (held_period commits) }
     {
         self.tally.worth
@@ -143,7 +143,7 @@ impl<A: Allocator + Copy + Drop> Plan<A> {
     /// The first breach of the plan: the least pair of a block and its predecessor that is out of order; else the load of the
     /// least period, and in it of the least resource, that is above the limit in force.
     pub fn check(&self) -> Option<Breach>
-        ensures { (commits : List Commit) → StandsFor self.now commits
+        ensures { (commits : List Commit) → IsPlanOf self.now commits
             → IsBreachOf self.now.pit commits result }
     {
         schedule::first_breach(&self.pit, &self.tally, &self.limits)
@@ -159,7 +159,7 @@ impl<A: Allocator + Copy + Drop> Plan<A> {
         requires writes { Fits self.now.pit.blocks self.now.pit.periods writes.now }
         requires revises { RevisionsFit self.now.pit.resources self.now.pit.periods (revisions_of revises.now) }
         requires good { IsGoodNow self.now }
-        ensures breach { IfOk result (λ breach. (commits : List Commit) → StandsFor self.now commits
+        ensures breach { IfOk result (λ breach. (commits : List Commit) → IsPlanOf self.now commits
             → IsBreachOf self.now.pit (commits ++ (record { writes = writes.now; revises = revisions_of revises.now }) ∷ []) breach) }
         ensures refused { IfErr result (λ e. (writes.now ≢ []) ⊎ (revises.now ≢ [])) }
     {
@@ -196,9 +196,9 @@ impl<A: Allocator + Copy + Drop> Plan<A> {
     /// Each load that is below its lower limit, by rising period, and in it by rising resource. Takes the memory of these, so none where
     /// there is none.
     pub fn shortfalls(&self) -> Result<Vec<Short, A>, NoMemory>
-        ensures shorts { IfOk result (λ shorts. (commits : List Commit) → StandsFor self.now commits
+        ensures shorts { IfOk result (λ shorts. (commits : List Commit) → IsPlanOf self.now commits
             → shorts.items ≡ shortfalls_of self.now.pit (held_period commits)) }
-        ensures refused { IfErr result (λ e. (commits : List Commit) → StandsFor self.now commits
+        ensures refused { IfErr result (λ e. (commits : List Commit) → IsPlanOf self.now commits
             → shortfalls_of self.now.pit (held_period commits) ≢ []) }
     {
         schedule::shortfalls(*self.versions.allocator(), &self.pit, &self.tally)

@@ -4,7 +4,7 @@ ghost use Rattle.std.specs.Int.{w128};
 ghost use Rattle.pit_num.specs.Fitting.{Fits};
 ghost use Rattle.pit_plan.specs.Schedule.{by_block, coef_of};
 ghost use Rattle.pit_plan.specs.InsidePlan.{with_writes};
-ghost use Rattle.pit_plan.specs.Totals.{cell_load, at_cell, MovesIn, moved_by, IsTally};
+ghost use Rattle.pit_plan.specs.Totals.{cell_load, at_cell, MovesIn, signed_coef, IsTally};
 
 use crate::loads::{Loads, plus, shift};
 use crate::schedule::{Schedule, earned};
@@ -125,9 +125,9 @@ fn shift_kept<A: Allocator + Copy + Drop>(
     requires period { IfSome period (λ t. t < pit.now.periods) }
     requires len { length loads.old.items ≡ pit.now.periods * pit.now.resources }
     requires room { IfSome period (λ t. (r : ℕ) → r < pit.now.resources
-        → FitsSigned w128 (at_cell pit.now (cell_load loads.old.items) r t +ℤ moved_by up (coef_of pit.now b r))) }
+        → FitsSigned w128 (at_cell pit.now (cell_load loads.old.items) r t +ℤ signed_coef up (coef_of pit.now b r))) }
     ensures len { length loads.new.items ≡ length loads.old.items }
-    ensures moves { MovesIn pit.now (at_cell pit.now (cell_load loads.old.items)) period (λ r. moved_by up (coef_of pit.now b r))
+    ensures moves { MovesIn pit.now (at_cell pit.now (cell_load loads.old.items)) period (λ r. signed_coef up (coef_of pit.now b r))
         (at_cell pit.now (cell_load loads.new.items)) }
 {
     let _never_refused = shift(pit, loads, b, period, up);

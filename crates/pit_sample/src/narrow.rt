@@ -9,6 +9,7 @@ pub struct Narrow {
     held: Vec<u8>,
     piece: usize,
     room: usize,
+    writes: usize,
     has_failed: bool,
 }
 
@@ -19,6 +20,7 @@ impl Narrow {
             held: Vec::new(alloc),
             piece,
             room,
+            writes: 0,
             has_failed: false,
         }
     }
@@ -26,6 +28,11 @@ impl Narrow {
     /// What it took.
     pub fn held(&self) -> &[u8] {
         &self.held
+    }
+
+    /// How often it was written to.
+    pub fn writes(&self) -> usize {
+        self.writes
     }
 }
 
@@ -35,6 +42,7 @@ impl Sink for Narrow {
     ghost has_failed = { λ s. s.has_failed };
 
     fn give(&mut self, text: &[u8]) -> Result<usize, Failed> {
+        self.writes = self.writes.wrapping_add(1);
         if self.has_failed {
             return Err(Failed);
         }

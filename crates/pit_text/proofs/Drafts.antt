@@ -15,7 +15,7 @@ use Rattle.pit_text.specs.declared.section.Section.{Section}
 use Rattle.pit_text.specs.declared.section.Section.TheVariants.{Objective, Coefficients, Limits}
 use Rattle.pit_text.specs.declared.draft.Draft.{Draft}
 use Rattle.pit_text.specs.Numbers.{whole_field, decimal_field}
-use Rattle.pit_text.specs.Header.{value_of_key, within, only, kind_of, rate_of}
+use Rattle.pit_text.specs.Header.{value_of_key, number_in_range, supported_number, kind_of, rate_of}
 use Rattle.pit_text.specs.Keys.{key_number, section_number, same_section}
 use Rattle.pit_text.specs.Model.{Fact, header, section, header_value, value_in_fact, sections, section_in_fact, last_of, missing_key}
 use Rattle.pit_text.specs.Draft.{IsNumberOf, IsDraft, HasHeader, number_at, missing_key_in}
@@ -65,13 +65,13 @@ section_number-lt Limits = omega arith
 
 -- ---- the numbers that a value may give
 
-within-range : (low high : ℕ) (key : Key) (r : Result ℕ Cause) (n : ℕ) → within low high key r ≡ Ok n → (low ≤ n) × (n ≤ high)
-within-range low high key (Ok m) n is = grind (arith, nat_tests)
-within-range low high key (Err e) n is = cc
+number_in_range-range : (low high : ℕ) (key : Key) (r : Result ℕ Cause) (n : ℕ) → number_in_range low high key r ≡ Ok n → (low ≤ n) × (n ≤ high)
+number_in_range-range low high key (Ok m) n is = grind (arith, nat_tests)
+number_in_range-range low high key (Err e) n is = cc
 
-only-one : (wanted : ℕ) (key : Key) (r : Result ℕ Cause) (n : ℕ) → only wanted key r ≡ Ok n → n ≡ wanted
-only-one wanted key (Ok m) n is = grind (arith, nat_tests)
-only-one wanted key (Err e) n is = cc
+supported_number-one : (wanted : ℕ) (key : Key) (r : Result ℕ Cause) (n : ℕ) → supported_number wanted key r ≡ Ok n → n ≡ wanted
+supported_number-one wanted key (Ok m) n is = grind (arith, nat_tests)
+supported_number-one wanted key (Err e) n is = cc
 
 rate-small : (r : Result ℤ Cause) (n : ℕ) → rate_of r ≡ Ok n → n ≤ RATE_MAX
 rate-small (Ok (pos m)) n is = grind (arith, nat_tests)
@@ -84,12 +84,12 @@ kind-zero value n is = grind (arith, nat_tests)
 pub value-range : (key : Key) (value : List ℕ) (n : ℕ) → value_of_key key value ≡ Ok n → IsNumberOf key n
 unfolding value_of_key
 value-range Kind value n is = kind-zero value n is
-value-range Blocks value n is = within-range 1 BLOCKS_MAX Blocks (whole_field value) n is
-value-range Periods value n is = within-range 1 PERIODS_MAX Periods (whole_field value) n is
-value-range Resources value n is = (within-range 0 RESOURCES_MAX Resources (whole_field value) n is).1
+value-range Blocks value n is = number_in_range-range 1 BLOCKS_MAX Blocks (whole_field value) n is
+value-range Periods value n is = number_in_range-range 1 PERIODS_MAX Periods (whole_field value) n is
+value-range Resources value n is = (number_in_range-range 0 RESOURCES_MAX Resources (whole_field value) n is).1
 value-range Rate value n is = rate-small (decimal_field value) n is
-value-range Destinations value n is = only-one 1 Destinations (whole_field value) n is
-value-range Generals value n is = only-one 0 Generals (whole_field value) n is
+value-range Destinations value n is = supported_number-one 1 Destinations (whole_field value) n is
+value-range Generals value n is = supported_number-one 0 Generals (whole_field value) n is
 
 -- ---- one more fact
 

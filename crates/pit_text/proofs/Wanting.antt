@@ -24,7 +24,7 @@ use Rattle.pit_text.specs.Stands.{◌>>=◌, Judge, FailsFirst, FailsWhole}
 use Rattle.pit_text.specs.Numbers.{is_ascii, or_bad, whole_field, decimal_field}
 use Rattle.pit_text.specs.Bounds.{upper_bound_of, lower_bound_of, upper_field, lower_field}
 use Rattle.pit_text.specs.Causes.{fact_unless}
-use Rattle.pit_text.specs.Header.{value_of_key, within, only, is_cpit, rate_of}
+use Rattle.pit_text.specs.Header.{value_of_key, number_in_range, supported_number, is_cpit, rate_of}
 use Rattle.pit_text.specs.Keys.{key_of, same_section}
 use Rattle.pit_text.specs.Added.{pit_with, line_of_pit}
 use Rattle.pit_text.specs.SectionFacts.{profit_line, coefficient_line, limit_line, kind_by, kind_field, bounds_by, section_fact_of, section_fact_refusal}
@@ -165,13 +165,13 @@ own_section_fact facts s fields =
 own_header : {X : Type 0} (key : Key) → IsOwn {X = X} (Err (BadHeader key))
 own_header key is = cc
 
-own_within : (low high : ℕ) (key : Key) (r : Result ℕ Cause) → IsOwn (within low high key r)
-own_within low high key (Ok n) = own_if (nat_le low n && nat_le n high) (Ok n) (Err (BadHeader key)) (own_ok n) (own_header key)
-own_within low high key (Err e) = own_header key
+own_number_in_range : (low high : ℕ) (key : Key) (r : Result ℕ Cause) → IsOwn (number_in_range low high key r)
+own_number_in_range low high key (Ok n) = own_if (nat_le low n && nat_le n high) (Ok n) (Err (BadHeader key)) (own_ok n) (own_header key)
+own_number_in_range low high key (Err e) = own_header key
 
-own_only : (wanted : ℕ) (key : Key) (r : Result ℕ Cause) → IsOwn (only wanted key r)
-own_only wanted key (Ok n) = own_if (n == wanted) (Ok n) (Err (Unsupported key)) (own_ok n) (λ is. cc)
-own_only wanted key (Err e) = own_header key
+own_supported_number : (wanted : ℕ) (key : Key) (r : Result ℕ Cause) → IsOwn (supported_number wanted key r)
+own_supported_number wanted key (Ok n) = own_if (n == wanted) (Ok n) (Err (Unsupported key)) (own_ok n) (λ is. cc)
+own_supported_number wanted key (Err e) = own_header key
 
 own_rate : (r : Result ℤ Cause) → IsOwn (rate_of r)
 own_rate (Ok (pos n)) = own_if (nat_le n RATE_MAX) (Ok n) (Err (BadHeader Rate)) (own_ok n) (own_header Rate)
@@ -182,12 +182,12 @@ own_value : (key : Key) (value : List ℕ) → IsOwn (value_of_key key value)
 unfolding value_of_key
 own_value Kind value =
     own_if (is_ascii value) (cond (is_cpit value) (Ok 0) (Err NotCpit)) (Err (BadHeader Kind)) (own_if (is_cpit value) (Ok 0) (Err NotCpit) (own_ok 0) (λ is. cc)) (own_header Kind)
-own_value Blocks value = own_within 1 BLOCKS_MAX Blocks (whole_field value)
-own_value Periods value = own_within 1 PERIODS_MAX Periods (whole_field value)
-own_value Resources value = own_within 0 RESOURCES_MAX Resources (whole_field value)
+own_value Blocks value = own_number_in_range 1 BLOCKS_MAX Blocks (whole_field value)
+own_value Periods value = own_number_in_range 1 PERIODS_MAX Periods (whole_field value)
+own_value Resources value = own_number_in_range 0 RESOURCES_MAX Resources (whole_field value)
 own_value Rate value = own_rate (decimal_field value)
-own_value Destinations value = own_only 1 Destinations (whole_field value)
-own_value Generals value = own_only 0 Generals (whole_field value)
+own_value Destinations value = own_supported_number 1 Destinations (whole_field value)
+own_value Generals value = own_supported_number 0 Generals (whole_field value)
 
 own_key : (facts : List Fact) (key : Key) (values : List (List ℕ)) → IsOwn (key_line facts key values)
 own_key facts key [] = own_header key

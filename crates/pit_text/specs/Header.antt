@@ -9,14 +9,14 @@ use Rattle.pit_text.specs.declared.key.Key.TheVariants.{Kind, Blocks, Periods, R
 use Rattle.pit_text.specs.Numbers.{is_ascii, whole_field, decimal_field}
 
 -- a number in a range
-abbrev pub within : ℕ → ℕ → Key → Result ℕ Cause → Result ℕ Cause
-within low high key (Ok n) = if nat_le low n && nat_le n high then Ok n else Err (BadHeader key)
-within low high key (Err e) = Err (BadHeader key)
+abbrev pub number_in_range : ℕ → ℕ → Key → Result ℕ Cause → Result ℕ Cause
+number_in_range low high key (Ok n) = if nat_le low n && nat_le n high then Ok n else Err (BadHeader key)
+number_in_range low high key (Err e) = Err (BadHeader key)
 
 -- the one number that is supported
-abbrev pub only : ℕ → Key → Result ℕ Cause → Result ℕ Cause
-only wanted key (Ok n) = if n == wanted then Ok n else Err (Unsupported key)
-only wanted key (Err e) = Err (BadHeader key)
+abbrev pub supported_number : ℕ → Key → Result ℕ Cause → Result ℕ Cause
+supported_number wanted key (Ok n) = if n == wanted then Ok n else Err (Unsupported key)
+supported_number wanted key (Err e) = Err (BadHeader key)
 
 -- `CPIT`, in any ASCII case
 abbrev pub is_cpit : List ℕ → Bool
@@ -36,9 +36,9 @@ rate_of (Err e) = Err (BadHeader Rate)
 -- the number that a value gives a key; a kind has none, so 0 stands for it
 unfoldable pub value_of_key : Key → List ℕ → Result ℕ Cause
 value_of_key Kind value = kind_of value
-value_of_key Blocks value = within 1 BLOCKS_MAX Blocks (whole_field value)
-value_of_key Periods value = within 1 PERIODS_MAX Periods (whole_field value)
-value_of_key Resources value = within 0 RESOURCES_MAX Resources (whole_field value)
+value_of_key Blocks value = number_in_range 1 BLOCKS_MAX Blocks (whole_field value)
+value_of_key Periods value = number_in_range 1 PERIODS_MAX Periods (whole_field value)
+value_of_key Resources value = number_in_range 0 RESOURCES_MAX Resources (whole_field value)
 value_of_key Rate value = rate_of (decimal_field value)
-value_of_key Destinations value = only 1 Destinations (whole_field value)
-value_of_key Generals value = only 0 Generals (whole_field value)
+value_of_key Destinations value = supported_number 1 Destinations (whole_field value)
+value_of_key Generals value = supported_number 0 Generals (whole_field value)

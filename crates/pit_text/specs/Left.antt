@@ -22,10 +22,10 @@ abbrev pub end_left : Lines → ℕ
 end_left lines = if lines.has_ended then lines.number else lines.number + position_or_len is_last (lines_of lines.rest.now)
 
 -- `next` has answered `None`
-abbrev pub IsOver : Lines → Type 0
-IsOver lines = lines.number ≡ end_left lines
+abbrev pub IsAtEndLine : Lines → Type 0
+IsAtEndLine lines = lines.number ≡ end_left lines
 
 -- what a call of `next` gives and leaves
 abbrev pub LinesStep : Lines → Option Line → Lines → Type 0
 LinesStep old line new =
-    YieldsFirstBy cut_seen lines_left old line new × (end_left new ≡ end_left old) × IfNone line (IsOver new)
+    YieldsFirstBy cut_seen lines_left old line new × (end_left new ≡ end_left old) × IfNone line (IsAtEndLine new)

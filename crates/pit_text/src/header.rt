@@ -1,5 +1,5 @@
 ghost use Rattle.std.specs.Prelude.{◌≡◌, Result};
-ghost use Rattle.pit_text.specs.Header.{value_of_key, within, only, is_cpit, kind_of, rate_of};
+ghost use Rattle.pit_text.specs.Header.{value_of_key, number_in_range, supported_number, is_cpit, kind_of, rate_of};
 ghost use Rattle.pit_text.specs.Numbers.{decimal_field};
 
 use super::error::Cause;
@@ -14,17 +14,17 @@ pub(crate) fn value_of_key(key: Key, value: &[u8]) -> Result<u32, Cause>
 {
     match key {
         Key::Kind => kind(value),
-        Key::Blocks => within(1, BLOCKS_MAX, key, whole(value)),
-        Key::Periods => within(1, PERIODS_MAX, key, whole(value)),
-        Key::Resources => within(0, RESOURCES_MAX, key, whole(value)),
+        Key::Blocks => number_in_range(1, BLOCKS_MAX, key, whole(value)),
+        Key::Periods => number_in_range(1, PERIODS_MAX, key, whole(value)),
+        Key::Resources => number_in_range(0, RESOURCES_MAX, key, whole(value)),
         Key::Rate => rate(decimal(value)),
-        Key::Destinations => only(1, key, whole(value)),
-        Key::Generals => only(0, key, whole(value)),
+        Key::Destinations => supported_number(1, key, whole(value)),
+        Key::Generals => supported_number(0, key, whole(value)),
     }
 }
 
-fn within(low: u32, high: u32, key: Key, number: Result<u32, Cause>) -> Result<u32, Cause>
-    ensures { result ≡ within low high key number }
+fn number_in_range(low: u32, high: u32, key: Key, number: Result<u32, Cause>) -> Result<u32, Cause>
+    ensures { result ≡ number_in_range low high key number }
 {
     match number {
         Ok(n) if low <= n && n <= high => Ok(n),
@@ -32,8 +32,8 @@ fn within(low: u32, high: u32, key: Key, number: Result<u32, Cause>) -> Result<u
     }
 }
 
-fn only(wanted: u32, key: Key, number: Result<u32, Cause>) -> Result<u32, Cause>
-    ensures { result ≡ only wanted key number }
+fn supported_number(wanted: u32, key: Key, number: Result<u32, Cause>) -> Result<u32, Cause>
+    ensures { result ≡ supported_number wanted key number }
 {
     match number {
         Ok(n) if n == wanted => Ok(n),

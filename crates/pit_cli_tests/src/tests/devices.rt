@@ -43,17 +43,21 @@ fn is_whole(alloc: Global, piece: usize) -> bool {
     is_answer(&answered, Ok(Status::Fine), TINY_VALUE)
 }
 
-fn is_written(alloc: Global, piece: usize) -> bool {
+/// Whether a device that takes so much at once has the value, in so many writes.
+fn is_written(alloc: Global, piece: usize, writes: usize) -> bool {
     let mut out = Narrow::new(alloc, piece, TINY_VALUE.len());
     let answer = value_to(alloc, &mut out);
-    answer == Ok(Status::Fine) && out.held() == TINY_VALUE
+    answer == Ok(Status::Fine) && out.held() == TINY_VALUE && out.writes() == writes
 }
+
+/// What devices give and take at once, and in how many writes they then take the 22 bytes of the value: a line that is taken whole is one.
+const PIECES: &[(usize, usize)] = &[(1, 22), (7, 4), (22, 1), (100, 1)];
 
 #[test]
 fn devices_that_give_and_take_little(rt: HostRuntime) {
-    for piece in [1, 7] {
-        assert!(rt; is_whole(rt.alloc(), piece), "at {piece}");
-        assert!(rt; is_written(rt.alloc(), piece), "at {piece}");
+    for (piece, writes) in PIECES {
+        assert!(rt; is_whole(rt.alloc(), *piece), "at {piece}");
+        assert!(rt; is_written(rt.alloc(), *piece, *writes), "at {piece}");
     }
 }
 

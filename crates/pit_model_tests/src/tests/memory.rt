@@ -119,15 +119,17 @@ fn is_whole(rt: &impl Abort, heap: Heap<'_>) -> bool {
     !heap.count().has_refused()
 }
 
+/// The requests of a small pit: in `new` for profits, for a bit of each, and for bounds; for the rows and the cells of coefficients; for the bits,
+/// the rows and the cells of predecessors, and for a list of them that is sorted; for places; in `build` for factors, for the ends of
+/// successors, and for these.
+const SMALL_REQUESTS: u64 = 13;
+
 /// Each request is refused in turn, those of `new`, of the setters and of `build`. A call that is made again finds all as it was.
 #[test]
 fn is_unchanged_where_memory_is_refused(rt: HostRuntime) {
     for number in 1..100 {
         if is_small_whole(&rt, rt.alloc(), number) {
-            assert!(rt;
-                number > 6,
-                "a request at least of each call that takes memory"
-            );
+            assert_eq!(rt; number, SMALL_REQUESTS + 1);
             return;
         }
     }
@@ -244,13 +246,19 @@ fn is_large_whole(rt: &impl Abort, alloc: Global, number: u64, listed: &[u32]) -
     is_whole(rt, &heap)
 }
 
+/// The requests of a large pit: 3 in `new`; 1 for the rows of coefficients, and 15 for their cells, which have room for 4 and are doubled to
+/// 65,536, since lists of 1, 2, 4, .., 32 move to room for as many again; 1 for the bits of predecessors, 1 for their rows, 6 for their cells,
+/// which have room for 100 and are doubled to 3,200, and 6 for each of 20 lists that are sorted, which have room for 4 and are doubled to 128;
+/// 3 in `build`.
+const LARGE_REQUESTS: u64 = 3 + 1 + 15 + 1 + 1 + 6 + 20 * 6 + 3;
+
 /// The same of lists of coefficients that grow in turn, up to the greatest, and of a hundred predecessors, which are sorted.
 #[test]
 fn is_unchanged_where_memory_for_many_is_refused(rt: HostRuntime) {
     let listed = listed(&rt, rt.alloc());
     for number in 1..200 {
         if is_large_whole(&rt, rt.alloc(), number, &listed) {
-            assert!(rt; number > 20, "a request of each growth at least");
+            assert_eq!(rt; number, LARGE_REQUESTS + 1);
             return;
         }
     }

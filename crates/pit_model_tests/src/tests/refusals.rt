@@ -1,8 +1,8 @@
 //! Refusals of each kind, and their words.
-use super::{assert_tiny, bounds};
+use super::assert_tiny;
 use Fact::{Coef, Limit, Place, Preds, Profit};
-use pit_model::{BuildError, Builder, Instance};
-use pit_sample::{Fact, TINY, TINY_PLACES, TINY_SIZE, built, tell};
+use pit_model::{BuildError, Builder};
+use pit_sample::{Fact, TINY, TINY_PLACES, TINY_SIZE, tell};
 use std::alloc::Global;
 use std::process::Abort;
 
@@ -36,28 +36,6 @@ fn assert_refused(rt: &impl Abort, builder: &mut Builder<Global>) {
     }
     let numbers = (builder.blocks(), builder.periods(), builder.resources());
     assert!(rt; numbers == (4, 2, 1));
-}
-
-/// Facts that are narrowed, sorted or thrown away: of several bounds the tightest, and of predecessors each once without the block.
-const NARROWED: &[Fact] = &[
-    Preds(3, &[2, 0, 2, 3, 0]),
-    Limit(0, 1, Some(3), None),
-    Limit(0, 1, Some(-3), Some(-2)),
-    Limit(0, 1, None, Some(6)),
-];
-
-#[test]
-fn keeps_the_tightest(rt: HostRuntime) {
-    let pit = built(rt.alloc(), TINY_SIZE, NARROWED).expect(&rt, "a pit");
-    assert_narrowed(&rt, &pit);
-}
-
-fn assert_narrowed(rt: &impl Abort, pit: &Instance<Global>) {
-    assert!(rt; pit.blocks() == 4);
-    assert!(rt; pit.preds(3) == [0, 2].as_slice());
-    assert!(rt; pit.place(3).is_none());
-    assert!(rt; bounds(rt, pit, 0, 1) == (Some(3), Some(-2)));
-    assert!(rt; pit.unmeetable() == Some((0, 1)));
 }
 
 const WORDS: &[(BuildError, &str)] = &[

@@ -1,5 +1,5 @@
 //! Each allocation refused in turn, and what is freed after a fault.
-use super::{REPEATED, fault};
+use super::{BLOCK_RANGE, REPEATED, fault};
 use linked_list_allocator::LocalHeap;
 use pit_model::{Builder, Instance};
 use pit_refuse::Refusing;
@@ -139,20 +139,25 @@ fn is_want(answer: Result<bool, TextError>) -> bool {
     }
 }
 
-/// Refuses each request in turn, the least number of which is given.
-fn refuse_each(rt: &impl Abort, alloc: Global, kind: Kind, text: &str, least: u64) {
+/// Refuses each request in turn, of which there are so many.
+fn refuse_each(rt: &impl Abort, alloc: Global, kind: Kind, text: &str, requests: u64) {
     assert!(rt; text.len() > 8_192);
     for number in 1..200 {
         let heap = Refusing::over_heap(alloc, BYTES, number).expect(rt, "a heap");
         if is_read(rt, &heap, kind, text.as_bytes()) {
-            assert!(rt; number > least);
+            assert_eq!(rt; heap.count().asked, requests);
             return;
         }
     }
     panic!(rt; "never whole");
 }
 
-/// Coefficients that are listed resource by resource, so that the list of each block grows after those of others.
+/// The requests of a builder: for profits, for a bit of each, and for bounds.
+const BUILDER: u64 = 3;
+
+/// Coefficients that are listed resource by resource, so that the list of each block grows after those of others. Their rows are a request.
+/// The cells are 500, then 1,500, then 3,000, since a list of one moves to room for two and one of two to room for three: they have room for 4
+/// and are doubled to 4,096, which is 11 requests. The factors are the last.
 #[test]
 fn of_read_model(rt: HostRuntime) {
     let mut text = String::from_str(rt.alloc(), HEADER).expect(&rt, "memory");
@@ -161,7 +166,7 @@ fn of_read_model(rt: HostRuntime) {
             assert!(rt; writeln!(text, "{b} {r} 1").is_ok());
         }
     }
-    refuse_each(&rt, rt.alloc(), Kind::Model, text.as_str(), 6);
+    refuse_each(&rt, rt.alloc(), Kind::Model, text.as_str(), BUILDER + 13);
 }
 
 fn push_preds(rt: &impl Abort, text: &mut String, b: u32) {
@@ -172,41 +177,83 @@ fn push_preds(rt: &impl Abort, text: &mut String, b: u32) {
     assert!(rt; writeln!(text).is_ok());
 }
 
-/// A hundred predecessors of each of 40 blocks.
+/// A hundred predecessors of each of 40 blocks. The list of a line has room for 4 and is doubled to 128, which is 6 requests. The bits and the rows
+/// are one each, and the cells have room for 100 and are doubled to 6,400, which is 7. Factors, ends and successors are the last three.
 #[test]
 fn of_read_precedence(rt: HostRuntime) {
     let mut text = String::new(rt.alloc());
     for b in 200..240u32 {
         push_preds(&rt, &mut text, b);
     }
-    refuse_each(&rt, rt.alloc(), Kind::Precedence, text.as_str(), 10);
+    refuse_each(
+        &rt,
+        rt.alloc(),
+        Kind::Precedence,
+        text.as_str(),
+        BUILDER + 18,
+    );
 }
 
+/// All places are one request, and the factors another.
 #[test]
 fn of_read_blocks(rt: HostRuntime) {
     let mut text = String::new(rt.alloc());
     for b in 0..LINES {
         assert!(rt; writeln!(text, "{b} 1 2 3").is_ok());
     }
-    refuse_each(&rt, rt.alloc(), Kind::Blocks, text.as_str(), 2);
+    refuse_each(&rt, rt.alloc(), Kind::Blocks, text.as_str(), BUILDER + 2);
 }
 
+/// The pit's factors are one request, and the slots another. The pairs have room for 4 and are doubled to 2,048, which is 10.
 #[test]
 fn of_read_solution(rt: HostRuntime) {
     let mut text = String::new(rt.alloc());
     for b in 0..LINES {
         assert!(rt; writeln!(text, "{b} 1").is_ok());
     }
-    refuse_each(&rt, rt.alloc(), Kind::Solution, text.as_str(), 10);
+    refuse_each(&rt, rt.alloc(), Kind::Solution, text.as_str(), BUILDER + 12);
 }
 
-/// A fault of the header comes before any request for memory.
+/// Texts for which no reader takes memory, what is answered, and the requests of what they are read into: those of a builder, and for a
+/// pit the factors. A header is judged first, and so is a line of places; a line that mines nothing needs no slot.
+const QUIET: &[(Kind, &[u8], Result<bool, TextError>, u64)] = &[
+    (
+        Kind::Model,
+        b"TYPE: PCPSP",
+        Err(TextError {
+            line: 1,
+            cause: Cause::NotCpit,
+        }),
+        0,
+    ),
+    (
+        Kind::Blocks,
+        b"0 1 2\n",
+        Err(TextError {
+            line: 1,
+            cause: Cause::FieldCount,
+        }),
+        BUILDER,
+    ),
+    (Kind::Solution, b"0 0 1 0\n", Ok(false), BUILDER + 1),
+    (
+        Kind::Solution,
+        b"0 0 1 0\n1500 0\n",
+        Err(TextError {
+            line: 2,
+            cause: BLOCK_RANGE,
+        }),
+        BUILDER + 1,
+    ),
+];
+
 #[test]
-fn of_read_model_with_a_fault(rt: HostRuntime) {
-    let heap = Refusing::over_heap(rt.alloc(), BYTES, 1).expect(&rt, "a heap");
-    let answer = read(&heap, Kind::Model, b"TYPE: PCPSP");
-    assert_eq!(rt; answer, Err(fault(1, Cause::NotCpit)));
-    assert_eq!(rt; heap.count().asked, 0);
+fn is_not_asked_for_in_vain(rt: HostRuntime) {
+    for (kind, text, wanted, requests) in QUIET {
+        let heap = Refusing::over_heap(rt.alloc(), BYTES, 0).expect(&rt, "a heap");
+        assert_eq!(rt; read(&heap, *kind, text), *wanted);
+        assert_eq!(rt; heap.count().asked, *requests);
+    }
 }
 
 /// Texts with a fault behind what takes memory, and the line of it.

@@ -1,7 +1,7 @@
 use Rattle.std.proofs.Common.{◌≡◌, ◌∷◌, [], sym, subst, ◌∙◌}
 use Rattle.pit_model.specs.Pit.{Pit}
 use Rattle.pit_plan.specs.Schedule.{Commit, Writes}
-use Rattle.pit_plan.specs.Standing.{StandsFor}
+use Rattle.pit_plan.specs.Standing.{IsPlanOf}
 use Rattle.pit_num.specs.Fitting.{Fits, writes_of}
 use Rattle.pit_cli.proofs.planned.planned.Goals as goal
 
@@ -14,5 +14,5 @@ pub returns : goal.returns
 returns g c =
     let writes : c.deref.result.now ≡ writes_of c.args.schedule.now = c.deref.ensures.value ∙ c.in_ok-writes.ensures.items in (
       c.in_ok-apply.ensures.ok.pit ∙ c.in-Ok.ensures.ok.0,
-      subst (λ (w : Writes). StandsFor c.apply.new.self (record { writes = w; revises = [] } ∷ [])) writes (c.in_ok-apply.ensures.ok.stands [] c.in-Ok.ensures.ok.1),
+      subst (λ (w : Writes). IsPlanOf c.apply.new.self (record { writes = w; revises = [] } ∷ [])) writes (c.in_ok-apply.ensures.ok.stands [] c.in-Ok.ensures.ok.1),
     )

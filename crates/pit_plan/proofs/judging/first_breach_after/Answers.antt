@@ -6,7 +6,7 @@ use Rattle.pit_num.specs.Fitting.{revisions_of}
 use Rattle.pit_plan.specs.Totals.{Tallied, at_cell}
 use Rattle.pit_plan.specs.Limits.{cell_limit, by_cell}
 use Rattle.pit_plan.specs.Breaches.{IsOutOfOrder}
-use Rattle.pit_plan.specs.Touched.{laid_over, IsOutNear, IsOverAt, IsLeastOver}
+use Rattle.pit_plan.specs.Touched.{overlaid_item, IsOutNear, IsOverAt, IsLeastOver}
 use Rattle.pit_plan.proofs.Good.{ordered-from_none}
 use Rattle.pit_plan.proofs.Touched.{least-after, over-found, moved-looked, revised-looked}
 use Rattle.pit_plan.proofs.judging.first_breach_after.Goals as goal
@@ -17,10 +17,10 @@ returns-in-Some-clause-breach g c = λ good.
     let writes = c.args.writes.now in
     let s = by_block c.args.tally.now.periods in
     let periods : c.deref.result.now ≡ c.args.tally.now.periods = c.deref.ensures.value ∙ ap (λ (t : Tallied). t.periods) c.tally.view_is in
-    let near : IsLeast ComesBefore (IsOutNear pit (laid_over s writes) writes) c.first_out_near.result =
-    subst (λ (ps : List (Option ℕ)). IsLeast ComesBefore (IsOutNear pit (laid_over (by_block ps) writes) writes) c.first_out_near.result) periods
-    (subst (λ (ws : Writes). IsLeast ComesBefore (IsOutNear pit (laid_over (by_block c.deref.result.now) ws) writes) c.first_out_near.result) c.in_ok-written.ensures.entries c.first_out_near.ensures) in
-    subst (IsLeast ComesBefore (IsOutOfOrder pit (laid_over s writes))) c.in-Some.is (least-after pit s writes c.first_out_near.result good.ordered near)
+    let near : IsLeast ComesBefore (IsOutNear pit (overlaid_item s writes) writes) c.first_out_near.result =
+    subst (λ (ps : List (Option ℕ)). IsLeast ComesBefore (IsOutNear pit (overlaid_item (by_block ps) writes) writes) c.first_out_near.result) periods
+    (subst (λ (ws : Writes). IsLeast ComesBefore (IsOutNear pit (overlaid_item (by_block c.deref.result.now) ws) writes) c.first_out_near.result) c.in_ok-written.ensures.entries c.first_out_near.ensures) in
+    subst (IsLeast ComesBefore (IsOutOfOrder pit (overlaid_item s writes))) c.in-Some.is (least-after pit s writes c.first_out_near.result good.ordered near)
 
 pub returns-clause-breach : goal.returns-clause-breach
 returns-clause-breach g c = λ good.
@@ -28,17 +28,17 @@ returns-clause-breach g c = λ good.
     let writes = c.args.writes.now in
     let s = by_block c.args.tally.now.periods in
     let periods : c.deref.result.now ≡ c.args.tally.now.periods = c.deref.ensures.value ∙ ap (λ (t : Tallied). t.periods) c.tally.view_is in
-    let near : IsLeast ComesBefore (IsOutNear pit (laid_over s writes) writes) c.first_out_near.result =
-    subst (λ (ps : List (Option ℕ)). IsLeast ComesBefore (IsOutNear pit (laid_over (by_block ps) writes) writes) c.first_out_near.result) periods
-    (subst (λ (ws : Writes). IsLeast ComesBefore (IsOutNear pit (laid_over (by_block c.deref.result.now) ws) writes) c.first_out_near.result) c.in_ok-written.ensures.entries c.first_out_near.ensures) in
-    let none = subst (IsLeast ComesBefore (IsOutOfOrder pit (laid_over s writes))) c.in_default.is (least-after pit s writes c.first_out_near.result good.ordered near) in
+    let near : IsLeast ComesBefore (IsOutNear pit (overlaid_item s writes) writes) c.first_out_near.result =
+    subst (λ (ps : List (Option ℕ)). IsLeast ComesBefore (IsOutNear pit (overlaid_item (by_block ps) writes) writes) c.first_out_near.result) periods
+    (subst (λ (ws : Writes). IsLeast ComesBefore (IsOutNear pit (overlaid_item (by_block c.deref.result.now) ws) writes) c.first_out_near.result) c.in_ok-written.ensures.entries c.first_out_near.ensures) in
+    let none = subst (IsLeast ComesBefore (IsOutOfOrder pit (overlaid_item s writes))) c.in_default.is (least-after pit s writes c.first_out_near.result good.ordered near) in
     let revised = by_cell pit (revisions_of c.args.revises.now) in
     let limits = cell_limit c.args.limits.now in
     let loads = c.look_at_revised.new.loads in
     let looks = c.in_ok-look_at_revised.ensures.looks in
-    let lim = at_cell pit (laid_over limits revised) in
-    over-found pit c.args.tally.now writes loads.kept.now loads.cells.entries (at_cell pit limits) lim c.first_over_after.result c.requires.tally
-    (moved-looked pit c.args.tally.now writes revised c.in_ok-loads.loads.kept.now loads.kept.now c.in_ok-loads.loads.cells.entries loads.cells.entries c.in_ok-loads.ensures.moved looks)
-    (revised-looked pit limits revised loads.cells.entries looks.named) good.within (ordered-from_none pit (laid_over s writes) none)
-    (subst (λ (xs : List (ℕ × Option ℤ)). IfNone c.first_over_after.result (IsLeast ComesBefore (IsOverAt pit (at_cell pit (laid_over limits xs)) loads.cells.entries) None)) c.in_ok-revised.ensures.entries c.first_over_after.ensures.none)
-    (subst (λ (xs : List (ℕ × Option ℤ)). IfSome c.first_over_after.result (IsLeastOver pit (at_cell pit (laid_over limits xs)) loads.cells.entries)) c.in_ok-revised.ensures.entries c.first_over_after.ensures.some)
+    let lim = at_cell pit (overlaid_item limits revised) in
+    over-found pit c.args.tally.now writes loads.kept.now loads.pairs.entries (at_cell pit limits) lim c.first_over_after.result c.requires.tally
+    (moved-looked pit c.args.tally.now writes revised c.in_ok-loads.loads.kept.now loads.kept.now c.in_ok-loads.loads.pairs.entries loads.pairs.entries c.in_ok-loads.ensures.moved looks)
+    (revised-looked pit limits revised loads.pairs.entries looks.named) good.within (ordered-from_none pit (overlaid_item s writes) none)
+    (subst (λ (xs : List (ℕ × Option ℤ)). IfNone c.first_over_after.result (IsLeast ComesBefore (IsOverAt pit (at_cell pit (overlaid_item limits xs)) loads.pairs.entries) None)) c.in_ok-revised.ensures.entries c.first_over_after.ensures.none)
+    (subst (λ (xs : List (ℕ × Option ℤ)). IfSome c.first_over_after.result (IsLeastOver pit (at_cell pit (overlaid_item limits xs)) loads.pairs.entries)) c.in_ok-revised.ensures.entries c.first_over_after.ensures.some)

@@ -1,5 +1,5 @@
 use Rattle.std.proofs.Common.{◌<◌, arith, rules}
-use Rattle.pit_model.specs.PredecessorRows.{empty_row, cells_of}
+use Rattle.pit_model.specs.PredecessorRows.{no_cells, cells_of}
 use Rattle.pit_model.proofs.BlockSets.{below-known}
 use Rattle.pit_model.proofs.PredecessorCells.{OnErr-always, rows_in-same, rows_in-row, ArePredecessorRows-row}
 use Rattle.pit_model.proofs.Rows.{get_or-filled_up}
@@ -7,7 +7,7 @@ use Rattle.pit_model.proofs.predecessors.Predecessors.append.Goals as goal
 
 pub returns-in_err-extend_from_slice-clause-err : goal.returns-in_err-extend_from_slice-clause-err
 returns-in_err-extend_from_slice-clause-err g c =
-    let filled = get_or-filled_up c.self.inside.blocks c.self.inside.rows.len c.self.inside.rows.items c.resize.new.self.items empty_row c.self.invariant.few (rw c.no_row.ensures at c.in_ok-resize.ensures.items) in
+    let filled = get_or-filled_up c.self.inside.blocks c.self.inside.rows.len c.self.inside.rows.items c.resize.new.self.items no_cells c.self.invariant.few (rw c.no_row.ensures at c.in_ok-resize.ensures.items) in
     let same = rows_in-same c.self.inside.blocks c.self.inside.set c.reserve.new.self c.self.inside.cells.items c.extend_from_slice.new.self.items c.self.inside.rows.items c.resize.new.self.items
     c.reserve.ensures.same c.in_err-extend_from_slice.ensures.items filled in
     OnErr-always c.from_residual-in_err-extend_from_slice.result (rw (← c.self.view_is) same)

@@ -6,7 +6,7 @@ use Rattle.pit_plan.specs.Standing.{Standing}
 use Rattle.pit_plan.specs.Breaches.{IsGood, IsFirstBreach}
 use Rattle.pit_plan.specs.Totals.{at_cell}
 use Rattle.pit_plan.specs.Limits.{cell_limit, by_cell}
-use Rattle.pit_plan.specs.Touched.{laid_over}
+use Rattle.pit_plan.specs.Touched.{overlaid_item}
 use Rattle.pit_plan.proofs.Same.{breach-after}
 use Rattle.pit_plan.proofs.plan.Plan.judge.Goals as goal
 
@@ -17,4 +17,4 @@ returns-clause-breach g c =
     let revised = subst (λ (s : Standing). RevisionsFit s.pit.resources s.pit.periods (revisions_of c.args.revises.now)) (sym c.self.view_is) c.requires.revises in
     IfOk-weaker c.first_breach_after.result _ _ (λ breach found. breach-after _ _ (record { writes = c.args.writes.now; revises = revisions_of c.args.revises.now }) breach c.self.view_is c.self.invariant.sound revised found c.requires.good)
     (subst (λ (limits : List (Option ℤ)). IfOk c.first_breach_after.result (λ breach. IsGood pit s (at_cell pit (cell_limit limits))
-    → IsFirstBreach pit (laid_over s c.args.writes.now) (at_cell pit (laid_over (cell_limit limits) (by_cell pit (revisions_of c.args.revises.now)))) breach)) c.deref.ensures.value c.first_breach_after.ensures.breach)
+    → IsFirstBreach pit (overlaid_item s c.args.writes.now) (at_cell pit (overlaid_item (cell_limit limits) (by_cell pit (revisions_of c.args.revises.now)))) breach)) c.deref.ensures.value c.first_breach_after.ensures.breach)
