@@ -1,5 +1,4 @@
-//! For tests: the small pit as facts and as texts, a large one and pits that look random, what is read of a plan,
-//! sums over facts and lists of commits to compare it with, and devices that fail.
+//! For tests: the small pit as facts and as texts, a large one and pits that look random, and devices that fail.
 //!
 //! The small pit, Tiny, has four blocks, two periods, one resource and a rate of 0.1. Block 1 comes after block 0, and block 2 after
 //! both; at most 4 may be loaded in a period, and at least 1 in period 1. The same facts stand here as calls of a builder and as texts.
@@ -7,30 +6,24 @@
 
 mod broken;
 mod fact;
-mod kept;
 mod large;
 mod limits;
 mod narrow;
 mod offset;
 mod random;
-mod reading;
 mod series;
 mod size;
-mod sums;
 mod tiny;
 
 pub use broken::Broken;
 pub use fact::{Fact, built, tell};
-pub use kept::{Kept, held_in, last_in};
 pub use large::{LARGE_SIZE, large_facts, large_schedule};
 pub use limits::{limit_in, lower_in};
 pub use narrow::Narrow;
 pub use offset::{OFFSET, OFFSET_SIZE};
 pub use random::random_facts;
-pub use reading::Reading;
 pub use series::Series;
 pub use size::Size;
-pub use sums::{Case, first_breach, load, shortfalls, value};
 pub use tiny::{
     TINY, TINY_BLOCKS, TINY_COEFFICIENTS, TINY_HEADER, TINY_LIMITS, TINY_MODEL, TINY_OBJECTIVE,
     TINY_PLACES, TINY_PRECEDENCE, TINY_SIZE, TINY_SOLUTION, TINY_VALUE,
