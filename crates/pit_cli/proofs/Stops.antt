@@ -29,7 +29,7 @@ order-stop given bytes pit is = inr (is.facts, is.stands)
 
 pub solution-stop : (pit : Pit) (bytes : List ℕ) (schedule : List (ℕ × ℕ)) → IsSolutionOf pit bytes schedule → IsSolutionStop pit bytes
 unfolding IsSolutionStop
-solution-stop pit bytes schedule is = (end_line bytes, inr (is.facts, is.stands, refl))
+solution-stop pit bytes schedule is = inr (is.facts, is.stands)
 
 -- ---- where a reader wants memory
 
@@ -60,11 +60,12 @@ pub solution-wants : (pit : Pit) (bytes : List ℕ) (error : TextError) → erro
     → ((error.cause ≡ WantsMemory) × SolutionStops pit.blocks pit.periods (cut_of bytes) (end_line bytes) error.line) ⊎ FailsFirst (solution_line pit.blocks pit.periods) (cut_of bytes) error.line error.cause
     → IsSolutionStop pit bytes
 unfolding IsSolutionStop
-solution-wants pit bytes error is answered = (
-  error.line,
-  stop_alone (SolutionStops pit.blocks pit.periods (cut_of bytes) (end_line bytes) error.line) (FailsFirst (solution_line pit.blocks pit.periods) (cut_of bytes) error.line) error.cause is
-      (no_solution_wants pit.blocks pit.periods (cut_of bytes) error.line) answered,
-)
+solution-wants pit bytes error is answered =
+    inl (
+      error.line,
+      stop_alone (SolutionStops pit.blocks pit.periods (cut_of bytes) (end_line bytes) error.line) (FailsFirst (solution_line pit.blocks pit.periods) (cut_of bytes) error.line) error.cause is
+          (no_solution_wants pit.blocks pit.periods (cut_of bytes) error.line) answered,
+    )
 
 -- ---- a value that is made of what a text stands for, or memory is wanted for it
 

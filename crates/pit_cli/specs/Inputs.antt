@@ -1,5 +1,5 @@
 -- The inputs: the words that faults name them with, and what their texts stand for.
-use Rattle.std.specs.Prelude.{◌≡◌, ◌⊎◌, ℕ, List, codes}
+use Rattle.std.specs.Prelude.{◌≡◌, ◌⊎◌, ℕ, List, Option, codes}
 use Rattle.pit_model.specs.Pit.{Pit}
 use Rattle.pit_text.specs.declared.error.TextError.{TextError}
 use Rattle.pit_text.specs.Cutting.{cut_of, end_line}
@@ -55,7 +55,9 @@ IsOrderStop given bytes =
     ((place : ℕ) × StopsAt (precedence_line given) (cut_of bytes) place) ⊎ ((facts : List (ℕ × List ℕ)) × StandsFor (precedence_line given) (cut_of bytes) facts)
 
 unfoldable pub IsSolutionStop : Pit → List ℕ → Type 0
-IsSolutionStop pit bytes = (place : ℕ) × SolutionStops pit.blocks pit.periods (cut_of bytes) (end_line bytes) place
+IsSolutionStop pit bytes =
+    ((place : ℕ) × SolutionStops pit.blocks pit.periods (cut_of bytes) (end_line bytes) place)
+    ⊎ ((facts : List (Option (ℕ × ℕ))) × StandsFor (solution_line pit.blocks pit.periods) (cut_of bytes) facts)
 
 -- ---- schedules
 

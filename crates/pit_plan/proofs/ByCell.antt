@@ -1,5 +1,5 @@
 -- Limits by their cells.
-use Rattle.std.proofs.Common.{◌≡◌, ℕ, suc, ◌+◌, ◌*◌, ◌<◌, true, cond, ℤ, List, [], ◌∷◌, length, map, get_or, Option, Some, None, refl, sym, ap, subst, ◌∙◌, arith, inl, inr}
+use Rattle.std.proofs.Common.{◌≡◌, ℕ, ◌*◌, ◌<◌, ℤ, List, [], ◌∷◌, length, get_or, Option, Some, None, refl, sym, ap, subst, ◌∙◌, arith, inl, inr}
 use Rattle.std.specs.Prelude.{nat_eq}
 use Rattle.std.specs.Map.{lookup}
 use Rattle.std.specs.List.{AllByRecursion}
@@ -14,7 +14,7 @@ use Rattle.pit_model.specs.Pit.{Pit, cell_of}
 use Rattle.pit_model.proofs.CallerLemmas.{cells_apart, same_resource}
 use Rattle.pit_plan.specs.Schedule.{Revisions}
 use Rattle.pit_plan.specs.Limits.{by_cell}
-use Rattle.pit_plan.proofs.Named.{Once, same-eq, other-eq}
+use Rattle.pit_plan.proofs.Named.{Once}
 
 pub cell-below : (pit : Pit) (r t : ℕ) → r < pit.resources → t < pit.periods → cell_of pit r t < pit.periods * pit.resources
 cell-below pit r t lr lt = omega (arith, mul-add-lt t pit.resources r pit.periods lt lr)

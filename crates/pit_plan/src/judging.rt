@@ -38,7 +38,7 @@ impl<'a, A: Allocator + Copy + Drop> Schedule for Overlay<'a, Option<u32>, A> {
     ghost count = { λ s. length s.kept.now };
 
     fn period(&self, b: u32) -> Option<u32> {
-        value_of(self.kept, &self.pairs, b)
+        overlaid_item(self.kept, &self.pairs, b)
     }
 }
 
@@ -49,7 +49,7 @@ impl<'a, A: Allocator + Copy + Drop> Limits for Overlay<'a, Option<i64>, A> {
     ghost cells = { λ limits. length limits.kept.now };
 
     fn limit(&self, cell: u32) -> Option<i64> {
-        value_of(self.kept, &self.pairs, cell)
+        overlaid_item(self.kept, &self.pairs, cell)
     }
 }
 
@@ -64,14 +64,14 @@ impl<'a, A: Allocator + Copy + Drop> Loads for Overlay<'a, i128, A> {
     ghost can_refuse = { true };
 
     fn add(&mut self, cell: u32, term: i128) -> Result<(), NoMemory> {
-        let load = plus(value_of(self.kept, &self.pairs, cell), term);
+        let load = plus(overlaid_item(self.kept, &self.pairs, cell), term);
         self.pairs.insert(cell, load)?;
         Ok(())
     }
 }
 
 /// What the pairs say of a number, else what is kept of it.
-fn value_of<X: Copy, A: Allocator + Copy + Drop>(kept: &[X], pairs: &Pairs<X, A>, k: u32) -> X
+fn overlaid_item<X: Copy, A: Allocator + Copy + Drop>(kept: &[X], pairs: &Pairs<X, A>, k: u32) -> X
     requires { k < length kept.now }
     ensures { (absent : X) → result ≡ overlaid_item (λ n. slice_index_or kept.now n absent) pairs.now.entries k }
 {
@@ -288,7 +288,7 @@ fn look_at<'a, A: Allocator + Copy + Drop>(
     ensures stays { OnOk result (loads.new.kept.now ≡ loads.old.kept.now) }
     ensures sets { OnOk result (SetsCell loads.old.pairs.entries cell (overlaid_item (cell_load loads.old.kept.now) loads.old.pairs.entries cell) loads.new.pairs.entries) }
 {
-    let load = value_of(loads.kept, &loads.pairs, cell);
+    let load = overlaid_item(loads.kept, &loads.pairs, cell);
     loads.pairs.insert(cell, load)?;
     Ok(())
 }

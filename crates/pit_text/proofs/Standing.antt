@@ -1,5 +1,5 @@
 -- Lines that stand for facts.
-use Rattle.std.proofs.Common.{◌≡◌, ◌≢◌, ℕ, zero, suc, ◌+◌, ◌<◌, nat_eq, ◌⊎◌, inl, inr, is_some, IsSome, Bool, true, false, cond, List, [], ◌∷◌, ◌++◌, length, Ok, Err, Option, Some, None, IfSome, subst, ap, sym, ◌∙◌, refl, arith, add-one, zero-add, set, slice_index_or}
+use Rattle.std.proofs.Common.{◌≡◌, ◌≢◌, ℕ, zero, suc, ◌+◌, ◌<◌, nat_eq, ◌⊎◌, inl, inr, is_some, IsSome, Bool, true, false, true≢false, cond, List, [], ◌∷◌, ◌++◌, length, Ok, Err, Option, Some, None, IfSome, subst, ap, sym, ◌∙◌, refl, arith, add-one, zero-add, set, slice_index_or}
 use Rattle.std.specs.List.{filter_map, range_with_len, cons_option}
 use Rattle.std.proofs.lemmas.List.Elements.{filter_map-append}
 use Rattle.std.specs.Option.{option_to_list, option_map}
@@ -156,6 +156,23 @@ by_count blocks facts slots are (inr count) =
 pub schedule_of-slots : (blocks : ℕ) (facts : List (Option (ℕ × ℕ))) (slots : List (Option ℕ)) → AreSlots blocks facts slots
     → schedule_of (length slots) (λ b. slice_index_or slots b None) ≡ schedule_of blocks (period_in facts)
 schedule_of-slots blocks facts slots are = by_count blocks facts slots are are.count
+
+-- a slot that has a period
+some-within : (slots : List (Option ℕ)) (b : ℕ) → IsSome (slice_index_or slots b None) → b < length slots
+some-within [] b some = absurd (true≢false (sym some))
+some-within (o ∷ os) zero some = omega arith
+some-within (o ∷ os) (suc b) some = omega (arith, some-within os b some)
+
+pub slots-some : (blocks : ℕ) (facts : List (Option (ℕ × ℕ))) (slots : List (Option ℕ)) (b : ℕ) → AreSlots blocks facts slots → IsSome (slice_index_or slots b None)
+    → IsSome (period_in facts b)
+slots-some blocks facts slots b are some = by are.count
+  where
+    within : b < length slots
+    within = some-within slots b some
+
+    by : (slots ≡ []) ⊎ (length slots ≡ blocks) → IsSome (period_in facts b)
+    by (inl none) = absurd (omega (arith, ap (λ (os : List (Option ℕ)). length os) none, within))
+    by (inr count) = ap (λ (o : Option ℕ). is_some o) (sym (are.each b (omega (arith, count, within)))) ∙ some
 
 -- a line that schedules a block
 some_either : (o : Option ℕ) (t : ℕ) → is_some (or_else o (Some t)) ≡ true

@@ -1,6 +1,5 @@
 ghost use Rattle.std.specs.Prelude.{◌≡◌, Result};
 ghost use Rattle.pit_text.specs.Header.{value_of_key, number_in_range, supported_number, is_cpit, kind_of, rate_of};
-ghost use Rattle.pit_text.specs.Numbers.{decimal_field};
 
 use super::error::Cause;
 use super::key::Key;

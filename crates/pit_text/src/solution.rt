@@ -1,4 +1,4 @@
-ghost use Rattle.std.specs.Prelude.{◌≡◌, ℕ, ◌<◌, ◌^◌, ◌∷◌, ◌++◌, [], List, Option, Some, None, Ok, Err, MatchResult, IfOk, IfErr, IfSome, OnOk, ◌⊎◌, length, slice_index_or};
+ghost use Rattle.std.specs.Prelude.{◌≡◌, ℕ, ◌<◌, ◌^◌, ◌∷◌, ◌++◌, [], List, Option, Some, None, Ok, Err, MatchResult, IfOk, IfErr, IfSome, IsSome, OnOk, ◌⊎◌, length, slice_index_or};
 ghost use Rattle.pit_num.specs.Fitting.{IsSchedule};
 ghost use Rattle.pit_text.specs.Cutting.{cut_of, end_line};
 ghost use Rattle.pit_text.specs.Left.{fields_left};
@@ -42,7 +42,8 @@ fn schedule_of<A: Allocator>(
     slots: &[Option<u32>],
 ) -> Result<Vec<(u32, u32), A>, NoMemory>
     requires { length slots.now < 2 ^ 32 }
-    ensures { IfOk result (λ solution. solution.items ≡ schedule_of (length slots.now) (λ b. slice_index_or slots.now b None)) }
+    ensures solution { IfOk result (λ solution. solution.items ≡ schedule_of (length slots.now) (λ b. slice_index_or slots.now b None)) }
+    ensures memory { IfErr result (λ e. (b : ℕ) × IsSome (slice_index_or slots.now b None)) }
 {
     let mut solution = Vec::new(alloc);
     for (block, slot) in slots.iter().enumerate() {

@@ -1,6 +1,6 @@
 use Rattle.std.proofs.Common.{◌≡◌, ◌∷◌, [], sym, subst, ◌∙◌}
 use Rattle.pit_model.specs.Pit.{Pit}
-use Rattle.pit_plan.specs.Schedule.{Commit, Writes}
+use Rattle.pit_plan.specs.Schedule.{Writes}
 use Rattle.pit_plan.specs.Standing.{IsPlanOf}
 use Rattle.pit_num.specs.Fitting.{Fits, writes_of}
 use Rattle.pit_cli.proofs.planned.planned.Goals as goal

@@ -37,9 +37,9 @@ returns-in-Err g c =
     elim (c.in-Err.ensures was.0 was.2) [
       | inl wanting ↦ inl (
         wanting.0,
-        inl (
+        (
           was.0 ++ Some wanting.1.0 ∷ [],
-          read_stands judge (cut_of c.args.text.now) (lines_left c.loop-line.lines) (lines_left c.next.new.self) line was.0 (Some wanting.1.0) was.1 c.in-Some.ensures.steps.0 wanting.1.1,
+          inl (read_stands judge (cut_of c.args.text.now) (lines_left c.loop-line.lines) (lines_left c.next.new.self) line was.0 (Some wanting.1.0) was.1 c.in-Some.ensures.steps.0 wanting.1.1),
           schedules_some was.0 wanting.1.0,
         ),
       )

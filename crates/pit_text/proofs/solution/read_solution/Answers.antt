@@ -1,9 +1,9 @@
-use Rattle.std.proofs.Common.{◌≡◌, ℕ, List, Option, None, inl, inr, refl, ap, sym, ◌∙◌, slice_index_or, length, subst}
+use Rattle.std.proofs.Common.{◌≡◌, ℕ, List, Option, None, inl, inr, refl, ap, sym, ◌∙◌, slice_index_or, length, subst, IsSome}
 use Rattle.pit_num.specs.Fitting.{IsSchedule}
 use Rattle.pit_text.specs.Cutting.{cut_of}
 use Rattle.pit_text.specs.Stands.{StandsFor}
 use Rattle.pit_text.specs.Solution.{schedule_of, period_in, solution_line, AreSlots}
-use Rattle.pit_text.proofs.Standing.{schedule_of-slots}
+use Rattle.pit_text.proofs.Standing.{schedule_of-slots, slots-some}
 use Rattle.pit_text.proofs.Solutions.{period-range, schedule_of-is_schedule}
 use Rattle.pit_text.proofs.solution.read_solution.Goals as goal
 
@@ -27,7 +27,7 @@ returns-in-Ok-clause-result g c =
     let pit = c.args.instance.now in (
       read.0,
       stands_of c.args.text.now _ pit.blocks _ pit.periods read.0 c.blocks-2.ensures.count c.periods.ensures read.1,
-      by_slots _ pit.blocks c.in_ok-slots.slots.items c.deref.result.now read.0 c.in-Ok.solution.items c.blocks-2.ensures.count read.2 c.deref.ensures.value c.in-Ok.ensures,
+      by_slots _ pit.blocks c.in_ok-slots.slots.items c.deref.result.now read.0 c.in-Ok.solution.items c.blocks-2.ensures.count read.2 c.deref.ensures.value c.in-Ok.ensures.solution,
     )
 
 pub returns-in-Ok-clause-fits : goal.returns-in-Ok-clause-fits
@@ -35,7 +35,7 @@ returns-in-Ok-clause-fits g c =
     let read = c.in_ok-slots.ensures in
     let pit = c.args.instance.now in
     let stands = stands_of c.args.text.now _ pit.blocks _ pit.periods read.0 c.blocks-2.ensures.count c.periods.ensures read.1 in
-    let is = by_slots _ pit.blocks c.in_ok-slots.slots.items c.deref.result.now read.0 c.in-Ok.solution.items c.blocks-2.ensures.count read.2 c.deref.ensures.value c.in-Ok.ensures in
+    let is = by_slots _ pit.blocks c.in_ok-slots.slots.items c.deref.result.now read.0 c.in-Ok.solution.items c.blocks-2.ensures.count read.2 c.deref.ensures.value c.in-Ok.ensures.solution in
     subst (λ (ps : List (ℕ × ℕ)). IsSchedule pit.blocks pit.periods ps) (sym is)
     (schedule_of-is_schedule pit.blocks pit.periods (period_in read.0) (period-range pit.blocks pit.periods _ read.0 (cut_of c.args.text.now) stands))
 
@@ -43,4 +43,13 @@ pub returns-clause-result : goal.returns-clause-result
 returns-clause-result g c =
     let read = c.in_ok-slots.ensures in
     let pit = c.args.instance.now in
-    inl (refl, inr (read.0, stands_of c.args.text.now _ pit.blocks _ pit.periods read.0 c.blocks-2.ensures.count c.periods.ensures read.1, read.3))
+    let scheduled = c.in-Err.ensures.memory in
+    let some = subst (λ (os : List (Option ℕ)). IsSome (slice_index_or os scheduled.0 None)) c.deref.ensures.value scheduled.1 in
+    inl (
+      refl,
+      (
+        read.0,
+        inr (stands_of c.args.text.now _ pit.blocks _ pit.periods read.0 c.blocks-2.ensures.count c.periods.ensures read.1, read.3),
+        (scheduled.0, slots-some _ read.0 c.in_ok-slots.slots.items scheduled.0 read.2 some),
+      ),
+    )

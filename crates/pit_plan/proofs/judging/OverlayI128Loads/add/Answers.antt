@@ -7,7 +7,7 @@ use Rattle.pit_plan.proofs.Touched.{raises-cell, named-set}
 use Rattle.pit_plan.proofs.judging.OverlayI128Loads.add.Goals as goal
 
 pub plus-load-requires : goal.plus-load-requires
-plus-load-requires g c = rw (to_z-of_z w128 c.value_of.result (search rules), to_z-of_z w128 c.args.term (search rules), c.value_of.ensures (pos 0)) c.requires.room
+plus-load-requires g c = rw (to_z-of_z w128 c.overlaid_item.result (search rules), to_z-of_z w128 c.args.term (search rules), c.overlaid_item.ensures (pos 0)) c.requires.room
 
 pub returns-clause-sound : goal.returns-clause-sound
 returns-clause-sound g c =
@@ -18,6 +18,6 @@ returns-clause-raises g c =
     let kept = cell_load c.args.self.now.kept.now in
     let cells = c.args.self.now.pairs.entries in
     let sum : c.plus-load.result ≡ overlaid_item kept cells c.args.cell +ℤ c.args.term =
-    c.plus-load.ensures ∙ rw (to_z-of_z w128 c.value_of.result (search rules), to_z-of_z w128 c.args.term (search rules), c.value_of.ensures (pos 0)) refl in
+    c.plus-load.ensures ∙ rw (to_z-of_z w128 c.overlaid_item.result (search rules), to_z-of_z w128 c.args.term (search rules), c.overlaid_item.ensures (pos 0)) refl in
     raises-cell kept cells c.insert.new.self.entries c.args.cell c.args.term
     (subst (λ (v : ℤ). SetsCell cells c.args.cell v c.insert.new.self.entries) (to_z-of_z w128 c.plus-load.result (search rules) ∙ sum) (λ n. c.in_ok-insert.ensures.updates.0 n))
