@@ -1,5 +1,6 @@
 //! The first breach that a schedule would have after writes and revisions, found where these touch it.
-ghost use Rattle.std.specs.Prelude.{◌≡◌, ◌≢◌, ℕ, ◌+◌, ◌*◌, ◌<◌, ◌⊎◌, true, None, pos, [], length, take, slice_index_or, IfNone, IfOk, IfErr, IfSome, OnOk, All, AllPairs};
+ghost use Rattle.std.specs.Prelude.{◌≡◌, ◌≢◌, ℕ, ◌+◌, ◌*◌, ◌<◌, ◌⊎◌, true, None, pos, [], length, take, nat_eq, slice_index_or, IfNone, IfOk, IfErr, IfSome, OnOk, All, AllPairs};
+ghost use Rattle.std.specs.Map.{lookup};
 ghost use Rattle.indexmap.specs.IndexMap.{index_map_len};
 ghost use Rattle.pit_num.specs.Fitting.{Fits, RevisionsFit, revisions_of};
 ghost use Rattle.pit_num.specs.Least.{ComesBefore, IsLeast};
@@ -42,6 +43,41 @@ impl<'a, A: Allocator + Copy + Drop> Schedule for Overlay<'a, Option<u32>, A> {
     }
 }
 
+/// Writes up to so many are looked through for a block. More are kept in a map, which takes memory.
+const FEW: usize = 8;
+
+/// Periods, over which a few writes are laid.
+#[derive(Clone, Copy)]
+struct Few<'a> {
+    kept: &'a [Option<u32>],
+    writes: &'a [(u32, Option<u32>)],
+}
+
+impl<'a> Schedule for Few<'a> {
+    ghost period_at = { λ s. overlaid_item (by_block s.kept.now) s.writes.now };
+
+    ghost count = { λ s. length s.kept.now };
+
+    fn period(&self, b: u32) -> Option<u32> {
+        match written_to(self.writes, b) {
+            Some(period) => period,
+            None => self.kept[b as usize],
+        }
+    }
+}
+
+/// What the writes give a block, if one of them names it.
+fn written_to(writes: &[(u32, Option<u32>)], b: u32) -> Option<Option<u32>>
+    ensures { result ≡ lookup (nat_eq b) writes.now }
+{
+    for (block, period) in writes {
+        if *block == b {
+            return Some(*period);
+        }
+    }
+    None
+}
+
 /// Limits, over which those that are revised are laid, each by its cell.
 impl<'a, A: Allocator + Copy + Drop> Limits for Overlay<'a, Option<i64>, A> {
     ghost limit_in = { λ limits. overlaid_item (cell_limit limits.kept.now) limits.pairs.entries };
@@ -82,8 +118,8 @@ fn overlaid_item<X: Copy, A: Allocator + Copy + Drop>(kept: &[X], pairs: &Pairs<
 }
 
 /// The first breach that the schedule would have after the writes and the revisions, where it has none before them. Looks at the written
-/// blocks, at their predecessors and successors, and at the loads that are moved or revised; takes the memory of the writes, of the
-/// revisions and of these loads.
+/// blocks, at their predecessors and successors, and at the loads that are moved or revised; takes the memory of the revisions, of these
+/// loads, and of the writes where these are more than `FEW`.
 pub(crate) fn first_breach_after<A: Allocator + Copy + Drop>(
     alloc: A,
     pit: &Instance<A>,
@@ -101,11 +137,8 @@ pub(crate) fn first_breach_after<A: Allocator + Copy + Drop>(
         (at_cell pit.now (overlaid_item (cell_limit limits.now) (by_cell pit.now (revisions_of revises.now)))) breach) }
     ensures refused { IfErr result (λ e. (writes.now ≢ []) ⊎ (revises.now ≢ [])) }
 {
-    let after = Overlay {
-        kept: &tally.periods,
-        pairs: written(alloc, writes)?,
-    };
-    if let Some((block, before)) = first_out_near(pit, &after, writes) {
+    let out = first_out_after(alloc, pit, tally, writes)?;
+    if let Some((block, before)) = out {
         return Ok(Some(Breach::Precedence { block, before }));
     }
     let revised = Overlay {
@@ -115,6 +148,30 @@ pub(crate) fn first_breach_after<A: Allocator + Copy + Drop>(
     let mut loads = moved_loads(alloc, pit, tally, writes)?;
     look_at_revised(pit, revises, &mut loads)?;
     Ok(first_over_after(pit, &revised, &loads.pairs))
+}
+
+/// The least pair of a block and its predecessor that the writes leave out of order, of which one is written. Takes memory for more than
+/// `FEW` writes alone.
+fn first_out_after<A: Allocator + Copy + Drop>(
+    alloc: A,
+    pit: &Instance<A>,
+    tally: &Tally<A>,
+    writes: &[(u32, Option<u32>)],
+) -> Result<Option<(u32, u32)>, NoMemory>
+    requires tally { IsTally pit.now tally.now }
+    requires fits { Fits pit.now.blocks pit.now.periods writes.now }
+    ensures least { IfOk result (IsLeast ComesBefore (IsOutNear pit.now (overlaid_item (by_block tally.now.periods) writes.now) writes.now)) }
+    ensures refused { IfErr result (λ e. writes.now ≢ []) }
+{
+    let kept = tally.periods.as_slice();
+    if writes.len() <= FEW {
+        return Ok(first_out_near(pit, &Few { kept, writes }, writes));
+    }
+    let after = Overlay {
+        kept,
+        pairs: written(alloc, writes)?,
+    };
+    Ok(first_out_near(pit, &after, writes))
 }
 
 /// The writes, by block.

@@ -1,9 +1,9 @@
-use Rattle.std.proofs.Common.{◌≡◌, ℕ, ℤ, List, Option, None, ap, subst, ◌∙◌}
+use Rattle.std.proofs.Common.{ℕ, ℤ, List, Option, None, subst}
 use Rattle.std.specs.Prelude.{IfNone, IfSome}
 use Rattle.pit_num.specs.Least.{ComesBefore, IsLeast}
-use Rattle.pit_plan.specs.Schedule.{Writes, by_block}
+use Rattle.pit_plan.specs.Schedule.{by_block}
 use Rattle.pit_num.specs.Fitting.{revisions_of}
-use Rattle.pit_plan.specs.Totals.{Tallied, at_cell}
+use Rattle.pit_plan.specs.Totals.{at_cell}
 use Rattle.pit_plan.specs.Limits.{cell_limit, by_cell}
 use Rattle.pit_plan.specs.Breaches.{IsOutOfOrder}
 use Rattle.pit_plan.specs.Touched.{overlaid_item, IsOutNear, IsOverAt, IsLeastOver}
@@ -16,22 +16,16 @@ returns-in-Some-clause-breach g c = λ good.
     let pit = c.args.pit.now in
     let writes = c.args.writes.now in
     let s = by_block c.args.tally.now.periods in
-    let periods : c.deref.result.now ≡ c.args.tally.now.periods = c.deref.ensures.value ∙ ap (λ (t : Tallied). t.periods) c.tally.view_is in
-    let near : IsLeast ComesBefore (IsOutNear pit (overlaid_item s writes) writes) c.first_out_near.result =
-    subst (λ (ps : List (Option ℕ)). IsLeast ComesBefore (IsOutNear pit (overlaid_item (by_block ps) writes) writes) c.first_out_near.result) periods
-    (subst (λ (ws : Writes). IsLeast ComesBefore (IsOutNear pit (overlaid_item (by_block c.deref.result.now) ws) writes) c.first_out_near.result) c.in_ok-written.ensures.entries c.first_out_near.ensures) in
-    subst (IsLeast ComesBefore (IsOutOfOrder pit (overlaid_item s writes))) c.in-Some.is (least-after pit s writes c.first_out_near.result good.ordered near)
+    let near : IsLeast ComesBefore (IsOutNear pit (overlaid_item s writes) writes) c.in_ok-out.out = c.in_ok-out.ensures.least in
+    subst (IsLeast ComesBefore (IsOutOfOrder pit (overlaid_item s writes))) c.in-Some.is (least-after pit s writes c.in_ok-out.out good.ordered near)
 
 pub returns-clause-breach : goal.returns-clause-breach
 returns-clause-breach g c = λ good.
     let pit = c.args.pit.now in
     let writes = c.args.writes.now in
     let s = by_block c.args.tally.now.periods in
-    let periods : c.deref.result.now ≡ c.args.tally.now.periods = c.deref.ensures.value ∙ ap (λ (t : Tallied). t.periods) c.tally.view_is in
-    let near : IsLeast ComesBefore (IsOutNear pit (overlaid_item s writes) writes) c.first_out_near.result =
-    subst (λ (ps : List (Option ℕ)). IsLeast ComesBefore (IsOutNear pit (overlaid_item (by_block ps) writes) writes) c.first_out_near.result) periods
-    (subst (λ (ws : Writes). IsLeast ComesBefore (IsOutNear pit (overlaid_item (by_block c.deref.result.now) ws) writes) c.first_out_near.result) c.in_ok-written.ensures.entries c.first_out_near.ensures) in
-    let none = subst (IsLeast ComesBefore (IsOutOfOrder pit (overlaid_item s writes))) c.in_default.is (least-after pit s writes c.first_out_near.result good.ordered near) in
+    let near : IsLeast ComesBefore (IsOutNear pit (overlaid_item s writes) writes) c.in_ok-out.out = c.in_ok-out.ensures.least in
+    let none = subst (IsLeast ComesBefore (IsOutOfOrder pit (overlaid_item s writes))) c.in_default.is (least-after pit s writes c.in_ok-out.out good.ordered near) in
     let revised = by_cell pit (revisions_of c.args.revises.now) in
     let limits = cell_limit c.args.limits.now in
     let loads = c.look_at_revised.new.loads in
