@@ -1,3 +1,4 @@
 pub mod Asked
+pub mod Command
 pub mod Ending
 pub mod Runs

@@ -1,5 +1,12 @@
 //! The command line.
-ghost use Rattle.std.specs.Prelude.{◌≡◌, ◌⊎◌};
+ghost use Rattle.std.specs.Prelude.{◌≡◌, ◌⊎◌, IfOk, false, map};
+ghost use Rattle.clap.specs.Simple.{app_of, matches_of, subcommand_of, subcommand_rows_of};
+ghost use Rattle.clap.specs.Walk.{rows_of, rule_of};
+ghost use Rattle.clap.specs.Matches.{found_of};
+ghost use Rattle.clap.specs.Kinds.{FailsBy};
+ghost use Rattle.clap.specs.Faults.{fault_of};
+ghost use Rattle.clap.specs.declared.builder.command.Command.TheViews.{out-Command as fields_of};
+ghost use Rattle.pit.specs.Command.{AsksAll, pit_app, value_shape, check_shape, file_rule, IsSubcommand};
 ghost use Rattle.clap.specs.Values.{kind_of};
 ghost use Rattle.clap.specs.declared.error.kind.ErrorKind.TheVariants.{OutOfMemory};
 
@@ -7,9 +14,10 @@ use crate::argument::argument_of;
 use crate::engine::{CHECK, VALUE};
 use crate::fault::Fault;
 use clap::error::ErrorKind;
-use clap::{Arg, Command, Error};
+use clap::{Arg, ArgMatches, Command, Error};
 use pit_cli::Input;
 use std::alloc::{AllocError, Global};
+use std::convert::AsStr;
 use std::io;
 
 /// What `--version` prints behind the program's name.
@@ -61,7 +69,10 @@ pub fn words(rt: &HostRuntime) -> Result<Vec<String>, Fault> {
 }
 
 /// `pit`, with one subcommand for each engine.
-pub fn command<'a>(alloc: Global) -> Result<Command<'a>, AllocError> {
+pub fn command<'a>(alloc: Global) -> Result<Command<'a>, AllocError>
+    ensures app { IfOk result (λ c. app_of c ≡ pit_app) }
+    ensures local { IfOk result (λ c. (fields_of c).has_globals ≡ false) }
+{
     Command::new(alloc, "pit")
         .about("Values and checks schedules of open pit mines")
         .version(VERSION)
@@ -71,7 +82,20 @@ pub fn command<'a>(alloc: Global) -> Result<Command<'a>, AllocError> {
         .subcommand(check_command(alloc)?)
 }
 
-fn value_command<'a>(alloc: Global) -> Result<Command<'a>, AllocError> {
+/// What the words, of which the first is the program's name, give and ask for.
+pub fn matched<'a, S: AsStr>(alloc: Global, words: &'a [S]) -> Result<ArgMatches<'a>, Error>
+    ensures given { IfOk result (λ m. rows_of (found_of m) ≡ matches_of pit_app (map S.text words.entry.now)) }
+    ensures asked { IfOk result (λ m. subcommand_rows_of m ≡ subcommand_of pit_app (map S.text words.entry.now)) }
+    ensures whole { IfOk result (λ m. AsksAll (subcommand_rows_of m)) }
+    ensures fails { FailsBy (fault_of pit_app (map S.text words.entry.now)) result }
+{
+    let pit = command(alloc)?;
+    pit.try_get_matches_from(words)
+}
+
+fn value_command<'a>(alloc: Global) -> Result<Command<'a>, AllocError>
+    ensures { IfOk result (IsSubcommand value_shape) }
+{
     Command::new(alloc, VALUE)
         .about("Prints the discounted value of a solution")
         .after_help(VALUE_NOTES)
@@ -79,7 +103,9 @@ fn value_command<'a>(alloc: Global) -> Result<Command<'a>, AllocError> {
         .arg(file(alloc, Input::Solution))
 }
 
-fn check_command<'a>(alloc: Global) -> Result<Command<'a>, AllocError> {
+fn check_command<'a>(alloc: Global) -> Result<Command<'a>, AllocError>
+    ensures { IfOk result (IsSubcommand check_shape) }
+{
     Command::new(alloc, CHECK)
         .about("Prints the value of a solution, its first breach and its shortfalls")
         .after_help(CHECK_NOTES)
@@ -89,7 +115,10 @@ fn check_command<'a>(alloc: Global) -> Result<Command<'a>, AllocError> {
 }
 
 /// The argument for an input.
-fn file<'a>(alloc: Global, input: Input) -> Arg<'a> {
+fn file<'a>(alloc: Global, input: Input) -> Arg<'a>
+    ensures rule { rule_of result ≡ file_rule input }
+    ensures local { result.global ≡ false }
+{
     Arg::new(alloc, argument_of(input))
         .required(true)
         .help(help_of(input))

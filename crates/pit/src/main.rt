@@ -25,7 +25,7 @@ fn main(rt: HostRuntime) -> ExitCode {
 /// Reads the words of the command line, and does what they ask.
 fn answer(rt: &HostRuntime) -> Result<Status, Fault> {
     let words = command::words(rt)?;
-    let matches = command::command(rt.alloc())?.try_get_matches_from(words.as_slice())?;
+    let matches = command::matched(rt.alloc(), words.as_slice())?;
     let Some((engine, given)) = asked(&matches) else {
         let refusal = command::refusal(rt.alloc(), ErrorKind::MissingSubcommand);
         return Err(Fault::from(refusal));

@@ -1,0 +1,120 @@
+-- What a line that the command takes asks for.
+use Rattle.std.proofs.Common.{◌≡◌, ◌∷◌, ◌||◌, if◌then◌else◌, true, false, not, refl, inl, inr, List, [], Bool, Option, Some, None, is_some, option_map, codes, IfOk, Result, Ok, Err, subst, sym}
+use Rattle.std.specs.Option.{option_map_or}
+use Rattle.std.proofs.lemmas.List.Elements.{All-from_recursion}
+use Rattle.pit_cli.specs.declared.input.Input.{Input}
+use Rattle.pit_cli.specs.declared.input.Input.TheVariants.{Model, Precedence, Solution}
+use Rattle.pit.specs.Asked.{argument_of}
+use Rattle.clap.specs.Walk.{Row, Text, nothing_held, walk, walk_from, settled, finished, rows_after}
+use Rattle.clap.specs.Takes.{is_given}
+use Rattle.clap.specs.Kinds.{Kinds, or_else, check_kinds}
+use Rattle.clap.specs.Simple.{App, Shape, argument_words, built, built_leaf, entered, inherited, label_of, names_of, rows_at, subcommand_of}
+use Rattle.clap.specs.Faults.{check_fault, defaults_fault, entered_fault, fault_of, level_fault, settle_fault, walk_fault}
+use Rattle.clap.specs.Walk.{answers_to}
+use Rattle.pit.specs.Command.{AsksAll, check_shape, pit_app, value_shape}
+use Rattle.clap.specs.Simple.{HasMatchesOf, help_shape, subcommand_rows_of}
+use Rattle.clap.specs.Kinds.{FailsBy}
+use Rattle.clap.specs.Faults.{is_simple_and_free}
+use Rattle.clap.specs.declared.error.Error.{Error}
+use Rattle.clap.specs.declared.parser.matches.ArgMatches.{ArgMatches}
+
+abbrev pit : App
+pit = built pit_app
+
+abbrev value_built : Shape
+value_built = built_leaf (inherited pit_app.top value_shape)
+
+abbrev check_built : Shape
+check_built = built_leaf (inherited pit_app.top check_shape)
+
+abbrev help_built : Shape
+help_built = built_leaf help_shape
+
+-- the subs are these
+subs_are : pit.subs ≡ value_built ∷ check_built ∷ help_built ∷ []
+subs_are = refl
+
+first_empty : (a b : Kinds) → or_else a b ≡ [] → a ≡ []
+first_empty [] b h = refl
+first_empty (k ∷ ks) b h = cc
+
+then_empty : (a b : Kinds) → or_else a b ≡ [] → b ≡ []
+then_empty [] b h = h
+then_empty (k ∷ ks) b h = cc
+
+both_given : (a b : Bool) → check_kinds false false (not a || (not b || false)) ≡ [] → (a ≡ true) × (b ≡ true)
+both_given true true h = (refl, refl)
+both_given true false h = cc
+both_given false b h = cc
+
+all_given : (a b c : Bool) → check_kinds false false (not a || (not b || (not c || false))) ≡ [] → (a ≡ true) × (b ≡ true) × (c ≡ true)
+all_given true true true h = (refl, refl, refl)
+all_given true true false h = cc
+all_given true false c h = cc
+all_given false b c h = cc
+
+-- the last check of a level that fails by nothing
+last_check : (a b c d e : Kinds) → or_else a (or_else b (or_else c (or_else d e))) ≡ [] → (b ≡ []) × (e ≡ [])
+last_check a b c d e h =
+    let h1 = then_empty a (or_else b (or_else c (or_else d e))) h in
+    let h2 = then_empty b (or_else c (or_else d e)) h1 in
+    (first_empty b (or_else c (or_else d e)) h1, then_empty d e (then_empty c (or_else d e) h2))
+
+level_checked : (s : Shape) (names : _) (words : List Text) (has : Bool) (below : Kinds) → level_fault s names nothing_held words has below ≡ []
+    → (below ≡ []) × (check_fault s (rows_after s.rules names words) has ≡ [])
+level_checked s names words has below h =
+    let end = (walk s.rules names nothing_held words).held in
+    last_check (walk_fault s names (walk_from nothing_held) words) below (settle_fault s.rules s.args_override_self end)
+    (defaults_fault (settled s.rules end).rows s.rules) (check_fault s (finished s.rules end) has) h
+
+met : (rows : List Row) (has : Bool) → check_fault pit.top rows has ≡ [] → has ≡ true
+met rows true h = refl
+met rows false h = cc
+
+-- which of the three subcommands a word names, by what the tests of their names say
+abbrev pick : Bool → Bool → Bool → Option Shape
+pick v c k = if v then Some value_built else (if c then Some check_built else (if k then Some help_built else None))
+
+abbrev Gives : List Row → Input → Type 0
+Gives rows input = is_given (argument_of input) rows ≡ true
+
+no_asks : false ≡ true → ⊥
+no_asks h = cc
+
+picked : (v c k : Bool) (words : List Text) → is_some (option_map (λ s. rows_at s words) (pick v c k)) ≡ true
+    → option_map_or (λ s. level_fault s [] nothing_held words false []) (pick v c k) [] ≡ []
+    → AsksAll (option_map (λ s. rows_at s words) (pick v c k))
+picked true c k words has h =
+    let rows = rows_after value_built.rules [] words in
+    let g = both_given (is_given (codes "MODEL") rows) (is_given (codes "SOLUTION") rows) (level_checked value_built [] words false [] h).1 in
+    (rows_at value_built words, refl, inl (refl, All-from_recursion (Gives rows) (Model ∷ Solution ∷ []) (g.0, (g.1, tt))))
+picked false true k words has h =
+    let rows = rows_after check_built.rules [] words in
+    let g = all_given (is_given (codes "MODEL") rows) (is_given (codes "PREC") rows) (is_given (codes "SOLUTION") rows) (level_checked check_built [] words false [] h).1 in
+    (rows_at check_built words, refl, inr (inl (refl, All-from_recursion (Gives rows) (Model ∷ Precedence ∷ Solution ∷ []) (g.0, (g.1, (g.2, tt))))))
+picked false false true words has h = (rows_at help_built words, refl, inr (inr refl))
+picked false false false words has h = absurd (no_asks has)
+
+entered_asks : (stop : Option (Text × List Text)) → is_some (entered pit stop) ≡ true → entered_fault pit stop ≡ [] → AsksAll (entered pit stop)
+entered_asks None has h = absurd (no_asks has)
+entered_asks (Some p) has h = picked (answers_to p.0 (label_of value_built)) (answers_to p.0 (label_of check_built)) (answers_to p.0 (label_of help_built)) p.1 has h
+
+-- a line by which nothing fails asks for a subcommand, with all that it requires
+pub asks_all : (words : List Text) → fault_of pit_app words ≡ [] → AsksAll (subcommand_of pit_app words)
+asks_all words h =
+    let stop = (walk pit.top.rules (names_of pit) nothing_held (argument_words pit words)).stopped in
+    let c = level_checked pit.top (names_of pit) (argument_words pit words) (is_some (entered pit stop)) (entered_fault pit stop) h in
+    entered_asks stop (met (rows_after pit.top.rules (names_of pit) (argument_words pit words)) (is_some (entered pit stop)) c.1) c.0
+
+answer_asks : (words : List Text) (r : Result ArgMatches Error) → FailsBy (fault_of pit_app words) r
+    → IfOk r (HasMatchesOf pit_app words) → IfOk r (λ m. AsksAll (subcommand_rows_of m))
+answer_asks words (Ok m) f h = subst AsksAll (sym (h refl).1) (asks_all words f)
+answer_asks words (Err e) f h = tt
+
+-- the same, of a command that is `pit`
+pub pit_asks : (a : App) (words : List Text) (r : Result ArgMatches Error) → a ≡ pit_app
+    → (is_simple_and_free a ≡ true → FailsBy (fault_of a words) r)
+    → IfOk r (HasMatchesOf a words) → IfOk r (λ m. AsksAll (subcommand_rows_of m))
+pit_asks a words r same kinds matches =
+    answer_asks words r (subst (λ x. is_simple_and_free x ≡ true → FailsBy (fault_of x words) r) same kinds refl)
+    (subst (λ x. IfOk r (HasMatchesOf x words)) same matches)
