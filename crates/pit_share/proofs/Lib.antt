@@ -1,0 +1,9 @@
+pub mod Prefixes
+pub mod Noted
+pub mod FloorsKept
+pub mod Answering
+pub mod Looking
+pub mod Joins
+pub mod Stands
+pub mod Entries
+pub mod Firsts

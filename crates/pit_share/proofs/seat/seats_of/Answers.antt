@@ -1,0 +1,27 @@
+use Rattle.std.proofs.Common.{◌≡◌, ℕ, zero, suc, ◌+◌, ◌<◌, List, [], ◌∷◌, ◌++◌, length, subst, sym, arith}
+use Rattle.std.specs.Prelude.{slice_index}
+use Rattle.pit_share.proofs.seat.seats_of.Goals as goal
+
+-- numbers in a row, and the next one
+row-more : (xs : List ℕ) (x first : ℕ) → ((k : ℕ) → k < length xs → slice_index xs k ≡ first + k) → x ≡ first + length xs
+    → (k : ℕ) → k < length xs + 1 → slice_index (xs ++ x ∷ []) k ≡ first + k
+row-more [] x first row is zero below = omega (arith, is)
+row-more [] x first row is (suc k) below = absurd (omega (arith, below))
+row-more (y ∷ ys) x first row is zero below = row zero (omega arith)
+row-more (y ∷ ys) x first row is (suc k) below =
+    let rest = row-more ys x (first + 1) (λ j less. omega (arith, row (suc j) (omega (arith, less)))) (omega (arith, is)) k (omega (arith, below)) in
+    omega (arith, rest)
+
+pub loop-before-preserved : goal.loop-before-preserved
+loop-before-preserved g c =
+    let kept = c.loop-before.invariant in
+    let seats : List ℕ = c.loop-before.seats.items in
+    let items : c.push.new.self.items ≡ seats ++ c.in-Some.seat ∷ [] = c.in-Ok.ensures.items in
+    let many : length seats ≡ c.loop-before.before = omega (arith, kept.many) in
+    let row = row-more seats c.in-Some.seat 1 (λ j less. omega (arith, kept.each j (omega (arith, less, many)))) (omega (arith, c.in-Some.ensures.seat, many)) in
+    record {
+      parts = omega (arith, c.in-Some.ensures.parts, kept.parts);
+      none_left = c.seat_of.ensures.none_left;
+      many = omega (arith, c.in-Ok.ensures.len, kept.many);
+      each = λ k less. subst (λ (xs : List ℕ). slice_index xs k ≡ k + 1) (sym items) (omega (arith, row k (omega (arith, less, many))));
+    }

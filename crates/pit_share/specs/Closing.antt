@@ -1,0 +1,35 @@
+-- What a workspace is closed to, and when it isn't.
+use Rattle.std.specs.Prelude.{◌≡◌, ℕ, ◌+◌, ◌<◌, List, length, drop}
+use Rattle.pit_num.specs.Least.{IsLeastOf}
+use Rattle.pit_model.specs.Pit.{Pit}
+use Rattle.pit_book.specs.History.{Answered}
+use Rattle.pit_book.specs.State.{State}
+use Rattle.pit_share.specs.Planners.{PlannerState}
+use Rattle.pit_share.specs.Logs.{entries_in, HasEachLog, IsMissing, AreLogged, IsDiffering}
+use Rattle.pit_share.specs.GoingOn.{GoesOn}
+use Rattle.pit_share.specs.declared.error.CloseError.{CloseError}
+use Rattle.pit_share.specs.declared.error.CloseError.TheVariants as error
+
+-- the desk's history goes on from the opening one, by as many entries as the logs have, and of each planner by those of its log
+pub record IsClosed (pit : Pit) (opening : List Answered) (planners : ℕ) (logs : List PlannerState) (desk : State) : Type 0 where
+  pub goes_on : GoesOn pit opening desk
+  pub count : length desk.history ≡ length opening + entries_in logs
+  pub whole : HasEachLog planners logs
+  pub logged : AreLogged planners (drop (length opening) desk.history) logs
+
+-- no log is missing, and the planner is the least whose entries in such a history, past the opening one, aren't its log
+pub record IsFirstDiffering (pit : Pit) (opening : List Answered) (planners : ℕ) (logs : List PlannerState) (planner : ℕ) : Type 0 where
+  pub whole : HasEachLog planners logs
+  pub desk : State
+  pub goes_on : GoesOn pit opening desk
+  pub least : IsLeastOf ◌<◌ (IsDiffering planners (drop (length opening) desk.history) logs) planner
+
+-- the first refusal that applies to logs beside the entries past the opening history
+abbrev pub IsRefusedBeside : List Answered → ℕ → List PlannerState → CloseError → Type 0
+IsRefusedBeside past planners logs (error.Missing planner) = IsLeastOf ◌<◌ (IsMissing planners logs) planner
+IsRefusedBeside past planners logs (error.Differs planner) = HasEachLog planners logs × IsLeastOf ◌<◌ (IsDiffering planners past logs) planner
+
+-- the same, of some such history
+abbrev pub IsCloseError : Pit → List Answered → ℕ → List PlannerState → CloseError → Type 0
+IsCloseError pit opening planners logs (error.Missing planner) = IsLeastOf ◌<◌ (IsMissing planners logs) planner
+IsCloseError pit opening planners logs (error.Differs planner) = IsFirstDiffering pit opening planners logs planner

@@ -1,0 +1,10 @@
+pub mod Snapshots
+pub mod Planners
+pub mod Reads
+pub mod Endings
+pub mod Logs
+pub mod GoingOn
+pub mod Closing
+pub mod Opening
+pub mod Floors
+pub mod Accounts

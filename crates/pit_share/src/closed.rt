@@ -1,0 +1,43 @@
+//! What is left of a workspace.
+ghost use Rattle.std.specs.Prelude.{◌≡◌};
+
+use pit_book::Desk;
+use std::alloc::Allocator;
+use std::marker::Model;
+
+/// The desk of a workspace that was closed. Contracts see it as they see the desk.
+#[derive(Drop)]
+pub struct Closed<A: Allocator + Copy + Drop> {
+    desk: Desk<A>,
+}
+
+impl<A: Allocator + Copy + Drop> Model for Closed<A> {
+    ghost use Rattle.pit_book.specs.State.{State};
+
+    ghost Value = { State };
+
+    ghost view = { λ c. c.desk };
+}
+
+impl<A: Allocator + Copy + Drop> Closed<A> {
+    pub(crate) fn new(desk: Desk<A>) -> Closed<A>
+        ensures { result ≡ desk }
+    {
+        Closed { desk }
+    }
+
+    /// The desk.
+    pub fn desk(&self) -> &Desk<A>
+        ensures { result.now ≡ self.now }
+    {
+        &self.desk
+    }
+
+    /// The desk, which may be opened as another workspace.
+    pub fn into_desk(self) -> Desk<A>
+        ensures { result ≡ self }
+    {
+        let Closed { desk } = self;
+        desk
+    }
+}

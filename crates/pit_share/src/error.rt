@@ -1,0 +1,33 @@
+//! What a workspace and a transaction refuse.
+
+/// Why no workspace was opened: the first of these that applies.
+#[derive(Clone, Copy, Debug, PartialEq, Eq)]
+pub enum OpenError {
+    /// There are no planners, or more than `PLANNERS_MAX`.
+    PlannerCount,
+    /// A planner got no place at the board.
+    NoPlace,
+    NoMemory,
+}
+
+/// Why a block wasn't read. What the transaction reads, writes and revises is as it was.
+#[derive(Clone, Copy, Debug, PartialEq, Eq)]
+pub enum ReadStop {
+    /// The block is not below the number of blocks.
+    NoBlock,
+    /// The planner wasn't let in at the board. A later read may be.
+    NoEntry,
+    /// The block was written since the start, last by the commit of this number.
+    Moved { block: u32, version: u32 },
+    /// The read set could not grow.
+    NoMemory,
+}
+
+/// Why a workspace wasn't closed: the first of these that applies.
+#[derive(Clone, Copy, Debug, PartialEq, Eq)]
+pub enum CloseError {
+    /// The least planner whose log isn't there.
+    Missing { planner: u32 },
+    /// The least planner whose entries past the opening history aren't its log.
+    Differs { planner: u32 },
+}

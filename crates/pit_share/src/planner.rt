@@ -1,0 +1,81 @@
+//! Planners between two transactions.
+ghost use Rattle.std.specs.Prelude.{◌≡◌, IfOk, IfErr};
+ghost use Rattle.pit_share.specs.Planners.{SeesOn, Begins};
+
+use crate::account::Account;
+use crate::floor::Floor;
+use crate::log::PlannerLog;
+use crate::transaction::Transaction;
+use pit_board::Session;
+use pit_num::NoMemory;
+use pit_tx::Work;
+use std::alloc::Allocator;
+use std::marker::Model;
+use std::sync::{Mutex, Wait};
+
+/// A planner of a workspace, between two transactions. Contracts see its number, the items of its log, and the commits that it has seen.
+#[derive(Drop)]
+pub struct Planner<'a, S: Session, R: Wait + Drop, A: Allocator + Copy + Drop> {
+    floor: &'a Mutex<Floor<S, R, A>>,
+    account: Account<S, A>,
+}
+
+impl<'a, S: Session, R: Wait + Drop, A: Allocator + Copy + Drop> Model for Planner<'a, S, R, A> {
+    ghost use Rattle.pit_share.specs.Planners.{PlannerState};
+
+    ghost Value = { PlannerState };
+
+    ghost view = { λ p. p.account };
+}
+
+impl<'a, S: Session, R: Wait + Drop, A: Allocator + Copy + Drop> Planner<'a, S, R, A> {
+    pub(crate) fn new(
+        floor: &'a Mutex<Floor<S, R, A>>,
+        account: Account<S, A>,
+    ) -> Planner<'a, S, R, A>
+        ensures { result ≡ account }
+    {
+        Planner { floor, account }
+    }
+
+    /// Its number, counted from 1.
+    pub fn number(&self) -> u32
+        ensures { result ≡ self.now.number }
+    {
+        self.account.number()
+    }
+
+    /// Begins a transaction for a job, after all commits that the planner sees. Looks at the board for them; where it isn't let in, these are
+    /// those that it had seen. Waits for nobody. On want of memory the planner is handed back.
+    pub fn begin(
+        self,
+        job: u32,
+    ) -> Result<Transaction<'a, S, R, A>, (Planner<'a, S, R, A>, NoMemory)>
+        ensures begun { IfOk result (Begins S.instance self.entry job) }
+        ensures err { IfErr result (λ refused. SeesOn self.entry refused.0) }
+    {
+        let Planner { floor, mut account } = self;
+        let start = account.begin();
+        let sizes = account.sizes();
+        match Work::new(
+            account.allocator(),
+            account.number(),
+            job,
+            start,
+            sizes.blocks,
+            sizes.periods,
+            sizes.resources,
+        ) {
+            Ok(work) => Ok(Transaction::new(floor, account, work)),
+            Err(error) => Err((Planner { floor, account }, error)),
+        }
+    }
+
+    /// Gives its place at the board back, and hands in its log. Takes no memory.
+    pub fn finish(self) -> PlannerLog<S, A>
+        ensures { result ≡ self.entry }
+    {
+        let Planner { floor: _, account } = self;
+        account.into_log()
+    }
+}

@@ -1,0 +1,100 @@
+//! Seats of a workspace.
+ghost use Rattle.std.specs.Prelude.{◌≡◌, ◌≢◌, ◌+◌, ◌<◌, ◌≤◌, [], IfOk, OnOk, IfErr, IfSome};
+ghost use Rattle.pit_book.specs.History.{commits_of};
+ghost use Rattle.pit_share.specs.Accounts.{AreSizes};
+ghost use Rattle.pit_share.specs.Opening.{AreSeats};
+ghost use Rattle.pit_share.specs.Planners.{planner_of};
+
+use crate::account::{Account, Sizes};
+use crate::error::OpenError;
+use crate::planner::Planner;
+use crate::workspace::Workspace;
+use pit_board::{Hall, Session};
+use std::alloc::Allocator;
+use std::marker::Model;
+use std::sync::Wait;
+use std::sync::ledger::Share;
+
+/// The right to be one planner of a workspace. Contracts see the planner's number.
+#[derive(Drop)]
+pub struct Seat<S: Session, A: Allocator + Copy + Drop> {
+    account: Account<S, A>,
+}
+
+impl<S: Session, A: Allocator + Copy + Drop> Model for Seat<S, A> {
+    ghost use Rattle.std.specs.Prelude.{◌≡◌, ℕ, []};
+    ghost use Rattle.pit_book.specs.History.{commits_of};
+    ghost use Rattle.pit_share.specs.Planners.{planner_of};
+
+    ghost Value = { ℕ };
+
+    ghost view = { λ s. s.account.number };
+
+    ghost invariant = { λ s. s.account ≡ planner_of s.account.number [] (commits_of S.opening) };
+}
+
+impl<S: Session, A: Allocator + Copy + Drop> Seat<S, A> {
+    /// Takes the seat: the planner has an empty log, and has seen the commits of the opening history. Takes no memory.
+    pub fn sit<'a, R: Wait + Drop>(self, workspace: &'a Workspace<S, R, A>) -> Planner<'a, S, R, A>
+        ensures { result ≡ planner_of self [] (commits_of S.opening) }
+    {
+        let Seat { account } = self;
+        Planner::new(workspace.floor(), account)
+    }
+
+    fn new(account: Account<S, A>) -> Seat<S, A>
+        requires { account ≡ planner_of account.number [] (commits_of S.opening) }
+        ensures { result ≡ account.number }
+    {
+        Seat { account }
+    }
+}
+
+/// The seats of so many planners, each with a place at the board and a part of the count.
+pub(crate) fn seats_of<S: Session, R: Wait + Drop, A: Allocator + Copy + Drop>(
+    alloc: A,
+    hall: &Hall<S, R, A>,
+    rest: &mut Share<S>,
+    sizes: Sizes,
+    planners: u32,
+) -> Result<Vec<Seat<S, A>, A>, OpenError>
+    requires hall { hall.now ≡ commits_of S.opening }
+    requires few { planners ≤ rest.old.parts }
+    requires none_left { rest.old.amount ≡ 0 }
+    requires sizes { AreSizes S.instance sizes }
+    ensures seats { IfOk result (λ seats. AreSeats planners seats.items) }
+    ensures parts { OnOk result (rest.new.parts + planners ≡ rest.old.parts) }
+    ensures none_left { rest.new.amount ≡ 0 }
+    ensures count { IfErr result (λ error. error ≢ OpenError.PlannerCount) }
+{
+    let mut seats: Vec<Seat<S, A>, A> = Vec::new(alloc);
+    for before in 0..planners {
+        let Some(seat) = seat_of(alloc, hall, rest, sizes, before + 1) else {
+            return Err(OpenError::NoPlace);
+        };
+        let Ok(()) = seats.push(seat) else {
+            return Err(OpenError::NoMemory);
+        };
+    }
+    Ok(seats)
+}
+
+/// One seat, if a place at the board is left.
+fn seat_of<S: Session, R: Wait + Drop, A: Allocator + Copy + Drop>(
+    alloc: A,
+    hall: &Hall<S, R, A>,
+    rest: &mut Share<S>,
+    sizes: Sizes,
+    number: u32,
+) -> Option<Seat<S, A>>
+    requires hall { hall.now ≡ commits_of S.opening }
+    requires part { 0 < rest.old.parts }
+    requires none_left { rest.old.amount ≡ 0 }
+    requires sizes { AreSizes S.instance sizes }
+    ensures seat { IfSome result (λ seat. seat ≡ number) }
+    ensures parts { IfSome result (λ seat. rest.new.parts + 1 ≡ rest.old.parts) }
+    ensures none_left { rest.new.amount ≡ 0 }
+{
+    let view = hall.view(rest)?;
+    Some(Seat::new(Account::new(alloc, number, view, sizes)))
+}

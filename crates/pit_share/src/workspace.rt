@@ -1,0 +1,118 @@
+//! Workspaces.
+ghost use Rattle.std.specs.Prelude.{◌≡◌, ◌≤◌, ◌↔◌, IsTrue, IfOk, IfErr};
+ghost use Rattle.pit_book.specs.History.{commits_of};
+ghost use Rattle.pit_share.specs.Closing.{IsClosed, IsCloseError};
+ghost use Rattle.pit_share.specs.Opening.{IsPlannerCount, AreSeats, IsOpenError};
+ghost use Rattle.pit_share.specs.declared.blank.TheConstants.{PLANNERS_MAX};
+
+use crate::account::sizes_of;
+use crate::blank::{Blank, PLANNERS_MAX};
+use crate::closed::Closed;
+use crate::error::{CloseError, OpenError};
+use crate::floor::Floor;
+use crate::held::Held;
+use crate::log::PlannerLog;
+use crate::seat::{Seat, seats_of};
+use pit_board::{EmptyList, Hall, Session};
+use pit_book::Desk;
+use pit_num::NoMemory;
+use std::alloc::Allocator;
+use std::sync::{Mutex, Wait};
+
+/// A desk behind its lock, and what is published of it. Whenever the lock is free, the history of the desk goes on from the opening one, it is
+/// one of one thread, and its commits are those that are published.
+#[derive(Drop)]
+pub struct Workspace<S: Session, R: Wait + Drop, A: Allocator + Copy + Drop> {
+    floor: Mutex<Floor<S, R, A>>,
+}
+
+impl<S: Session, R: Wait + Drop, A: Allocator + Copy + Drop> Workspace<S, R, A> {
+    /// Opens a workspace on a desk, with a seat for each of so many planners, 1 to `PLANNERS_MAX`. The session names the desk's pit and history,
+    /// the number of planners, and what is blank. The handle is kept, since who ends the board waits for its readers. On a refusal the desk is
+    /// handed back, and the rest is freed.
+    pub fn open(
+        rt: R,
+        alloc: A,
+        desk: Desk<A>,
+        planners: u32,
+        blank: Blank,
+    ) -> Result<(Workspace<S, R, A>, Vec<Seat<S, A>, A>), (Desk<A>, OpenError)>
+        requires pit { desk.plan.pit ≡ S.instance }
+        requires history { desk.history ≡ S.opening }
+        requires planners { planners ≡ S.planners }
+        requires ledger { blank.ledger ≡ S.name }
+        requires parts { S.parts ≡ PLANNERS_MAX }
+        requires book { blank.book ≡ S.book }
+        ensures count { IfOk result (λ opened. IsPlannerCount planners) }
+        ensures seats { IfOk result (λ opened. AreSeats planners opened.1.items) }
+        ensures desk { IfErr result (λ refused. refused.0 ≡ desk) }
+        ensures err { IfErr result (λ refused. IsOpenError planners refused.1) }
+    {
+        if !is_planner_count(planners) {
+            return Err((desk, OpenError::PlannerCount));
+        }
+        let (shares, list) = blank.into_parts();
+        let (total, mut rest) = shares.open::<S>();
+        let hall = match hall_of(rt, alloc, list, &desk, planners) {
+            Ok(hall) => hall,
+            Err(_) => return Err((desk, OpenError::NoMemory)),
+        };
+        let sizes = sizes_of(&desk);
+        let seats = match seats_of(alloc, &hall.value, &mut rest, sizes, planners) {
+            Ok(seats) => seats,
+            Err(error) => return Err((desk, error)),
+        };
+        let floor = Mutex::new(Floor::new(desk, hall, total, rest, planners));
+        Ok((Workspace { floor }, seats))
+    }
+
+    /// Closes the workspace by the logs of its planners, in any order. First each log has to be there, then each has to be what the history has
+    /// of its planner; then the shares of the count are joined, which shows that no entry is left over. On a refusal the workspace and the logs
+    /// are handed back whole. Takes no memory. Waits for readers, of which none is left where no planner's thread was cut off.
+    pub fn close(
+        self,
+        logs: Vec<PlannerLog<S, A>, A>,
+    ) -> Result<Closed<A>, (Workspace<S, R, A>, Vec<PlannerLog<S, A>, A>, CloseError)>
+        ensures ok { IfOk result (IsClosed S.instance S.opening S.planners logs.items) }
+        ensures logs { IfErr result (λ refused. refused.1 ≡ logs) }
+        ensures err { IfErr result (λ refused. IsCloseError S.instance S.opening S.planners logs.items refused.2) }
+    {
+        let Workspace { floor } = self;
+        let floor = floor.into_inner();
+        if let Some(error) = floor.close_error(logs.as_slice()) {
+            let floor = Mutex::new(floor);
+            return Err((Workspace { floor }, logs, error));
+        }
+        Ok(Closed::new(floor.into_desk(logs)))
+    }
+
+    pub(crate) fn floor(&self) -> &Mutex<Floor<S, R, A>> {
+        &self.floor
+    }
+}
+
+/// Whether there may be so many planners.
+fn is_planner_count(planners: u32) -> bool
+    ensures { IsTrue result ↔ IsPlannerCount planners }
+{
+    planners >= 1 && planners <= PLANNERS_MAX
+}
+
+/// The hall of a session, in which each planner has a place.
+fn hall_of<S: Session, R: Wait + Drop, A: Allocator + Copy + Drop>(
+    rt: R,
+    alloc: A,
+    list: EmptyList,
+    desk: &Desk<A>,
+    planners: u32,
+) -> Result<Held<Hall<S, R, A>>, NoMemory>
+    requires pit { desk.now.plan.pit ≡ S.instance }
+    requires history { desk.now.history ≡ S.opening }
+    requires list { list ≡ S.book }
+    requires some { 1 ≤ planners }
+    ensures { IfOk result (λ hall. hall.value ≡ commits_of S.opening) }
+{
+    Ok(Held {
+        value: Hall::open(rt, alloc, list, desk, planners)?,
+    })
+}
