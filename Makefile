@@ -1,7 +1,7 @@
 # make demo           proves and builds ./pit where a source is newer than it, and runs it on the small example
 # make pit            builds alone
 # make check CRATE=C  proves the crate C, over what earlier checks kept: seconds after an edit
-# make test           the whole gate: every proof, test, must-fail edit and stored run, from nothing; then the shell tests of the program
+# make test           the whole gate: every proof, test, must-fail edit and stored run, from nothing; then the shell tests
 # make audit          what the gate leaves out, on a copy of the tree: further edits, planted bodies, further tests. Takes hours
 # make clean          removes what was built
 .PHONY: demo check test audit clean
@@ -28,6 +28,7 @@ test:
 	rt ci
 	tests/cli.sh $(PROVED)
 	tests/no_memory.sh $(PROVED) $(EXAMPLE)
+	tests/misuse.sh
 
 audit:
 	audit/run.sh
