@@ -1,0 +1,57 @@
+-- The jobs that a script stands for.
+use Rattle.std.specs.Prelude.{◌≡◌, ◌⊎◌, IsOk, ℕ, List, [], ◌∷◌, ◌++◌, length, Result, Err, Option, Some, None, is_some, unwrap_or, slice_index_or, if◌then◌else◌}
+use Rattle.std.specs.List.{fold}
+use Rattle.pit_model.specs.Pit.{Pit}
+use Rattle.pit_script.specs.Lines.{line_fact}
+use Rattle.pit_script.specs.declared.error.ScriptCause.{ScriptCause}
+use Rattle.pit_script.specs.declared.error.ScriptCause.TheVariants.{Unended, NoMemory}
+use Rattle.pit_script.specs.declared.fact.ScriptFact.{ScriptFact}
+use Rattle.pit_script.specs.declared.fact.ScriptFact.TheVariants.{Begin, Does, Ends}
+use Rattle.pit_script.specs.declared.step.JobEnd.{JobEnd}
+use Rattle.pit_script.specs.declared.step.JobEnd.TheVariants.{Commit}
+use Rattle.pit_script.specs.declared.step.Step.{Step}
+
+pub record Job : Type 0 where
+  pub steps : List Step
+  pub end : JobEnd
+
+abbrev pub empty_job : Job
+empty_job = record { steps = []; end = Commit }
+
+abbrev pub job_at : List Job → ℕ → Job
+job_at jobs i = slice_index_or jobs i empty_job
+
+-- the jobs that have ended, and the steps of the one that is open, if one is
+pub record Progress : Type 0 where
+  pub jobs : List Job
+  pub current : Option (List Step)
+
+abbrev pub no_job : Progress
+no_job = record { jobs = []; current = None }
+
+-- what a line adds
+abbrev pub with_fact : Progress → ScriptFact → Progress
+with_fact at Begin = record { jobs = at.jobs; current = Some [] }
+with_fact at (Does step) = record { jobs = at.jobs; current = Some (unwrap_or at.current [] ++ step ∷ []) }
+with_fact at (Ends end) = record { jobs = at.jobs ++ record { steps = unwrap_or at.current []; end = end } ∷ []; current = None }
+
+unfoldable pub progress_of : List ScriptFact → Progress
+progress_of facts = fold with_fact no_job facts
+
+abbrev pub jobs_of : List ScriptFact → List Job
+jobs_of facts = (progress_of facts).jobs
+
+-- a line of a script, by what the lines before it left
+abbrev pub fact_in : Pit → Progress → List (List ℕ) → Result ScriptFact ScriptCause
+fact_in pit at fields = line_fact pit (is_some at.current) (length at.jobs) fields
+
+abbrev pub script_line : Pit → List ScriptFact → List (List ℕ) → Result ScriptFact ScriptCause
+script_line pit earlier fields = fact_in pit (progress_of earlier) fields
+
+-- the text may end where no job is open
+abbrev pub script_end : List ScriptFact → Option ScriptCause
+script_end facts = if is_some (progress_of facts).current then Some Unended else None
+
+-- what is answered of a line that is judged so, where its fact isn't added: want of memory, if it states one, or else what is wrong with it
+abbrev pub IsAnsweredFor : Result ScriptFact ScriptCause → ScriptCause → Type 0
+IsAnsweredFor judged cause = ((cause ≡ NoMemory) × IsOk judged) ⊎ (judged ≡ Err cause)

@@ -1,0 +1,124 @@
+-- What one line of a script says.
+use Rattle.std.specs.Prelude.{◌≡◌, ℕ, ℤ, ◌<◌, Bool, true, false, nat_le, if◌then◌else◌, List, [], ◌∷◌, Result, Ok, Err}
+use Rattle.pit_num.specs.Decimal.{whole_of, micro_of}
+use Rattle.pit_model.specs.Pit.{Pit}
+use Rattle.pit_text.specs.Bounds.{upper_bound_of}
+use Rattle.pit_text.specs.Stands.{◌>>=◌}
+use Rattle.pit_script.specs.Benches.{has_bench}
+use Rattle.pit_script.specs.Numbers.{read_as, shift_of}
+use Rattle.pit_script.specs.Words.{word_in}
+use Rattle.pit_script.specs.declared.error.ScriptCause.{ScriptCause}
+use Rattle.pit_script.specs.declared.error.ScriptCause.TheVariants.{UnknownWord, FieldCount, BlockRange, ResourceRange, PeriodRange, Order, NoBench, JobCount}
+use Rattle.pit_script.specs.declared.fact.ScriptFact.{ScriptFact}
+use Rattle.pit_script.specs.declared.fact.ScriptFact.TheVariants as says
+use Rattle.pit_script.specs.declared.step.JobEnd.{JobEnd}
+use Rattle.pit_script.specs.declared.step.JobEnd.TheVariants as ending
+use Rattle.pit_script.specs.declared.step.Step.{Step}
+use Rattle.pit_script.specs.declared.step.Step.TheVariants as step
+use Rattle.pit_script.specs.declared.step.TheConstants.{JOBS_MAX}
+use Rattle.pit_script.specs.declared.word.Word.{Word}
+use Rattle.pit_script.specs.declared.word.Word.TheVariants as word
+
+-- ---- the number of fields behind the word, which is exact
+
+abbrev pub no_field : Result ScriptFact ScriptCause → List (List ℕ) → Result ScriptFact ScriptCause
+no_field says [] = says
+no_field says (a ∷ more) = Err FieldCount
+
+abbrev pub one_field : (List ℕ → Result ScriptFact ScriptCause) → List (List ℕ) → Result ScriptFact ScriptCause
+one_field says [] = Err FieldCount
+one_field says (a ∷ []) = says a
+one_field says (a ∷ b ∷ more) = Err FieldCount
+
+abbrev pub two_fields : (List ℕ → List ℕ → Result ScriptFact ScriptCause) → List (List ℕ) → Result ScriptFact ScriptCause
+two_fields says [] = Err FieldCount
+two_fields says (a ∷ []) = Err FieldCount
+two_fields says (a ∷ b ∷ []) = says a b
+two_fields says (a ∷ b ∷ c ∷ more) = Err FieldCount
+
+abbrev pub three_fields : (List ℕ → List ℕ → List ℕ → Result ScriptFact ScriptCause) → List (List ℕ) → Result ScriptFact ScriptCause
+three_fields says [] = Err FieldCount
+three_fields says (a ∷ []) = Err FieldCount
+three_fields says (a ∷ b ∷ []) = Err FieldCount
+three_fields says (a ∷ b ∷ c ∷ []) = says a b c
+three_fields says (a ∷ b ∷ c ∷ d ∷ more) = Err FieldCount
+
+-- ---- where a line may stand, and ranges
+
+abbrev pub in_job : Bool → Result ScriptFact ScriptCause → Result ScriptFact ScriptCause
+in_job is_open says = if is_open then says else Err Order
+
+abbrev pub block_below : ℕ → ℕ → Result ℕ ScriptCause
+block_below blocks block = if nat_le blocks block then Err BlockRange else Ok block
+
+abbrev pub resource_below : ℕ → ℕ → Result ℕ ScriptCause
+resource_below resources resource = if nat_le resources resource then Err ResourceRange else Ok resource
+
+abbrev pub period_below : ℕ → ℕ → Result ℕ ScriptCause
+period_below periods period = if nat_le periods period then Err PeriodRange else Ok period
+
+abbrev pub does : Step → Result ScriptFact ScriptCause
+does done = Ok (says.Does done)
+
+-- ---- the lines, each by its fields behind the word, and by whether a job is open
+
+unfoldable pub begin_line : Bool → ℕ → List (List ℕ) → Result ScriptFact ScriptCause
+begin_line is_open jobs fields =
+    no_field (if is_open then Err Order else if nat_le JOBS_MAX jobs then Err JobCount else Ok says.Begin) fields
+
+unfoldable pub end_line_of : JobEnd → Bool → List (List ℕ) → Result ScriptFact ScriptCause
+end_line_of end is_open fields = no_field (in_job is_open (Ok (says.Ends end))) fields
+
+unfoldable pub read_line : ℕ → Bool → List (List ℕ) → Result ScriptFact ScriptCause
+read_line blocks is_open fields = one_field (λ b. in_job is_open (
+    read_as whole_of b >>= (λ block. block_below blocks block >>= (λ block. does (step.Read block))))) fields
+
+unfoldable pub clear_line : ℕ → Bool → List (List ℕ) → Result ScriptFact ScriptCause
+clear_line blocks is_open fields = one_field (λ b. in_job is_open (
+    read_as whole_of b >>= (λ block. block_below blocks block >>= (λ block. does (step.Clear block))))) fields
+
+unfoldable pub put_line : ℕ → ℕ → Bool → List (List ℕ) → Result ScriptFact ScriptCause
+put_line blocks periods is_open fields = two_fields (λ b t. in_job is_open (
+    read_as whole_of b >>= (λ block. read_as whole_of t >>= (λ period.
+    block_below blocks block >>= (λ block. period_below periods period >>= (λ period. does (step.Put block period))))))) fields
+
+unfoldable pub shift_line : ℕ → Bool → List (List ℕ) → Result ScriptFact ScriptCause
+shift_line blocks is_open fields = two_fields (λ b d. in_job is_open (
+    read_as whole_of b >>= (λ block. read_as shift_of d >>= (λ shift.
+    block_below blocks block >>= (λ block. does (step.Shift block shift.0 shift.1)))))) fields
+
+abbrev pub bench_in : Pit → ℤ → ℕ → Result ScriptFact ScriptCause
+bench_in pit height period = if has_bench pit height then does (step.Bench height period) else Err NoBench
+
+unfoldable pub bench_line : Pit → Bool → List (List ℕ) → Result ScriptFact ScriptCause
+bench_line pit is_open fields = two_fields (λ z t. in_job is_open (
+    read_as micro_of z >>= (λ height. read_as whole_of t >>= (λ period.
+    period_below pit.periods period >>= (λ period. bench_in pit height period))))) fields
+
+unfoldable pub revise_line : ℕ → ℕ → Bool → List (List ℕ) → Result ScriptFact ScriptCause
+revise_line resources periods is_open fields = three_fields (λ r t v. in_job is_open (
+    read_as whole_of r >>= (λ resource. read_as whole_of t >>= (λ period. read_as upper_bound_of v >>= (λ upper.
+    resource_below resources resource >>= (λ resource. period_below periods period >>= (λ period. does (step.Revise resource period upper)))))))) fields
+
+-- a line that begins with this word
+abbrev pub line_of_word : Pit → Bool → ℕ → Word → List (List ℕ) → Result ScriptFact ScriptCause
+line_of_word pit is_open jobs word.Begin fields = begin_line is_open jobs fields
+line_of_word pit is_open jobs word.Read fields = read_line pit.blocks is_open fields
+line_of_word pit is_open jobs word.Put fields = put_line pit.blocks pit.periods is_open fields
+line_of_word pit is_open jobs word.Clear fields = clear_line pit.blocks is_open fields
+line_of_word pit is_open jobs word.Shift fields = shift_line pit.blocks is_open fields
+line_of_word pit is_open jobs word.Bench fields = bench_line pit is_open fields
+line_of_word pit is_open jobs word.Revise fields = revise_line pit.resources pit.periods is_open fields
+line_of_word pit is_open jobs word.Commit fields = end_line_of ending.Commit is_open fields
+line_of_word pit is_open jobs word.Abort fields = end_line_of ending.Abort is_open fields
+
+-- what a line says, where so many jobs have ended, and one is open or none
+unfoldable pub line_fact : Pit → Bool → ℕ → List (List ℕ) → Result ScriptFact ScriptCause
+line_fact pit is_open jobs [] = Err UnknownWord
+line_fact pit is_open jobs (first ∷ fields) = word_in first >>= (λ word. line_of_word pit is_open jobs word fields)
+
+-- where a line may stand: a job begins outside of one, where there is room for it, and all else stands inside of one
+abbrev pub MayStand : Bool → ℕ → ScriptFact → Type 0
+MayStand is_open jobs says.Begin = (is_open ≡ false) × (jobs < JOBS_MAX)
+MayStand is_open jobs (says.Does done) = is_open ≡ true
+MayStand is_open jobs (says.Ends end) = is_open ≡ true

@@ -1,0 +1,23 @@
+//! Scripts: the texts that say what one planner does, job after job.
+//!
+//! A script is cut into lines and fields as every text is. It stands for its jobs, each a list of steps and how the job ends, or has its
+//! first fault; the parser answers exactly that, or want of memory, where the lines so far have no fault.
+#![tactic(auto)]
+
+mod benches;
+mod draft;
+mod error;
+mod fact;
+pub mod laws;
+mod line;
+mod number;
+mod script;
+mod step;
+mod word;
+
+pub use benches::Benches;
+pub use error::{ScriptCause, ScriptError};
+pub use fact::ScriptFact;
+pub use script::Script;
+pub use step::{JOBS_MAX, JobEnd, SHIFT_MAX, Step};
+pub use word::Word;

@@ -1,0 +1,282 @@
+ghost use Rattle.std.specs.Prelude.{◌≡◌, ◌<◌, ℕ, true, IfOk};
+ghost use Rattle.pit_model.specs.Pit.{Pit};
+ghost use Rattle.pit_text.specs.Left.{fields_left};
+ghost use Rattle.pit_script.specs.Benches.{AreBenchesOf};
+ghost use Rattle.pit_script.specs.Ranges.{IsFactIn};
+ghost use Rattle.pit_script.specs.Lines.{MayStand, line_fact, line_of_word, bench_line, bench_in, revise_line, begin_line, end_line_of, read_line, clear_line, put_line, shift_line, block_below, resource_below, period_below};
+
+use super::benches::Benches;
+use super::error::ScriptCause;
+use super::fact::ScriptFact;
+use super::number::{decimal, shift, upper, whole};
+use super::step::{JOBS_MAX, JobEnd, Step};
+use super::word::{Word, word_in};
+use pit_model::Instance;
+use pit_text::Fields;
+use std::alloc::Allocator;
+
+/// What a line says, where so many jobs have ended, and one is open or none.
+#[tactic(auto, unfolding(crate::specs::Lines::line_fact))]
+pub(crate) fn line_fact<A: Allocator + Copy + Drop, B: Allocator + Copy + Drop>(
+    mut fields: Fields<'_>,
+    is_open: bool,
+    jobs: u32,
+    pit: &Instance<A>,
+    benches: &Benches<B>,
+) -> Result<ScriptFact, ScriptCause>
+    requires { AreBenchesOf pit.now benches.now }
+    ensures value { result ≡ line_fact pit.now is_open jobs (fields_left fields.entry) }
+    ensures stands { IfOk result (MayStand is_open jobs) }
+    ensures in_range { IfOk result (IsFactIn pit.now) }
+{
+    let Some(first) = fields.next() else {
+        return Err(ScriptCause::UnknownWord);
+    };
+    let word = word_in(first)?;
+    line_of_word(word, fields, is_open, jobs, pit, benches)
+}
+
+/// What a line says that begins with a word, by its fields behind it.
+fn line_of_word<A: Allocator + Copy + Drop, B: Allocator + Copy + Drop>(
+    word: Word,
+    fields: Fields<'_>,
+    is_open: bool,
+    jobs: u32,
+    pit: &Instance<A>,
+    benches: &Benches<B>,
+) -> Result<ScriptFact, ScriptCause>
+    requires { AreBenchesOf pit.now benches.now }
+    ensures value { result ≡ line_of_word pit.now is_open jobs word (fields_left fields.entry) }
+    ensures stands { IfOk result (MayStand is_open jobs) }
+    ensures in_range { IfOk result (IsFactIn pit.now) }
+{
+    match word {
+        Word::Begin => begin_line(fields, is_open, jobs),
+        Word::Read => read_line(fields, is_open, pit.blocks()),
+        Word::Put => put_line(fields, is_open, pit.blocks(), pit.periods()),
+        Word::Clear => clear_line(fields, is_open, pit.blocks()),
+        Word::Shift => shift_line(fields, is_open, pit.blocks()),
+        Word::Bench => bench_line(fields, is_open, pit, benches),
+        Word::Revise => revise_line(fields, is_open, pit.resources(), pit.periods()),
+        Word::Commit => end_line_of(fields, is_open, JobEnd::Commit),
+        Word::Abort => end_line_of(fields, is_open, JobEnd::Abort),
+    }
+}
+
+#[tactic(auto, unfolding(crate::specs::Lines::bench_line))]
+fn bench_line<A: Allocator + Copy + Drop, B: Allocator + Copy + Drop>(
+    mut fields: Fields<'_>,
+    is_open: bool,
+    pit: &Instance<A>,
+    benches: &Benches<B>,
+) -> Result<ScriptFact, ScriptCause>
+    requires { AreBenchesOf pit.now benches.now }
+    ensures value { result ≡ bench_line pit.now is_open (fields_left fields.entry) }
+    ensures stands { (jobs : ℕ) → IfOk result (MayStand is_open jobs) }
+    ensures in_range { IfOk result (IsFactIn pit.now) }
+{
+    let (Some(z), Some(t), None) = (fields.next(), fields.next(), fields.next()) else {
+        return Err(ScriptCause::FieldCount);
+    };
+    if !is_open {
+        return Err(ScriptCause::Order);
+    }
+    let height = decimal(z)?;
+    let period = whole(t)?;
+    let period = period_below(pit.periods(), period)?;
+    bench_in(pit, benches, height, period)
+}
+
+/// A bench of the pit, where it has that one.
+fn bench_in<A: Allocator + Copy + Drop, B: Allocator + Copy + Drop>(
+    pit: &Instance<A>,
+    benches: &Benches<B>,
+    height: i64,
+    period: u32,
+) -> Result<ScriptFact, ScriptCause>
+    requires benches { AreBenchesOf pit.now benches.now }
+    requires in_time { period < pit.now.periods }
+    ensures value { result ≡ bench_in pit.now height period }
+    ensures stands { (jobs : ℕ) → IfOk result (MayStand true jobs) }
+    ensures in_range { IfOk result (IsFactIn pit.now) }
+{
+    if !benches.has(height) {
+        return Err(ScriptCause::NoBench);
+    }
+    Ok(ScriptFact::Does(Step::Bench { height, period }))
+}
+
+#[tactic(auto, unfolding(crate::specs::Lines::revise_line))]
+fn revise_line(
+    mut fields: Fields<'_>,
+    is_open: bool,
+    resources: u32,
+    periods: u32,
+) -> Result<ScriptFact, ScriptCause>
+    ensures value { result ≡ revise_line resources periods is_open (fields_left fields.entry) }
+    ensures stands { (jobs : ℕ) → IfOk result (MayStand is_open jobs) }
+    ensures in_range { (pit : Pit) → pit.resources ≡ resources → pit.periods ≡ periods → IfOk result (IsFactIn pit) }
+{
+    let (Some(r), Some(t), Some(v), None) = (
+        fields.next(),
+        fields.next(),
+        fields.next(),
+        fields.next(),
+    ) else {
+        return Err(ScriptCause::FieldCount);
+    };
+    if !is_open {
+        return Err(ScriptCause::Order);
+    }
+    let resource = whole(r)?;
+    let period = whole(t)?;
+    let upper = upper(v)?;
+    let resource = resource_below(resources, resource)?;
+    let period = period_below(periods, period)?;
+    Ok(ScriptFact::Does(Step::Revise {
+        resource,
+        period,
+        upper,
+    }))
+}
+
+#[tactic(auto, unfolding(crate::specs::Lines::begin_line))]
+fn begin_line(mut fields: Fields<'_>, is_open: bool, jobs: u32) -> Result<ScriptFact, ScriptCause>
+    ensures value { result ≡ begin_line is_open jobs (fields_left fields.entry) }
+    ensures stands { IfOk result (MayStand is_open jobs) }
+    ensures in_range { (pit : Pit) → IfOk result (IsFactIn pit) }
+{
+    let None = fields.next() else {
+        return Err(ScriptCause::FieldCount);
+    };
+    if is_open {
+        return Err(ScriptCause::Order);
+    }
+    if jobs >= JOBS_MAX {
+        return Err(ScriptCause::JobCount);
+    }
+    Ok(ScriptFact::Begin)
+}
+
+#[tactic(auto, unfolding(crate::specs::Lines::end_line_of))]
+fn end_line_of(
+    mut fields: Fields<'_>,
+    is_open: bool,
+    end: JobEnd,
+) -> Result<ScriptFact, ScriptCause>
+    ensures value { result ≡ end_line_of end is_open (fields_left fields.entry) }
+    ensures stands { (jobs : ℕ) → IfOk result (MayStand is_open jobs) }
+    ensures in_range { (pit : Pit) → IfOk result (IsFactIn pit) }
+{
+    let None = fields.next() else {
+        return Err(ScriptCause::FieldCount);
+    };
+    if !is_open {
+        return Err(ScriptCause::Order);
+    }
+    Ok(ScriptFact::Ends(end))
+}
+
+#[tactic(auto, unfolding(crate::specs::Lines::read_line))]
+fn read_line(mut fields: Fields<'_>, is_open: bool, blocks: u32) -> Result<ScriptFact, ScriptCause>
+    ensures value { result ≡ read_line blocks is_open (fields_left fields.entry) }
+    ensures stands { (jobs : ℕ) → IfOk result (MayStand is_open jobs) }
+    ensures in_range { (pit : Pit) → pit.blocks ≡ blocks → IfOk result (IsFactIn pit) }
+{
+    let (Some(b), None) = (fields.next(), fields.next()) else {
+        return Err(ScriptCause::FieldCount);
+    };
+    if !is_open {
+        return Err(ScriptCause::Order);
+    }
+    let block = block_below(blocks, whole(b)?)?;
+    Ok(ScriptFact::Does(Step::Read { block }))
+}
+
+#[tactic(auto, unfolding(crate::specs::Lines::clear_line))]
+fn clear_line(mut fields: Fields<'_>, is_open: bool, blocks: u32) -> Result<ScriptFact, ScriptCause>
+    ensures value { result ≡ clear_line blocks is_open (fields_left fields.entry) }
+    ensures stands { (jobs : ℕ) → IfOk result (MayStand is_open jobs) }
+    ensures in_range { (pit : Pit) → pit.blocks ≡ blocks → IfOk result (IsFactIn pit) }
+{
+    let (Some(b), None) = (fields.next(), fields.next()) else {
+        return Err(ScriptCause::FieldCount);
+    };
+    if !is_open {
+        return Err(ScriptCause::Order);
+    }
+    let block = block_below(blocks, whole(b)?)?;
+    Ok(ScriptFact::Does(Step::Clear { block }))
+}
+
+#[tactic(auto, unfolding(crate::specs::Lines::put_line))]
+fn put_line(
+    mut fields: Fields<'_>,
+    is_open: bool,
+    blocks: u32,
+    periods: u32,
+) -> Result<ScriptFact, ScriptCause>
+    ensures value { result ≡ put_line blocks periods is_open (fields_left fields.entry) }
+    ensures stands { (jobs : ℕ) → IfOk result (MayStand is_open jobs) }
+    ensures in_range { (pit : Pit) → pit.blocks ≡ blocks → pit.periods ≡ periods → IfOk result (IsFactIn pit) }
+{
+    let (Some(b), Some(t), None) = (fields.next(), fields.next(), fields.next()) else {
+        return Err(ScriptCause::FieldCount);
+    };
+    if !is_open {
+        return Err(ScriptCause::Order);
+    }
+    let block = whole(b)?;
+    let period = whole(t)?;
+    let block = block_below(blocks, block)?;
+    let period = period_below(periods, period)?;
+    Ok(ScriptFact::Does(Step::Put { block, period }))
+}
+
+#[tactic(auto, unfolding(crate::specs::Lines::shift_line))]
+fn shift_line(mut fields: Fields<'_>, is_open: bool, blocks: u32) -> Result<ScriptFact, ScriptCause>
+    ensures value { result ≡ shift_line blocks is_open (fields_left fields.entry) }
+    ensures stands { (jobs : ℕ) → IfOk result (MayStand is_open jobs) }
+    ensures in_range { (pit : Pit) → pit.blocks ≡ blocks → IfOk result (IsFactIn pit) }
+{
+    let (Some(b), Some(d), None) = (fields.next(), fields.next(), fields.next()) else {
+        return Err(ScriptCause::FieldCount);
+    };
+    if !is_open {
+        return Err(ScriptCause::Order);
+    }
+    let block = whole(b)?;
+    let (is_back, by) = shift(d)?;
+    let block = block_below(blocks, block)?;
+    Ok(ScriptFact::Does(Step::Shift { block, is_back, by }))
+}
+
+fn block_below(blocks: u32, block: u32) -> Result<u32, ScriptCause>
+    ensures value { result ≡ block_below blocks block }
+    ensures below { IfOk result (λ n. n < blocks) }
+{
+    if block >= blocks {
+        return Err(ScriptCause::BlockRange);
+    }
+    Ok(block)
+}
+
+fn resource_below(resources: u32, resource: u32) -> Result<u32, ScriptCause>
+    ensures value { result ≡ resource_below resources resource }
+    ensures below { IfOk result (λ n. n < resources) }
+{
+    if resource >= resources {
+        return Err(ScriptCause::ResourceRange);
+    }
+    Ok(resource)
+}
+
+fn period_below(periods: u32, period: u32) -> Result<u32, ScriptCause>
+    ensures value { result ≡ period_below periods period }
+    ensures below { IfOk result (λ n. n < periods) }
+{
+    if period >= periods {
+        return Err(ScriptCause::PeriodRange);
+    }
+    Ok(period)
+}

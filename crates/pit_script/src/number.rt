@@ -1,0 +1,100 @@
+ghost use Rattle.std.specs.Prelude.{◌≡◌};
+ghost use Rattle.pit_num.specs.Decimal.{whole_of, micro_of, after_sign, is_negative};
+ghost use Rattle.pit_text.specs.Bounds.{upper_bound_of};
+ghost use Rattle.pit_text.specs.Numbers.{is_ascii};
+ghost use Rattle.pit_script.specs.Numbers.{read_as, shift_of};
+
+use super::error::ScriptCause;
+use super::step::SHIFT_MAX;
+use pit_num::{NumError, micro_from_bytes, whole_from_bytes};
+use pit_text::upper_bound;
+
+pub(crate) fn is_ascii(field: &[u8]) -> bool
+    ensures { result ≡ is_ascii field.now }
+{
+    field.iter().all(|b| *b < 128)
+}
+
+/// The whole number in a field.
+pub(crate) fn whole(field: &[u8]) -> Result<u32, ScriptCause>
+    ensures { result ≡ read_as whole_of field.now }
+{
+    if !is_ascii(field) {
+        return Err(ScriptCause::NotAscii);
+    }
+    match whole_from_bytes(field) {
+        Ok(n) => Ok(n),
+        Err(error) => Err(ScriptCause::BadNumber(error)),
+    }
+}
+
+/// The decimal in a field, in millionths.
+pub(crate) fn decimal(field: &[u8]) -> Result<i64, ScriptCause>
+    ensures { result ≡ read_as micro_of field.now }
+{
+    if !is_ascii(field) {
+        return Err(ScriptCause::NotAscii);
+    }
+    match micro_from_bytes(field) {
+        Ok(n) => Ok(n),
+        Err(error) => Err(ScriptCause::BadNumber(error)),
+    }
+}
+
+/// The upper bound in a field, in millionths; none where it is infinite.
+pub(crate) fn upper(field: &[u8]) -> Result<Option<i64>, ScriptCause>
+    ensures { result ≡ read_as upper_bound_of field.now }
+{
+    if !is_ascii(field) {
+        return Err(ScriptCause::NotAscii);
+    }
+    let Ok(text) = str::from_utf8(field) else {
+        return Err(ScriptCause::NotAscii);
+    };
+    match upper_bound(text) {
+        Ok(bound) => Ok(bound),
+        Err(error) => Err(ScriptCause::BadNumber(error)),
+    }
+}
+
+/// Whether the shift in a field goes back, and by how many periods.
+pub(crate) fn shift(field: &[u8]) -> Result<(bool, u32), ScriptCause>
+    ensures { result ≡ read_as shift_of field.now }
+{
+    if !is_ascii(field) {
+        return Err(ScriptCause::NotAscii);
+    }
+    match shift_of(field) {
+        Ok(shift) => Ok(shift),
+        Err(error) => Err(ScriptCause::BadNumber(error)),
+    }
+}
+
+#[tactic(auto, unfolding(crate::specs::Numbers::shift_of))]
+fn shift_of(text: &[u8]) -> Result<(bool, u32), NumError>
+    ensures { result ≡ shift_of text.now }
+{
+    let by = whole_from_bytes(after_sign(text))?;
+    if by > SHIFT_MAX {
+        return Err(NumError::TooLarge);
+    }
+    Ok((is_negative(text), by))
+}
+
+fn after_sign(text: &[u8]) -> &[u8]
+    ensures { result.now ≡ after_sign text.now }
+{
+    match text {
+        [b'+' | b'-', rest @ ..] => rest,
+        _ => text,
+    }
+}
+
+fn is_negative(text: &[u8]) -> bool
+    ensures { result ≡ is_negative text.now }
+{
+    match text {
+        [first, ..] => *first == b'-',
+        [] => false,
+    }
+}

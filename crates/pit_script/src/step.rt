@@ -1,0 +1,47 @@
+/// The greatest number of jobs of a script.
+pub const JOBS_MAX: u32 = 1_000_000;
+
+/// The greatest number of periods by which a line shifts a block.
+pub const SHIFT_MAX: u32 = 1000;
+
+/// What one line of a job does.
+#[derive(Clone, Copy, Debug, PartialEq, Eq)]
+pub enum Step {
+    /// Reads a block.
+    Read {
+        block: u32,
+    },
+    /// Puts a block into a period.
+    Put {
+        block: u32,
+        period: u32,
+    },
+    /// Takes a block out of its period.
+    Clear {
+        block: u32,
+    },
+    /// Puts a block so many periods later, or earlier where it goes back.
+    Shift {
+        block: u32,
+        is_back: bool,
+        by: u32,
+    },
+    /// Puts each block at a height, in millionths, into a period, by rising block.
+    Bench {
+        height: i64,
+        period: u32,
+    },
+    /// Revises the upper limit, in millionths, of a resource in a period; none is no limit.
+    Revise {
+        resource: u32,
+        period: u32,
+        upper: Option<i64>,
+    },
+}
+
+/// How a job ends.
+#[derive(Clone, Copy, Debug, PartialEq, Eq)]
+pub enum JobEnd {
+    Commit,
+    Abort,
+}

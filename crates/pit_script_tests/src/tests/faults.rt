@@ -1,0 +1,147 @@
+//! Each refusal of a line, and the order of the checks.
+use super::{fault, read, tiny};
+use ScriptCause::{
+    BlockRange, FieldCount, JobCount, NoBench, NotAscii, Order, PeriodRange, ResourceRange,
+    Unended, UnknownWord,
+};
+use pit_num::NumError;
+use pit_script::{JOBS_MAX, ScriptCause};
+
+const MALFORMED: ScriptCause = ScriptCause::BadNumber(NumError::Malformed);
+
+const TOO_LARGE: ScriptCause = ScriptCause::BadNumber(NumError::TooLarge);
+
+/// A script, the line of its first fault, and the cause.
+const FAULTS: &[(&[u8], u64, ScriptCause)] = &[
+    (b"\xff", 1, NotAscii),
+    (b"fly", 1, UnknownWord),
+    (b"begin\ncommit\nBegin", 3, UnknownWord),
+    // The word comes first, then the number of fields, then whether a job is open.
+    (b"fly 0 0", 1, UnknownWord),
+    (b"begin 0", 1, FieldCount),
+    (b"begin\nbegin 0", 2, FieldCount),
+    (b"read", 1, FieldCount),
+    (b"read 0 0", 1, FieldCount),
+    (b"put 0", 1, FieldCount),
+    (b"put 0 0 0", 1, FieldCount),
+    (b"clear", 1, FieldCount),
+    (b"clear 0 0", 1, FieldCount),
+    (b"shift 0", 1, FieldCount),
+    (b"shift 0 1 1", 1, FieldCount),
+    (b"bench 2", 1, FieldCount),
+    (b"bench 2 0 0", 1, FieldCount),
+    (b"revise 0 0", 1, FieldCount),
+    (b"revise 0 0 1 1", 1, FieldCount),
+    (b"commit 0", 1, FieldCount),
+    (b"abort 0", 1, FieldCount),
+    (b"begin\nbegin", 2, Order),
+    (b"read x", 1, Order),
+    (b"put 0 0", 1, Order),
+    (b"clear x", 1, Order),
+    (b"shift x 1", 1, Order),
+    (b"bench x 0", 1, Order),
+    (b"revise x 0 1", 1, Order),
+    (b"commit", 1, Order),
+    (b"begin\nabort\nabort", 3, Order),
+    // Numbers from left to right, then the ranges, then the bench.
+    (b"begin\nread x", 2, MALFORMED),
+    (b"begin\nread \xff", 2, NotAscii),
+    (b"begin\nput 9 x", 2, MALFORMED),
+    (b"begin\nput x \xff", 2, MALFORMED),
+    (b"begin\nput 4 2", 2, BlockRange),
+    (b"begin\nput 3 2", 2, PeriodRange),
+    (b"begin\nread 4", 2, BlockRange),
+    (b"begin\nclear 4", 2, BlockRange),
+    (b"begin\nshift 4 1001", 2, TOO_LARGE),
+    (b"begin\nshift 4 -1000", 2, BlockRange),
+    (b"begin\nshift 0 +", 2, MALFORMED),
+    (b"begin\nshift 0 --1", 2, MALFORMED),
+    (b"begin\nbench x y", 2, MALFORMED),
+    (b"begin\nbench 7 2", 2, PeriodRange),
+    (b"begin\nbench 7 0", 2, NoBench),
+    (b"begin\nbench 2.5 0", 2, NoBench),
+    (b"begin\nrevise 1 2 x", 2, MALFORMED),
+    (b"begin\nrevise 1 2 \xff", 2, NotAscii),
+    (b"begin\nrevise 1 2 1", 2, ResourceRange),
+    (b"begin\nrevise 0 2 1", 2, PeriodRange),
+    // The end, which is that of the text or the line of `EOF`.
+    (b"begin", 2, Unended),
+    (b"begin\nread 0\n", 3, Unended),
+    (b"begin\nread 0\nEOF\ncommit\n", 3, Unended),
+];
+
+#[test]
+fn are_found(rt: HostRuntime) {
+    let pit = tiny(&rt, rt.alloc());
+    for (text, line, cause) in FAULTS {
+        let answer = read(rt.alloc(), &pit, text).err();
+        assert_eq!(rt; answer, Some(fault(*line, *cause)));
+    }
+}
+
+const JOB: &[u8] = b"begin\ncommit\n";
+
+#[test]
+fn the_last_job_that_there_may_be(rt: HostRuntime) {
+    let pit = tiny(&rt, rt.alloc());
+    let mut text = Vec::new(rt.alloc());
+    for _ in 0..JOBS_MAX {
+        assert!(rt; text.extend_from_slice(JOB).is_ok());
+    }
+    let script = read(rt.alloc(), &pit, text.as_slice());
+    assert!(rt; script.is_ok_and(|script| script.jobs() == JOBS_MAX));
+    assert!(rt; text.extend_from_slice(JOB).is_ok());
+    let answer = read(rt.alloc(), &pit, text.as_slice()).err();
+    assert_eq!(rt; answer, Some(fault(2_000_001, JobCount)));
+}
+
+const WHOLE: &[u8] = b"begin\nread 0\ncommit\r\nbegin\nput 1 1\nabort\n";
+
+/// Whether a part of that script stands for jobs.
+fn is_fine(part: &[u8]) -> bool {
+    part.is_empty()
+        || part.ends_with(b"commit")
+        || part.ends_with(b"commit\r")
+        || part.ends_with(b"commit\r\n")
+        || part.ends_with(b"abort")
+        || part.ends_with(b"abort\n")
+}
+
+#[test]
+fn cut_behind_each_byte(rt: HostRuntime) {
+    let pit = tiny(&rt, rt.alloc());
+    for end in 0..WHOLE.len() + 1 {
+        let part = &WHOLE[..end];
+        match read(rt.alloc(), &pit, part) {
+            Ok(_) => assert!(rt; is_fine(part), "{end}"),
+            Err(error) => {
+                assert!(rt; !is_fine(part), "{end}");
+                assert!(rt; error.cause != ScriptCause::NoMemory);
+            }
+        }
+    }
+}
+
+/// A cause and its words.
+const WORDS: &[(ScriptCause, &str)] = &[
+    (NotAscii, "line 7: not ascii"),
+    (UnknownWord, "line 7: unknown word"),
+    (FieldCount, "line 7: field count"),
+    (MALFORMED, "line 7: bad number"),
+    (BlockRange, "line 7: block out of range"),
+    (ResourceRange, "line 7: resource out of range"),
+    (PeriodRange, "line 7: period out of range"),
+    (Order, "line 7: job order"),
+    (NoBench, "line 7: no such bench"),
+    (JobCount, "line 7: too many jobs"),
+    (Unended, "line 7: job not ended"),
+    (ScriptCause::NoMemory, "line 7: no memory"),
+];
+
+#[test]
+fn in_words(rt: HostRuntime) {
+    for (cause, words) in WORDS {
+        let shown = format!(in rt.alloc(); "{}", fault(7, *cause)).expect(&rt, "memory");
+        assert!(rt; shown.as_str() == *words, "{shown} for {words}");
+    }
+}
