@@ -1,0 +1,5 @@
+pub mod Stepping
+pub mod Trying
+pub mod Retries
+pub mod Once
+pub mod CallerLemmas

@@ -1,0 +1,186 @@
+-- Tries of a job, and jobs of a script.
+use Rattle.std.proofs.Math.Seq.{drop-cons}
+use Rattle.std.proofs.lemmas.List.{drop_all}
+use Rattle.std.proofs.lemmas.List.Elements.{All-append}
+use Rattle.std.proofs.Common.{◌≡◌, ℕ, ◌+◌, ◌<◌, ◌≤◌, true, List, [], ◌∷◌, ◌++◌, length, drop, add-one, refl, sym, ap, subst, ◌∙◌, arith, append-nil, append_assoc, length-append, inl, inr}
+use Rattle.std.specs.Prelude.{Result, Ok, Err}
+use Rattle.pit_job.proofs.Trying.{repeats-none}
+use Rattle.pit_model.specs.Pit.{Pit}
+use Rattle.pit_book.specs.History.{Answered}
+use Rattle.pit_book.specs.declared.reply.EntryReply.{EntryReply}
+use Rattle.pit_book.specs.declared.reply.EntryReply.TheVariants as reply
+use Rattle.pit_book.specs.declared.reply.Refusal.TheVariants as refusal
+use Rattle.pit_job.specs.declared.outcome.JobStop.{JobStop}
+use Rattle.pit_job.specs.declared.outcome.JobStop.TheVariants as stop
+use Rattle.pit_share.specs.Planners.{PlannerState}
+use Rattle.pit_script.specs.Jobs.{Job, empty_job, job_at}
+use Rattle.pit_job.specs.declared.outcome.Tried.{Tried}
+use Rattle.pit_job.specs.declared.outcome.Tried.TheVariants as tried
+use Rattle.pit_job.specs.declared.outcome.Outcome.{Outcome}
+use Rattle.pit_job.specs.declared.outcome.Outcome.TheVariants as outcome
+use Rattle.pit_job.specs.declared.outcome.RunEnd.{RunEnd}
+use Rattle.pit_job.specs.declared.outcome.RunEnd.TheVariants as end
+use Rattle.pit_job.specs.Outcomes.{IsItem, Repeats, Tries, Grows, outcome_of, is_moved}
+use Rattle.pit_job.specs.Runs.{Ran, RanJob, RanFrom, StopsAt, Front, reply_of, tries_of, end_of}
+
+pub grows-none : (a : PlannerState) → Grows a [] a
+grows-none a = record { number = refl; items = sym (append-nil a.items) }
+
+pub grows-more : (a b c : PlannerState) (es fs : List Answered) → Grows a es b → Grows b fs c → Grows a (es ++ fs) c
+grows-more a b c es fs f g = record {
+  number = g.number ∙ f.number;
+  items = g.items ∙ ap (λ (xs : List Answered). xs ++ fs) f.items ∙ append_assoc a.items es fs;
+}
+
+-- more entries that were answered Moved
+pub repeats-more : (pit : Pit) (task : Job) (n k m : ℕ) (es fs : List Answered) → Repeats pit task n k es → Repeats pit task n m fs → Repeats pit task n (k + m) (es ++ fs)
+repeats-more pit task n k m es fs a b = record {
+  items = All-append (λ e. IsItem pit task n e) es fs a.items b.items;
+  moved = All-append (λ e. is_moved e.reply ≡ true) es fs a.moved b.moved;
+  few = let f = a.few in let g = b.few in omega (arith, length-append es fs);
+}
+
+pub repeats-few : (pit : Pit) (task : Job) (n k m : ℕ) (es : List Answered) → k ≤ m → Repeats pit task n k es → Repeats pit task n m es
+repeats-few pit task n k m es less a = record { items = a.items; moved = a.moved; few = let f = a.few in omega arith }
+
+reply-of-outcome : (r : EntryReply) (tries : ℕ) → reply_of (outcome_of r tries) ≡ r
+reply-of-outcome (reply.Committed number) tries = refl
+reply-of-outcome (reply.Refused why) tries = refl
+reply-of-outcome reply.Withdrawn tries = refl
+
+tries-of-outcome : (r : EntryReply) (tries : ℕ) → tries_of (outcome_of r tries) ≡ tries
+tries-of-outcome (reply.Committed number) tries = refl
+tries-of-outcome (reply.Refused why) tries = refl
+tries-of-outcome reply.Withdrawn tries = refl
+
+-- an answer settles the job
+pub settles : (pit : Pit) (task : Job) (retries n k : ℕ) (es fs : List Answered) (r : EntryReply) → k ≤ retries → Repeats pit task n k es → Tries pit task n fs (tried.Answered r)
+    → Ran pit task retries n (es ++ fs) (outcome_of r (k + 1))
+settles pit task retries n k es fs r few repeats (e, is, item, same, other) = inl (record {
+  repeated = es;
+  last = e;
+  before = k;
+  cut = ap (λ (xs : List Answered). es ++ xs) is;
+  repeats = repeats;
+  item = item;
+  answer = same ∙ sym (reply-of-outcome r (k + 1));
+  other = ap is_moved same ∙ other;
+  tries = tries-of-outcome r (k + 1);
+  few = few;
+})
+
+-- after the last try it is given up
+pub gives-up : (pit : Pit) (task : Job) (retries n : ℕ) (es fs : List Answered) (block version : ℕ) → Repeats pit task n retries es → Repeats pit task n 1 fs
+    → Ran pit task retries n (es ++ fs) (outcome.Refused (refusal.Moved block version) (retries + 1))
+gives-up pit task retries n es fs block version a b = inr (record { repeats = repeats-more pit task n retries 1 es fs a b; moved = refl; tries = refl })
+
+pub stops : (pit : Pit) (task : Job) (retries n k : ℕ) (es fs : List Answered) → k ≤ retries → fs ≡ [] → Repeats pit task n k es → Repeats pit task n retries (es ++ fs)
+stops pit task retries n k es fs few none a =
+    subst (Repeats pit task n retries) (sym (ap (λ (xs : List Answered). es ++ xs) none ∙ append-nil es)) (repeats-few pit task n k retries es few a)
+
+-- a log that has grown by tries that were answered Moved grows by one more try
+pub try-moved : (pit : Pit) (task : Job) (n k : ℕ) (a b c : PlannerState) (t : Tried) (block version : ℕ) → ((es : List Answered) × Grows a es b × Repeats pit task n k es)
+    → ((fs : List Answered) × Grows b fs c × Tries pit task n fs t) → t ≡ tried.Moved block version → (es : List Answered) × Grows a es c × Repeats pit task n (k + 1) es
+try-moved pit task n k a b c t block version (es, grew, repeats) (fs, grows, tries) is =
+    (es ++ fs, grows-more a b c es fs grew grows, repeats-more pit task n k 1 es fs repeats (subst (Tries pit task n fs) is tries))
+
+pub try-answered : (pit : Pit) (task : Job) (retries n k : ℕ) (a b c : PlannerState) (t : Tried) (r : EntryReply) (o : Outcome)
+    → ((es : List Answered) × Grows a es b × Repeats pit task n k es) → ((fs : List Answered) × Grows b fs c × Tries pit task n fs t)
+    → t ≡ tried.Answered r → o ≡ outcome_of r (k + 1) → k ≤ retries → (es : List Answered) × Grows a es c × Ran pit task retries n es o
+try-answered pit task retries n k a b c t r o (es, grew, repeats) (fs, grows, tries) is result few = (
+  es ++ fs,
+  grows-more a b c es fs grew grows,
+  subst (Ran pit task retries n (es ++ fs)) (sym result) (settles pit task retries n k es fs r few repeats (subst (Tries pit task n fs) is tries)),
+)
+
+pub try-stopped : (pit : Pit) (task : Job) (retries n k : ℕ) (a b c : PlannerState) (t : Tried) (s : JobStop)
+    → ((es : List Answered) × Grows a es b × Repeats pit task n k es) → ((fs : List Answered) × Grows b fs c × Tries pit task n fs t)
+    → t ≡ tried.Stopped s → k ≤ retries → (es : List Answered) × Grows a es c × Repeats pit task n retries es
+try-stopped pit task retries n k a b c t s (es, grew, repeats) (fs, grows, tries) is few =
+    (es ++ fs, grows-more a b c es fs grew grows, stops pit task retries n k es fs few (subst (Tries pit task n fs) is tries) repeats)
+
+pub try-last : (pit : Pit) (task : Job) (retries n k : ℕ) (a b c : PlannerState) (t : Tried) (block version : ℕ)
+    → ((es : List Answered) × Grows a es b × Repeats pit task n k es) → ((fs : List Answered) × Grows b fs c × Tries pit task n fs t)
+    → t ≡ tried.Moved block version → k ≤ retries → (es : List Answered) × Grows a es c × Ran pit task retries n es (outcome.Refused (refusal.Moved block version) (retries + 1))
+try-last pit task retries n k a b c t block version (es, grew, repeats) (fs, grows, tries) is few = (
+  es ++ fs,
+  grows-more a b c es fs grew grows,
+  gives-up pit task retries n es fs block version (repeats-few pit task n k retries es few repeats) (subst (Tries pit task n fs) is tries),
+)
+
+-- ---- scripts
+
+drop-here : (xs : List Job) (i : ℕ) (task : Job) → i < length xs → job_at xs i ≡ task → drop i xs ≡ task ∷ drop (i + 1) xs
+drop-here xs i task h is = rw (add-one, drop-cons xs i empty_job, is)
+
+pub front-none : (pit : Pit) (retries : ℕ) (jobs : List Job) → Front pit retries jobs 0 1 [] []
+front-none pit retries jobs later more ended ran = ran
+
+-- one job more
+pub front-next : (pit : Pit) (retries : ℕ) (jobs : List Job) (i n : ℕ) (task : Job) (es mine : List Answered) (os : List Outcome) (o : Outcome) → i < length jobs → job_at jobs i ≡ task
+    → Front pit retries jobs i n es os → Ran pit task retries n mine o → Front pit retries jobs (i + 1) (n + 1) (es ++ mine) (os ++ o ∷ [])
+front-next pit retries jobs i n task es mine os o less at front ran later more ended rest =
+    let here : RanFrom pit retries n (drop i jobs) (mine ++ later) (o ∷ more) ended =
+    subst (λ (xs : List Job). RanFrom pit retries n xs (mine ++ later) (o ∷ more) ended) (sym (drop-here jobs i task less at)) (mine, later, refl, ran, rest) in
+    let all : RanFrom pit retries 1 jobs (es ++ (mine ++ later)) (os ++ o ∷ more) ended = front (mine ++ later) (o ∷ more) ended here in
+    let a : RanFrom pit retries 1 jobs ((es ++ mine) ++ later) (os ++ o ∷ more) ended =
+    subst (λ (xs : List Answered). RanFrom pit retries 1 jobs xs (os ++ o ∷ more) ended) (sym (append_assoc es mine later)) all in
+    subst (λ (xs : List Outcome). RanFrom pit retries 1 jobs ((es ++ mine) ++ later) xs ended) (sym (append_assoc os (o ∷ []) more)) a
+
+-- the run stops at a job
+pub front-stop : (pit : Pit) (retries : ℕ) (jobs : List Job) (i n : ℕ) (task : Job) (es mine : List Answered) (os : List Outcome) (ended : RunEnd) → i < length jobs → job_at jobs i ≡ task
+    → Front pit retries jobs i n es os → StopsAt n ended → Repeats pit task n retries mine → RanFrom pit retries 1 jobs (es ++ mine) os ended
+front-stop pit retries jobs i n task es mine os ended less at front stop repeats =
+    let here : RanFrom pit retries n (drop i jobs) mine [] ended =
+    subst (λ (xs : List Job). RanFrom pit retries n xs mine [] ended) (sym (drop-here jobs i task less at)) (stop, repeats) in
+    subst (λ (xs : List Outcome). RanFrom pit retries 1 jobs (es ++ mine) xs ended) (append-nil os) (front mine [] ended here)
+
+-- all jobs have their outcomes
+pub front-whole : (pit : Pit) (retries : ℕ) (jobs : List Job) (i n : ℕ) (es : List Answered) (os : List Outcome) → length jobs ≤ i
+    → Front pit retries jobs i n es os → RanFrom pit retries 1 jobs es os end.Whole
+front-whole pit retries jobs i n es os past front =
+    let here : RanFrom pit retries n (drop i jobs) [] [] end.Whole =
+    subst (λ (xs : List Job). RanFrom pit retries n xs [] [] end.Whole) (sym (drop_all i jobs past)) (refl, refl) in
+    let all : RanFrom pit retries 1 jobs (es ++ []) (os ++ []) end.Whole = front [] [] end.Whole here in
+    let a = subst (λ (xs : List Outcome). RanFrom pit retries 1 jobs (es ++ []) xs end.Whole) (append-nil os) all in
+    subst (λ (xs : List Answered). RanFrom pit retries 1 jobs xs os end.Whole) (append-nil es) a
+
+stops-at : (s : JobStop) (n : ℕ) → StopsAt n (end_of s n)
+stops-at stop.Full n = refl
+stops-at stop.NoMemory n = refl
+stops-at stop.NoEntry n = refl
+
+-- a job has its outcome
+pub job-done : (pit : Pit) (retries : ℕ) (jobs : List Job) (i n : ℕ) (task : Job) (a b c : PlannerState) (os outs : List Outcome) (o : Outcome) (answer : Result Outcome JobStop)
+    → i < length jobs → job_at jobs i ≡ task → ((es : List Answered) × Grows a es b × Front pit retries jobs i n es os)
+    → ((fs : List Answered) × Grows b fs c × RanJob pit task retries n fs answer) → answer ≡ Ok o → outs ≡ os ++ o ∷ []
+    → (es : List Answered) × Grows a es c × Front pit retries jobs (i + 1) (n + 1) es outs
+job-done pit retries jobs i n task a b c os outs o answer less at (es, grew, front) (fs, grows, ran) is pushed = (
+  es ++ fs,
+  grows-more a b c es fs grew grows,
+  subst (Front pit retries jobs (i + 1) (n + 1) (es ++ fs)) (sym pushed) (front-next pit retries jobs i n task es fs os o less at front (subst (RanJob pit task retries n fs) is ran)),
+)
+
+-- a job stops the run
+pub job-stops : (pit : Pit) (retries : ℕ) (jobs : List Job) (i n : ℕ) (task : Job) (a b c : PlannerState) (os outs : List Outcome) (s : JobStop) (answer : Result Outcome JobStop) (ended : RunEnd)
+    → i < length jobs → job_at jobs i ≡ task → ((es : List Answered) × Grows a es b × Front pit retries jobs i n es os)
+    → ((fs : List Answered) × Grows b fs c × RanJob pit task retries n fs answer) → answer ≡ Err s → ended ≡ end_of s n → outs ≡ os
+    → (es : List Answered) × Grows a es c × RanFrom pit retries 1 jobs es outs ended
+job-stops pit retries jobs i n task a b c os outs s answer ended less at (es, grew, front) (fs, grows, ran) is result same = (
+  es ++ fs,
+  grows-more a b c es fs grew grows,
+  subst (λ (xs : List Outcome). RanFrom pit retries 1 jobs (es ++ fs) xs ended) (sym same)
+      (front-stop pit retries jobs i n task es fs os ended less at front (subst (StopsAt n) (sym result) (stops-at s n)) (subst (RanJob pit task retries n fs) is ran)),
+)
+
+-- there is no room for its outcome
+pub job-unasked : (pit : Pit) (retries : ℕ) (jobs : List Job) (i n : ℕ) (task : Job) (a b : PlannerState) (os outs : List Outcome)
+    → i < length jobs → job_at jobs i ≡ task → ((es : List Answered) × Grows a es b × Front pit retries jobs i n es os) → outs ≡ os
+    → (es : List Answered) × Grows a es b × RanFrom pit retries 1 jobs es outs (end.NoMemory n)
+job-unasked pit retries jobs i n task a b os outs less at (es, grew, front) same = (
+  es,
+  grew,
+  subst (λ (xs : List Outcome). RanFrom pit retries 1 jobs es xs (end.NoMemory n)) (sym same)
+      (subst (λ (xs : List Answered). RanFrom pit retries 1 jobs xs os (end.NoMemory n)) (append-nil es)
+      (front-stop pit retries jobs i n task es [] os (end.NoMemory n) less at front refl (repeats-none pit task n retries))),
+)

@@ -1,0 +1,258 @@
+-- What steps do to a transaction.
+use Rattle.std.proofs.Math.Seq.{drop-cons}
+use Rattle.std.proofs.lemmas.List.{drop_all}
+use Rattle.std.proofs.lemmas.Bool.Decides.{eqb_tells}
+use Rattle.std.proofs.Common.{inl, inr, ◌≡◌, ℕ, ℤ, nat_eq, ◌+◌, ◌<◌, ◌≤◌, length, get_or, drop, add-one, Bool, true, false, cond, List, [], ◌∷◌, ◌++◌, Option, Some, None, refl, sym, ap, subst, ◌∙◌}
+use Rattle.std.specs.Prelude.{is_some, if◌then◌else◌, Result, Ok}
+use Rattle.pit_model.specs.Pit.{Pit}
+use Rattle.pit_plan.specs.Schedule.{Commit}
+use Rattle.pit_num.specs.Fitting.{pair_eq}
+use Rattle.pit_tx.specs.Sets.{Sets, at_key, with_write, known_of}
+use Rattle.pit_share.specs.Planners.{PlannerState, TransactionState, SeesOn}
+use Rattle.pit_share.specs.Reads.{IsNoted, IsLookedUp}
+use Rattle.pit_share.specs.declared.error.ReadStop.{ReadStop}
+use Rattle.pit_script.specs.Benches.{bench_of}
+use Rattle.pit_script.specs.declared.step.Step.{Step}
+use Rattle.pit_script.specs.declared.step.Step.TheVariants as step
+use Rattle.pit_effect.specs.Effect.{Known, Effect, changes, read_in, seen, looked, moved_by, put_at, with_period, with_limit, with_bench, step_after, next, steps_after, Agrees}
+use Rattle.pit_effect.specs.Shifts.{shifted}
+use Rattle.pit_effect.proofs.CallerLemmas.{seen-agrees}
+use Rattle.pit_job.specs.Doing.{own_of, SameLog, Same, LooksUp, Puts, DoesStep, DoesSteps}
+
+-- ---- reads
+
+-- a longer list holds all that a front of it does
+read-front : (xs ys : List (ℕ × Option ℕ)) (b : ℕ) (v : Option ℕ) → read_in xs b ≡ Some v → read_in (xs ++ ys) b ≡ Some v
+read-front [] ys b v is = absurd (cc is)
+read-front (x ∷ xs) ys b v is = by (nat_eq b x.0) (read-front xs ys b v) is
+  where
+    by : (o : Bool) → (read_in xs b ≡ Some v → read_in (xs ++ ys) b ≡ Some v) → cond o (Some x.1) (read_in xs b) ≡ Some v → cond o (Some x.1) (read_in (xs ++ ys) b) ≡ Some v
+    by true later is = is
+    by false later is = later is
+
+-- and where that doesn't hold a block, what the rest does
+read-rest : (xs ys : List (ℕ × Option ℕ)) (b : ℕ) → read_in xs b ≡ None → read_in (xs ++ ys) b ≡ read_in ys b
+read-rest [] ys b none = refl
+read-rest (x ∷ xs) ys b none = by (nat_eq b x.0) (read-rest xs ys b) none
+  where
+    by : (o : Bool) → (read_in xs b ≡ None → read_in (xs ++ ys) b ≡ read_in ys b) → cond o (Some x.1) (read_in xs b) ≡ None → cond o (Some x.1) (read_in (xs ++ ys) b) ≡ read_in ys b
+    by true later is = absurd (cc is)
+    by false later is = later is
+
+Agrees-refl : (k : Known) → Agrees k k
+Agrees-refl k b v is = is
+
+Agrees-trans : (k l m : Known) → Agrees k l → Agrees l m → Agrees k m
+Agrees-trans k l m f g b v is = g b v (f b v is)
+
+log-refl : (p : PlannerState) → SameLog p p
+log-refl p = record { number = refl; items = refl }
+
+pub same-refl : (t : TransactionState) → Same t t
+same-refl t = record { log = log-refl t.planner; job = refl; reads = Agrees-refl (read_in t.work.reads) }
+
+pub log-trans : (a b c : PlannerState) → SameLog a b → SameLog b c → SameLog a c
+log-trans a b c f g = record { number = g.number ∙ f.number; items = g.items ∙ f.items }
+
+pub same-trans : (a b c : TransactionState) → Same a b → Same b c → Same a c
+same-trans a b c f g = record {
+  log = log-trans a.planner b.planner c.planner f.log g.log;
+  job = g.job ∙ f.job;
+  reads = Agrees-trans (read_in a.work.reads) (read_in b.work.reads) (read_in c.work.reads) f.reads g.reads;
+}
+
+pub log-sees : (old new : PlannerState) → SeesOn old new → SameLog old new
+log-sees old new sees = record { number = sees.number; items = sees.items }
+
+-- a block that was known
+pub looks-known : (old new : TransactionState) (b : ℕ) (period : Option ℕ) → new ≡ old → known_of old.work b ≡ Some period → LooksUp old b period new
+looks-known old new b period same known = record {
+  same = subst (λ (t : TransactionState). Same old t) (sym same) (same-refl old);
+  own = ap (λ (t : TransactionState). own_of t.work) same;
+  known = ap (λ (t : TransactionState). known_of t.work b) same ∙ known;
+}
+
+unwritten : (o p : Option (Option ℕ)) → (if is_some o then o else p) ≡ None → o ≡ None
+unwritten None p is = refl
+unwritten (Some v) p is = absurd (cc is)
+
+unread-before : (o p : Option (Option ℕ)) → (if is_some o then o else p) ≡ None → p ≡ None
+unread-before None p is = is
+unread-before (Some v) p is = absurd (cc is)
+
+same-key : (b : ℕ) (p : Option ℕ) → read_in ((b, p) ∷ []) b ≡ Some p
+same-key b p = ap (λ (o : Bool). cond o (Some p) None) (nat_eq-same b)
+  where
+    nat_eq-same : (n : ℕ) → nat_eq n n ≡ true
+    nat_eq-same n = elim (eqb_tells n n) [ inl h ↦ h.0 | inr h ↦ absurd (h.1 refl) ]
+
+-- and one that was noted
+pub looks-noted : (old new : TransactionState) (b : ℕ) (period : Option ℕ) → SeesOn old.planner new.planner → known_of old.work b ≡ None → IsNoted old b period new → LooksUp old b period new
+looks-noted old new b period sees unknown noted = record {
+  same = record {
+    log = log-sees old.planner new.planner sees;
+    job = ap (λ (w : Sets). w.job) noted.work;
+    reads = subst (λ (w : Sets). Agrees (read_in old.work.reads) (read_in w.reads)) (sym noted.work) (λ c v is. read-front old.work.reads ((b, period) ∷ []) c v is);
+  };
+  own = ap (λ (w : Sets). own_of w) noted.work;
+  known =
+      ap (λ (w : Sets). known_of w b) noted.work
+      ∙ ap (λ (o : Option (Option ℕ)). if is_some o then o else read_in (old.work.reads ++ (b, period) ∷ []) b) (unwritten (at_key nat_eq old.work.writes b) (read_in old.work.reads b) unknown)
+      ∙ read-rest old.work.reads ((b, period) ∷ []) b (unread-before (at_key nat_eq old.work.writes b) (read_in old.work.reads b) unknown)
+      ∙ same-key b period;
+}
+
+-- ---- steps
+
+-- whoever holds the reads sees what was looked up
+pub look-seen : (old new : TransactionState) (b : ℕ) (p : Option ℕ) → LooksUp old b p new → (known : Known) → Agrees (read_in new.work.reads) known → seen known (own_of old.work) b ≡ Some p
+look-seen old new b p is known agrees =
+    subst (λ (own : Commit). seen known own b ≡ Some p) is.own (seen-agrees (read_in new.work.reads) known (own_of new.work) agrees b p is.known)
+
+pub read-does : (pit : Pit) (old new : TransactionState) (b : ℕ) (p : Option ℕ) → LooksUp old b p new → DoesStep pit old (step.Read b) true new
+read-does pit old new b p is = record {
+  same = is.same;
+  does = λ known agrees. ap (looked (own_of old.work)) (look-seen old new b p is known agrees) ∙ ap changes (sym is.own);
+}
+
+-- a step that reads nothing
+pub own-does : (pit : Pit) (old new : TransactionState) (s : Step) (own : Commit) → Same old new → ((known : Known) → step_after pit known (own_of old.work) s ≡ changes own) → own_of new.work ≡ own
+    → DoesStep pit old s true new
+own-does pit old new s own same stated is = record {
+  same = same;
+  does = λ known agrees. stated known ∙ ap changes (sym is);
+}
+
+pub put-does : (pit : Pit) (old new : TransactionState) (b t : ℕ) → Same old new → own_of new.work ≡ with_period (own_of old.work) b (Some t) → DoesStep pit old (step.Put b t) true new
+put-does pit old new b t same is = own-does pit old new (step.Put b t) (with_period (own_of old.work) b (Some t)) same (λ known. refl) is
+
+pub clear-does : (pit : Pit) (old new : TransactionState) (b : ℕ) → Same old new → own_of new.work ≡ with_period (own_of old.work) b None → DoesStep pit old (step.Clear b) true new
+clear-does pit old new b same is = own-does pit old new (step.Clear b) (with_period (own_of old.work) b None) same (λ known. refl) is
+
+pub revise-does : (pit : Pit) (old new : TransactionState) (r t : ℕ) (upper : Option ℤ) → Same old new → own_of new.work ≡ with_limit (own_of old.work) r t upper → DoesStep pit old (step.Revise r t upper) true new
+revise-does pit old new r t upper same is = own-does pit old new (step.Revise r t upper) (with_limit (own_of old.work) r t upper) same (λ known. refl) is
+
+pub bench-does : (pit : Pit) (old new : TransactionState) (height : ℤ) (t : ℕ) → Same old new → own_of new.work ≡ with_bench (own_of old.work) (bench_of pit height) t → DoesStep pit old (step.Bench height t) true new
+bench-does pit old new height t same is = own-does pit old new (step.Bench height t) (with_bench (own_of old.work) (bench_of pit height) t) same (λ known. refl) is
+
+-- a block without a period can't be shifted
+pub shift-none : (pit : Pit) (old new : TransactionState) (b by : ℕ) (is_back : Bool) → LooksUp old b None new → DoesStep pit old (step.Shift b is_back by) false new
+shift-none pit old new b by is_back is = record {
+  same = is.same;
+  does = λ known agrees. ap (moved_by pit.periods (own_of old.work) b is_back by) (look-seen old new b None is known agrees);
+}
+
+-- nor can one that would leave the periods
+pub shift-out : (pit : Pit) (old new : TransactionState) (b by t : ℕ) (is_back : Bool) → LooksUp old b (Some t) new → shifted pit.periods is_back by t ≡ None → DoesStep pit old (step.Shift b is_back by) false new
+shift-out pit old new b by t is_back is out = record {
+  same = is.same;
+  does = λ known agrees. ap (moved_by pit.periods (own_of old.work) b is_back by) (look-seen old new b (Some t) is known agrees) ∙ ap (put_at (own_of old.work) b) out;
+}
+
+pub shift-does : (pit : Pit) (old mid new : TransactionState) (b by t u : ℕ) (is_back : Bool) → LooksUp old b (Some t) mid → shifted pit.periods is_back by t ≡ Some u → Same mid new
+    → own_of new.work ≡ with_period (own_of mid.work) b (Some u) → DoesStep pit old (step.Shift b is_back by) true new
+shift-does pit old mid new b by t u is_back is in_range same put = record {
+  same = same-trans old mid new is.same same;
+  does = λ known agrees.
+      ap (moved_by pit.periods (own_of old.work) b is_back by) (look-seen old mid b (Some t) is known (Agrees-trans (read_in mid.work.reads) (read_in new.work.reads) known same.reads agrees))
+      ∙ ap (put_at (own_of old.work) b) in_range
+      ∙ ap (λ (own : Commit). changes (with_period own b (Some u))) (sym is.own)
+      ∙ ap changes (sym put);
+}
+
+-- ---- steps in order
+
+-- no step does nothing
+pub steps-none : (pit : Pit) (t : TransactionState) → DoesSteps pit t [] true t
+steps-none pit t = record { same = same-refl t; does = λ known agrees. refl }
+
+-- a step and then the rest
+pub steps-more : (pit : Pit) (old mid new : TransactionState) (s : Step) (ss : List Step) (goes : Bool) → DoesStep pit old s true mid → DoesSteps pit mid ss goes new → DoesSteps pit old (s ∷ ss) goes new
+steps-more pit old mid new s ss goes first rest = record {
+  same = same-trans old mid new first.same rest.same;
+  does = λ known agrees.
+      ap (λ (e : Effect). next e (λ after. steps_after pit known after ss)) (first.does known (Agrees-trans (read_in mid.work.reads) (read_in new.work.reads) known rest.same.reads agrees))
+      ∙ rest.does known agrees;
+}
+
+-- a step that fails ends them
+pub steps-fail : (pit : Pit) (old new : TransactionState) (s : Step) (ss : List Step) → DoesStep pit old s false new → DoesSteps pit old (s ∷ ss) false new
+steps-fail pit old new s ss first = record {
+  same = first.same;
+  does = λ known agrees. ap (λ (e : Effect). next e (λ after. steps_after pit known after ss)) (first.does known agrees);
+}
+
+drop-here : (xs : List Step) (i : ℕ) (d : Step) → i < length xs → drop i xs ≡ get_or xs i d ∷ drop (i + 1) xs
+drop-here xs i d h = rw (add-one, drop-cons xs i d)
+
+-- the step at i, and then those after it
+pub steps-next : (pit : Pit) (old mid new : TransactionState) (xs : List Step) (i : ℕ) (d : Step) (goes : Bool) → i < length xs
+    → DoesStep pit old (get_or xs i d) true mid → DoesSteps pit mid (drop (i + 1) xs) goes new → DoesSteps pit old (drop i xs) goes new
+steps-next pit old mid new xs i d goes less first rest =
+    subst (λ (ss : List Step). DoesSteps pit old ss goes new) (sym (drop-here xs i d less)) (steps-more pit old mid new (get_or xs i d) (drop (i + 1) xs) goes first rest)
+
+pub steps-stop : (pit : Pit) (old new : TransactionState) (xs : List Step) (i : ℕ) (d : Step) → i < length xs
+    → DoesStep pit old (get_or xs i d) false new → DoesSteps pit old (drop i xs) false new
+steps-stop pit old new xs i d less first =
+    subst (λ (ss : List Step). DoesSteps pit old ss false new) (sym (drop-here xs i d less)) (steps-fail pit old new (get_or xs i d) (drop (i + 1) xs) first)
+
+pub steps-end : (pit : Pit) (t : TransactionState) (xs : List Step) (i : ℕ) → length xs ≤ i → DoesSteps pit t (drop i xs) true t
+steps-end pit t xs i past = subst (λ (ss : List Step). DoesSteps pit t ss true t) (sym (drop_all i xs past)) (steps-none pit t)
+
+-- ---- what a call of a transaction leaves
+
+writes-same : (old new : TransactionState) (writes : List (ℕ × Option ℕ)) → new.planner ≡ old.planner → new.work ≡ record old.work { writes = writes } → Same old new
+writes-same old new writes planner work = record {
+  log = subst (λ (p : PlannerState). SameLog old.planner p) (sym planner) (log-refl old.planner);
+  job = ap (λ (w : Sets). w.job) work;
+  reads = subst (λ (w : Sets). Agrees (read_in old.work.reads) (read_in w.reads)) (sym work) (Agrees-refl (read_in old.work.reads));
+}
+
+pub puts-of : (old new : TransactionState) (b : ℕ) (period : Option ℕ) → new.planner ≡ old.planner → new.work ≡ record old.work { writes = with_write nat_eq old.work.writes b period } → Puts old b period new
+puts-of old new b period planner work = record {
+  same = writes-same old new (with_write nat_eq old.work.writes b period) planner work;
+  own = ap (λ (w : Sets). own_of w) work;
+}
+
+pub revised-does : (pit : Pit) (old new : TransactionState) (r t : ℕ) (upper : Option ℤ) → new.planner ≡ old.planner
+    → new.work ≡ record old.work { revises = with_write pair_eq old.work.revises (r, t) upper } → DoesStep pit old (step.Revise r t upper) true new
+revised-does pit old new r t upper planner work =
+    revise-does pit old new r t upper (record {
+      log = subst (λ (p : PlannerState). SameLog old.planner p) (sym planner) (log-refl old.planner);
+      job = ap (λ (w : Sets). w.job) work;
+      reads = subst (λ (w : Sets). Agrees (read_in old.work.reads) (read_in w.reads)) (sym work) (Agrees-refl (read_in old.work.reads));
+    }) (ap (λ (w : Sets). own_of w) work)
+
+pub looks-up : (pit : Pit) (old new : TransactionState) (b : ℕ) (r : Result (Option ℕ) ReadStop) (period : Option ℕ) → b < pit.blocks → r ≡ Ok period → SeesOn old.planner new.planner
+    → ((p : Option ℕ) → b < pit.blocks → known_of old.work b ≡ Some p → (r ≡ Ok p) × (new ≡ old)) → (b < pit.blocks → known_of old.work b ≡ None → IsLookedUp old b r new)
+    → LooksUp old b period new
+looks-up pit old new b r period less is sees known unknown = by (known_of old.work b) refl
+  where
+    by : (o : Option (Option ℕ)) → known_of old.work b ≡ o → LooksUp old b period new
+    by None e = looks-noted old new b period sees e (subst (λ (s : Result (Option ℕ) ReadStop). IsLookedUp old b s new) is (unknown less e))
+    by (Some p) e =
+        let answered = known p less e in
+        let first = answered.0 in
+        let same : p ≡ period = cc in
+        looks-known old new b period answered.1 (e ∙ ap (λ (q : Option ℕ). Some q) same)
+
+-- ---- a bench, block by block
+
+pub record IsBenchTo (old : TransactionState) (blocks left : List ℕ) (t : ℕ) (now : TransactionState) : Type 0 where
+  pub same : Same old now
+  pub own : with_bench (own_of now.work) left t ≡ with_bench (own_of old.work) blocks t
+
+pub bench-begins : (t : TransactionState) (blocks left : List ℕ) (period : ℕ) → left ≡ blocks → IsBenchTo t blocks left period t
+bench-begins t blocks left period same = record { same = same-refl t; own = ap (λ (bs : List ℕ). with_bench (own_of t.work) bs period) same }
+
+pub bench-more : (old now after : TransactionState) (blocks left more : List ℕ) (b t : ℕ) → left ≡ b ∷ more → IsBenchTo old blocks left t now → Puts now b (Some t) after → IsBenchTo old blocks more t after
+bench-more old now after blocks left more b t next so_far puts = record {
+  same = same-trans old now after so_far.same puts.same;
+  own = ap (λ (own : Commit). with_bench own more t) puts.own ∙ sym (ap (λ (bs : List ℕ). with_bench (own_of now.work) bs t) next) ∙ so_far.own;
+}
+
+pub bench-ends : (pit : Pit) (old new : TransactionState) (height : ℤ) (blocks left : List ℕ) (t : ℕ) → left ≡ [] → blocks ≡ bench_of pit height → IsBenchTo old blocks left t new
+    → DoesStep pit old (step.Bench height t) true new
+bench-ends pit old new height blocks left t none is so_far =
+    bench-does pit old new height t so_far.same
+    (sym (ap (λ (bs : List ℕ). with_bench (own_of new.work) bs t) none) ∙ so_far.own ∙ ap (λ (bs : List ℕ). with_bench (own_of old.work) bs t) is)

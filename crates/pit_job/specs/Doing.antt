@@ -1,0 +1,54 @@
+-- What a step of a job does to a transaction.
+use Rattle.std.specs.Prelude.{◌≡◌, ℕ, Bool, true, false, List, [], Option, Some}
+use Rattle.pit_model.specs.Pit.{Pit}
+use Rattle.pit_plan.specs.Schedule.{Commit}
+use Rattle.pit_tx.specs.Sets.{Sets, known_of}
+use Rattle.pit_script.specs.declared.step.Step.{Step}
+use Rattle.pit_share.specs.Planners.{PlannerState, TransactionState}
+use Rattle.pit_effect.specs.Effect.{Known, Effect, changes, nothing, read_in, Agrees, with_period, step_after, steps_after}
+
+-- what a work changes
+abbrev pub own_of : Sets → Commit
+own_of work = record { writes = work.writes; revises = work.revises }
+
+-- what steps come to that go on with these changes, or fail
+abbrev pub come_to : Bool → Commit → Effect
+come_to true own = changes own
+come_to false own = nothing
+
+-- the same planner, with the same log, which may have seen more
+pub record SameLog (old new : PlannerState) : Type 0 where
+  pub number : new.number ≡ old.number
+  pub items : new.items ≡ old.items
+
+-- the same transaction, which may have read more
+pub record Same (old new : TransactionState) : Type 0 where
+  pub log : SameLog old.planner new.planner
+  pub job : new.work.job ≡ old.work.job
+  pub reads : Agrees (read_in old.work.reads) (read_in new.work.reads)
+
+-- a block was looked up: it is then known, and nothing else changed
+pub record LooksUp (old : TransactionState) (b : ℕ) (period : Option ℕ) (new : TransactionState) : Type 0 where
+  pub same : Same old new
+  pub own : own_of new.work ≡ own_of old.work
+  pub known : known_of new.work b ≡ Some period
+
+-- over whatever holds the reads, the step does what was done
+pub record DoesStep (pit : Pit) (old : TransactionState) (s : Step) (goes : Bool) (new : TransactionState) : Type 0 where
+  pub same : Same old new
+  pub does : (known : Known) → Agrees (read_in new.work.reads) known → step_after pit known (own_of old.work) s ≡ come_to goes (own_of new.work)
+
+-- and so for steps in order
+pub record DoesSteps (pit : Pit) (old : TransactionState) (ss : List Step) (goes : Bool) (new : TransactionState) : Type 0 where
+  pub same : Same old new
+  pub does : (known : Known) → Agrees (read_in new.work.reads) known → steps_after pit known (own_of old.work) ss ≡ come_to goes (own_of new.work)
+
+-- a transaction that has begun for a job, and done nothing
+pub record IsFresh (n : ℕ) (t : TransactionState) : Type 0 where
+  pub job : t.work.job ≡ n
+  pub own : own_of t.work ≡ record { writes = []; revises = [] }
+
+-- one more write of the own ones
+pub record Puts (old : TransactionState) (b : ℕ) (period : Option ℕ) (new : TransactionState) : Type 0 where
+  pub same : Same old new
+  pub own : own_of new.work ≡ with_period (own_of old.work) b period

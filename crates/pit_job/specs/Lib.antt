@@ -1,0 +1,4 @@
+pub mod Doing
+pub mod Outcomes
+pub mod Runs
+pub mod Laws

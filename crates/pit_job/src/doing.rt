@@ -1,0 +1,200 @@
+//! The steps of a job, done in a transaction.
+ghost use Rattle.std.specs.Prelude.{◌≡◌, ◌<◌, IfOk, OnOk, All, Some, None};
+ghost use Rattle.pit_script.specs.Benches.{AreBenchesOf};
+ghost use Rattle.pit_script.specs.Ranges.{IsStepIn};
+ghost use Rattle.pit_job.specs.Doing.{SameLog, LooksUp, Puts, DoesStep, DoesSteps};
+
+use pit_board::Session;
+use pit_effect::shifted;
+use pit_script::{Benches, Step};
+use pit_share::{ReadStop, Transaction};
+use std::alloc::Allocator;
+use std::sync::Wait;
+
+/// Why a step was not done.
+#[derive(Clone, Copy, Debug, PartialEq, Eq)]
+pub(crate) enum StepStop {
+    Moved { block: u32, version: u32 },
+    NoMemory,
+    NoEntry,
+}
+
+/// Does the steps in order, and says whether all of them were done. Where not, a shift failed.
+pub(crate) fn do_steps<
+    'a,
+    S: Session,
+    R: Wait + Drop,
+    A: Allocator + Copy + Drop,
+    B: Allocator + Copy + Drop,
+>(
+    t: &mut Transaction<'a, S, R, A>,
+    benches: &Benches<B>,
+    periods: u32,
+    steps: &[Step],
+) -> Result<bool, StepStop>
+    requires benches { AreBenchesOf S.instance benches.now }
+    requires periods { periods ≡ S.instance.periods }
+    requires in_range { All (IsStepIn S.instance) steps.now }
+    ensures ok { IfOk result (λ goes. DoesSteps S.instance t.old steps.now goes t.new) }
+    ensures log { SameLog t.old.planner t.new.planner }
+{
+    for step in steps {
+        if !do_step(t, benches, periods, step)? {
+            return Ok(false);
+        }
+    }
+    Ok(true)
+}
+
+/// Does a step, and says whether it was done. Where not, a shift failed.
+fn do_step<'a, S: Session, R: Wait + Drop, A: Allocator + Copy + Drop, B: Allocator + Copy + Drop>(
+    t: &mut Transaction<'a, S, R, A>,
+    benches: &Benches<B>,
+    periods: u32,
+    step: &Step,
+) -> Result<bool, StepStop>
+    requires benches { AreBenchesOf S.instance benches.now }
+    requires periods { periods ≡ S.instance.periods }
+    requires in_range { IsStepIn S.instance step.now }
+    ensures ok { IfOk result (λ goes. DoesStep S.instance t.old step.now goes t.new) }
+    ensures log { SameLog t.old.planner t.new.planner }
+{
+    match *step {
+        Step::Read { block } => read(t, block),
+        Step::Put { block, period } => put(t, block, period),
+        Step::Clear { block } => clear(t, block),
+        Step::Shift { block, is_back, by } => shift(t, periods, block, is_back, by),
+        Step::Bench { height, period } => bench(t, benches, height, period),
+        Step::Revise {
+            resource,
+            period,
+            upper,
+        } => revise(t, resource, period, upper),
+    }
+}
+
+fn read<'a, S: Session, R: Wait + Drop, A: Allocator + Copy + Drop>(
+    t: &mut Transaction<'a, S, R, A>,
+    b: u32,
+) -> Result<bool, StepStop>
+    requires { b < S.instance.blocks }
+    ensures ok { IfOk result (λ goes. DoesStep S.instance t.old (Step.Read b) goes t.new) }
+    ensures log { SameLog t.old.planner t.new.planner }
+{
+    let _period = look(t, b)?;
+    Ok(true)
+}
+
+fn put<'a, S: Session, R: Wait + Drop, A: Allocator + Copy + Drop>(
+    t: &mut Transaction<'a, S, R, A>,
+    b: u32,
+    period: u32,
+) -> Result<bool, StepStop>
+    ensures ok { IfOk result (λ goes. DoesStep S.instance t.old (Step.Put b period) goes t.new) }
+    ensures log { SameLog t.old.planner t.new.planner }
+{
+    put_in(t, b, period)?;
+    Ok(true)
+}
+
+// In range nothing but want of memory is refused.
+fn clear<'a, S: Session, R: Wait + Drop, A: Allocator + Copy + Drop>(
+    t: &mut Transaction<'a, S, R, A>,
+    b: u32,
+) -> Result<bool, StepStop>
+    ensures ok { IfOk result (λ goes. DoesStep S.instance t.old (Step.Clear b) goes t.new) }
+    ensures log { SameLog t.old.planner t.new.planner }
+{
+    match t.clear(b) {
+        Ok(()) => Ok(true),
+        Err(_) => Err(StepStop::NoMemory),
+    }
+}
+
+// In range nothing but want of memory is refused.
+fn revise<'a, S: Session, R: Wait + Drop, A: Allocator + Copy + Drop>(
+    t: &mut Transaction<'a, S, R, A>,
+    resource: u32,
+    period: u32,
+    upper: Option<i64>,
+) -> Result<bool, StepStop>
+    ensures ok { IfOk result (λ goes. DoesStep S.instance t.old (Step.Revise resource period upper) goes t.new) }
+    ensures log { SameLog t.old.planner t.new.planner }
+{
+    match t.revise(resource, period, upper) {
+        Ok(()) => Ok(true),
+        Err(_) => Err(StepStop::NoMemory),
+    }
+}
+
+/// Puts each block of a bench into a period.
+fn bench<'a, S: Session, R: Wait + Drop, A: Allocator + Copy + Drop, B: Allocator + Copy + Drop>(
+    t: &mut Transaction<'a, S, R, A>,
+    benches: &Benches<B>,
+    height: i64,
+    period: u32,
+) -> Result<bool, StepStop>
+    requires { AreBenchesOf S.instance benches.now }
+    ensures ok { IfOk result (λ goes. DoesStep S.instance t.old (Step.Bench height period) goes t.new) }
+    ensures log { SameLog t.old.planner t.new.planner }
+{
+    let blocks = benches.bench(height);
+    for placed in blocks {
+        put_in(t, placed.1, period)?;
+    }
+    Ok(true)
+}
+
+fn shift<'a, S: Session, R: Wait + Drop, A: Allocator + Copy + Drop>(
+    t: &mut Transaction<'a, S, R, A>,
+    periods: u32,
+    b: u32,
+    is_back: bool,
+    by: u32,
+) -> Result<bool, StepStop>
+    requires periods { periods ≡ S.instance.periods }
+    requires block { b < S.instance.blocks }
+    ensures ok { IfOk result (λ goes. DoesStep S.instance t.old (Step.Shift b is_back by) goes t.new) }
+    ensures log { SameLog t.old.planner t.new.planner }
+{
+    let Some(now) = look(t, b)? else {
+        return Ok(false);
+    };
+    let Some(then) = shifted(periods, is_back, by, now) else {
+        return Ok(false);
+    };
+    put_in(t, b, then)?;
+    Ok(true)
+}
+
+/// Reads a block of the pit.
+fn look<'a, S: Session, R: Wait + Drop, A: Allocator + Copy + Drop>(
+    t: &mut Transaction<'a, S, R, A>,
+    b: u32,
+) -> Result<Option<u32>, StepStop>
+    requires { b < S.instance.blocks }
+    ensures ok { IfOk result (λ period. LooksUp t.old b period t.new) }
+    ensures log { SameLog t.old.planner t.new.planner }
+{
+    match t.read(b) {
+        Ok(period) => Ok(period),
+        Err(ReadStop::Moved { block, version }) => Err(StepStop::Moved { block, version }),
+        Err(ReadStop::NoEntry) => Err(StepStop::NoEntry),
+        Err(_) => Err(StepStop::NoMemory),
+    }
+}
+
+// In range nothing but want of memory is refused.
+fn put_in<'a, S: Session, R: Wait + Drop, A: Allocator + Copy + Drop>(
+    t: &mut Transaction<'a, S, R, A>,
+    b: u32,
+    period: u32,
+) -> Result<(), StepStop>
+    ensures ok { OnOk result (Puts t.old b (Some period) t.new) }
+    ensures log { SameLog t.old.planner t.new.planner }
+{
+    match t.put(b, period) {
+        Ok(()) => Ok(()),
+        Err(_) => Err(StepStop::NoMemory),
+    }
+}

@@ -1,0 +1,17 @@
+//! The jobs of one planner: what a try of a job does, how often it is repeated, and what becomes of a script.
+//!
+//! A try is a transaction of its own, which does the steps of the job in order and ends as the job does. Only a try that finds that a block
+//! has moved is repeated. What is proved of it is said of the planner's log: which entries a job leaves there, that each has the effect of its
+//! job over its own reads, and that the outcome is the reply of the last.
+#![tactic(auto)]
+
+mod attempt;
+mod doing;
+mod gate;
+pub mod laws;
+mod outcome;
+mod planner_run;
+
+pub use gate::{Gate, Open};
+pub use outcome::{JobStop, Outcome, RunEnd, Tried};
+pub use planner_run::{RETRIES_MAX, run_script};

@@ -1,0 +1,53 @@
+ghost use Rattle.std.specs.Prelude.{◌≡◌};
+ghost use Rattle.pit_job.specs.Outcomes.{outcome_of as outcome_by};
+
+use pit_book::{EntryReply, Refusal};
+
+/// What ends a planner's run before its last job.
+#[derive(Clone, Copy, Debug, PartialEq, Eq)]
+pub enum JobStop {
+    /// The history has as many entries as it may have.
+    Full,
+    NoMemory,
+    /// The board had no room for a read.
+    NoEntry,
+}
+
+/// How one try ended.
+#[derive(Clone, Copy, Debug, PartialEq, Eq)]
+pub enum Tried {
+    /// A block that was read has been written since, so the try is repeated.
+    Moved { block: u32, version: u32 },
+    /// The transaction was answered so, and not by Moved.
+    Answered(EntryReply),
+    Stopped(JobStop),
+}
+
+/// How a job ended, after so many tries.
+#[derive(Clone, Copy, Debug, PartialEq, Eq)]
+pub enum Outcome {
+    Committed { number: u32, tries: u32 },
+    Withdrawn { tries: u32 },
+    Refused { refusal: Refusal, tries: u32 },
+}
+
+/// How a planner's run ended. Where it ended before a job, numbered from 1, each job before that has its outcome.
+#[derive(Clone, Copy, Debug, PartialEq, Eq)]
+pub enum RunEnd {
+    Whole,
+    Full { job: u32 },
+    NoMemory { job: u32 },
+    NoEntry { job: u32 },
+    /// No thread could be started for it.
+    NoThread,
+}
+
+pub(crate) fn outcome_of(reply: EntryReply, tries: u32) -> Outcome
+    ensures { result ≡ outcome_by reply tries }
+{
+    match reply {
+        EntryReply::Committed { number } => Outcome::Committed { number, tries },
+        EntryReply::Refused(refusal) => Outcome::Refused { refusal, tries },
+        EntryReply::Withdrawn => Outcome::Withdrawn { tries },
+    }
+}
