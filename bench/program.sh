@@ -13,6 +13,11 @@ made_of() {
     cp "$here/../HANDLES" "$build"
     (cat "$here/../crates.txt"; echo "$name: $*") >"$build/crates.txt"
     cp "$here/$name.txt" "$build/crates/$name/src/main.rt"
+    # What the session of its workspace names, where it opens one.
+    if [ -f "$here/$name.session.txt" ]; then
+        mkdir -p "$build/crates/$name/proofs/played"
+        cp "$here/$name.session.txt" "$build/crates/$name/proofs/played/Invariants.antt"
+    fi
     [ -d "$build/.git" ] || git init -q "$build"
     rm -f "$program"
     # With no words it answers 2; what counts is that it was made.

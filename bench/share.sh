@@ -72,17 +72,18 @@ told() {
     echo
 }
 
-# memory NAME: what both boards and 64 seats take. The program pauses before it opens the workspace and behind that, where its memory stays.
+# memory NAME: what both boards and 64 seats take. The program pauses for a second before it opens the workspace, and behind that: its last two
+# sizes that stay for long.
 memory() {
-    local pid sizes
+    local pid before after
     "$program" "$1.cpit" "$1.prec" "$1.sol" 3 64 0 "$among" >"$build/answer" &
     pid=$!
     while kill -0 $pid 2>/dev/null; do
-        sed -n 's/^VmRSS: *\([0-9]*\) kB$/\1/p' /proc/$pid/status 2>/dev/null || true
+        sed -n 's/^VmRSS:[[:space:]]*\([0-9]*\) kB$/\1/p' /proc/$pid/status 2>/dev/null || true
         sleep 0.02
     done >"$build/sizes"
-    mapfile -t sizes < <(sort "$build/sizes" | uniq -c | sort -rn | awk 'NR <= 2 { print $2 }' | sort -n)
-    awk -v blocks="$(awk '$1 == "NBLOCKS:" { print $2; exit }' "$1.cpit")" -v more=$((sizes[1] - sizes[0])) \
+    read -r before after < <(uniq -c "$build/sizes" | awk '$1 >= 15 { before = after; after = $2 } END { print before + 0, after + 0 }')
+    awk -v blocks="$(awk '$1 == "NBLOCKS:" { print $2; exit }' "$1.cpit")" -v more=$((after - before)) \
         'BEGIN { printf "%.1f MB, %.2f bytes a block\n", more / 1000 * 1.024, more * 1024 / blocks }'
 }
 

@@ -1,0 +1,79 @@
+-- A closed history after a run.
+use Rattle.std.proofs.lemmas.List.Elements.{All-nil, All-cons, All-head, All-tail}
+use Rattle.std.proofs.lemmas.Option.{slice_get_within, get_or_from_slice_get}
+use Rattle.std.proofs.lemmas.Bool.Decides.{nat_tests}
+use Rattle.std.proofs.Common.{◌≡◌, ℕ, zero, suc, ◌+◌, ◌<◌, ◌≤◌, ◌==◌, Bool, true, false, List, [], ◌∷◌, length, get_or, drop, add-zero, zero-add, refl, sym, ap, subst, ◌∙◌, arith, inl, inr}
+use Rattle.std.specs.Prelude.{All, Option, Some, None, slice_get, if◌then◌else◌, ◌⊎◌, ℤ}
+use Rattle.pit_model.specs.Pit.{Pit}
+use Rattle.pit_book.specs.History.{Answered}
+use Rattle.pit_book.specs.State.{State}
+use Rattle.pit_book.specs.OneThread.{IsOfOneThread, held_period_after}
+use Rattle.pit_book.specs.declared.reply.EntryReply.TheVariants as reply
+use Rattle.pit_script.specs.Jobs.{Job}
+use Rattle.pit_share.specs.Logs.{entries_of}
+use Rattle.pit_effect.proofs.CallerLemmas.{committed-effect}
+use Rattle.pit_job.specs.Runs.{RanFrom}
+use Rattle.pit_job.specs.Laws.{HasOwnEffect, WroteEffect}
+use Rattle.pit_job.proofs.CallerLemmas.{own-effects}
+use Rattle.pit_run.specs.Reports.{RunState, RanScript, NotStarted, AllDid, IsReport}
+use Rattle.pit_run.specs.Laws.{IsOneByOne}
+
+-- what is so of a planner's entries
+all-mine : (P : Answered → Type 0) (k : ℕ) (es : List Answered) → All P (entries_of k es) → All (λ e. e.call.planner ≡ k → P e) es
+all-mine P k [] all = All-nil (λ e. e.call.planner ≡ k → P e)
+all-mine P k (e ∷ es) all = by (e.call.planner == k) refl (all-mine P k es) all
+  where
+    by : (b : Bool) → (e.call.planner == k) ≡ b → (All P (entries_of k es) → All (λ e. e.call.planner ≡ k → P e) es) → All P (if b then e ∷ entries_of k es else entries_of k es) → All (λ e. e.call.planner ≡ k → P e) (e ∷ es)
+    by true is later all = All-cons (λ e. e.call.planner ≡ k → P e) e es (λ same. All-head P e (entries_of k es) all) (later (All-tail P e (entries_of k es) all))
+    by false is later all = All-cons (λ e. e.call.planner ≡ k → P e) e es (λ same. absurd (grind (arith, nat_tests))) (later all)
+
+past-at : (xs : List Answered) (m i : ℕ) → slice_get (drop m xs) i ≡ slice_get xs (m + i)
+past-at xs zero i = ap (slice_get xs) (sym (zero-add i))
+past-at [] (suc m) i = refl
+past-at (x ∷ xs) (suc m) i = past-at xs m i ∙ ap (slice_get (x ∷ xs)) (suc-add m i)
+  where
+    suc-add : (a b : ℕ) → suc (a + b) ≡ suc a + b
+    suc-add a b = omega arith
+
+did-at : (pit : Pit) (retries k : ℕ) (past : List Answered) (ss : List (List Job)) (rs : List RunState) → AllDid pit retries k past ss rs → (p : ℕ) (s : List Job) → slice_get ss p ≡ Some s
+    → (r : RunState) × (slice_get rs p ≡ Some r) × RanScript pit retries s (k + p) (entries_of (k + p) past) r
+did-at pit retries k past [] rs all p s at = absurd (cc at)
+did-at pit retries k past (x ∷ ss) [] all p s at = absurd all
+did-at pit retries k past (x ∷ ss) (r ∷ rs) (first, rest) zero s at =
+    let a : x ≡ s = cc at in
+    (r, refl, rw (add-zero, ← a) first)
+did-at pit retries k past (x ∷ ss) (r ∷ rs) (first, rest) (suc p) s at =
+    let number : (k + 1) + p ≡ k + suc p = omega arith in
+    let d = did-at pit retries (k + 1) past ss rs rest p s at in
+    (d.0, d.1, subst (λ (n : ℕ). RanScript pit retries s n (entries_of n past) d.0) number d.2)
+
+pub each-planner : (pit : Pit) (opening : List Answered) (retries : ℕ) (scripts : List (List Job)) (desk : State) (runs : List RunState) → IsReport pit opening retries scripts desk runs
+    → (p : ℕ) (script : List Job) → slice_get scripts p ≡ Some script
+    → (run : RunState) × (slice_get runs p ≡ Some run) × RanScript pit retries script (1 + p) (entries_of (1 + p) (drop (length opening) desk.history)) run
+each-planner pit opening retries scripts desk runs report p script at = did-at pit retries 1 (drop (length opening) desk.history) scripts runs report.did p script at
+
+script-effects : (pit : Pit) (retries k : ℕ) (s : List Job) (es : List Answered) (r : RunState) → RanScript pit retries s k es r → All (λ e. HasOwnEffect pit 1 s e) es
+script-effects pit retries k s es r ran = by ran.ran
+  where
+    by : (RanFrom pit retries 1 s es r.jobs r.ended ⊎ NotStarted es r) → All (λ e. HasOwnEffect pit 1 s e) es
+    by (inl h) = own-effects pit retries 1 s es r.jobs r.ended h
+    by (inr n) = subst (All (λ e. HasOwnEffect pit 1 s e)) (sym n.none) (All-nil (λ e. HasOwnEffect pit 1 s e))
+
+-- an entry past the opening that was committed made its job's changes to the schedule before it
+pub one-by-one : (pit : Pit) (desk : State) (value : ℤ) (opening : List Answered) (retries : ℕ) (scripts : List (List Job)) (runs : List RunState)
+    → IsOfOneThread pit desk.history value → IsReport pit opening retries scripts desk runs → IsOneByOne pit (length opening) scripts desk.history
+one-by-one pit desk value opening retries scripts runs one report = record {
+  each = λ i p number e script at is planner here.
+      let past = drop (length opening) desk.history in
+      let d = did-at pit retries 1 past scripts runs report.did p script here in
+      let own = all-mine (λ e. HasOwnEffect pit 1 script e) (1 + p) past (script-effects pit retries (1 + p) script (entries_of (1 + p) past) d.0 d.2) in
+      let got : slice_get past i ≡ Some e = past-at desk.history (length opening) i ∙ at in
+      let has = subst (λ (x : Answered). x.call.planner ≡ 1 + p → HasOwnEffect pit 1 script x) (get_or_from_slice_get past i e e got) (own i e (slice_get_within past i e got)) planner in
+      record {
+        place = has.place;
+        task = has.task;
+        number = has.number;
+        at = has.at;
+        wrote = committed-effect pit desk.history value one (length opening + i) number e has.task at is has.effect;
+      };
+}

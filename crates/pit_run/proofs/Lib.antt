@@ -1,0 +1,2 @@
+pub mod Threading
+pub mod Closing

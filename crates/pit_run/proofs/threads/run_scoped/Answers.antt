@@ -1,0 +1,38 @@
+use Rattle.std.proofs.Common.{rules}
+use denote.Param.Send.{sendable}
+use Rattle.pit_run.proofs.threads.run_scoped.Goals as goal
+
+pub scoped-requires : goal.scoped-requires
+scoped-requires g c =
+    let asked = c.requires in
+    let b = c.type_bounds in
+    record {
+      at = λ a. (
+        asked.benches,
+        (
+          asked.periods,
+          (
+            asked.few,
+            (
+              asked.in_range,
+              (
+                asked.seats,
+                (
+                  asked.each,
+                  (
+                    asked.planners,
+                    (
+                      asked.none,
+                      (
+                        asked.room,
+                        (search (rules, sendable), search (rules, sendable), b.send-A, search (rules, sendable), search (rules, sendable), b.sync-A, search (rules, sendable), search (rules, sendable), b.frees-A-Allocator),
+                      ),
+                    ),
+                  ),
+                ),
+              ),
+            ),
+          ),
+        ),
+      );
+    }

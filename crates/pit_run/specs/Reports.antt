@@ -1,0 +1,60 @@
+-- What a run leaves.
+use Rattle.std.specs.Prelude.{◌≡◌, ℕ, ◌+◌, ◌⊎◌, List, [], ◌∷◌, drop, length}
+use Rattle.pit_model.specs.Pit.{Pit}
+use Rattle.pit_book.specs.History.{Answered}
+use Rattle.pit_book.specs.State.{State}
+use Rattle.pit_share.specs.Planners.{PlannerState}
+use Rattle.pit_share.specs.Logs.{entries_of}
+use Rattle.pit_share.specs.Closing.{IsClosed}
+use Rattle.pit_script.specs.Jobs.{Job}
+use Rattle.pit_job.specs.Runs.{RanFrom}
+use Rattle.pit_job.specs.declared.outcome.Outcome.{Outcome}
+use Rattle.pit_job.specs.declared.outcome.RunEnd.{RunEnd}
+use Rattle.pit_job.specs.declared.outcome.RunEnd.TheVariants as end
+
+pub record RunState : Type 0 where
+  pub planner : ℕ
+  pub jobs : List Outcome
+  pub ended : RunEnd
+
+abbrev pub run_of : ℕ → List Outcome → RunEnd → RunState
+run_of planner jobs ended = record { planner = planner; jobs = jobs; ended = ended }
+
+-- no thread could be started for it
+pub record NotStarted (es : List Answered) (run : RunState) : Type 0 where
+  pub ended : run.ended ≡ end.NoThread
+  pub jobs : run.jobs ≡ []
+  pub none : es ≡ []
+
+-- a planner did its script, with these entries
+pub record RanScript (pit : Pit) (retries : ℕ) (script : List Job) (planner : ℕ) (es : List Answered) (run : RunState) : Type 0 where
+  pub number : run.planner ≡ planner
+  pub ran : RanFrom pit retries 1 script es run.jobs run.ended ⊎ NotStarted es run
+
+-- and handed in this log
+pub record PlannerRan (pit : Pit) (retries : ℕ) (script : List Job) (planner : ℕ) (log : PlannerState) (run : RunState) : Type 0 where
+  pub number : log.number ≡ planner
+  pub script_ran : RanScript pit retries script planner log.items run
+
+-- each of the planners from this one on
+abbrev pub AllRan : Pit → ℕ → ℕ → List (List Job) → List PlannerState → List RunState → Type 0
+AllRan pit retries planner [] [] [] = Unit {0}
+AllRan pit retries planner [] [] (run ∷ runs) = ⊥
+AllRan pit retries planner [] (log ∷ logs) runs = ⊥
+AllRan pit retries planner (script ∷ scripts) [] runs = ⊥
+AllRan pit retries planner (script ∷ scripts) (log ∷ logs) [] = ⊥
+AllRan pit retries planner (script ∷ scripts) (log ∷ logs) (run ∷ runs) = PlannerRan pit retries script planner log run × AllRan pit retries (planner + 1) scripts logs runs
+
+-- each planner from this one on did its script, with its own of these entries
+abbrev pub AllDid : Pit → ℕ → ℕ → List Answered → List (List Job) → List RunState → Type 0
+AllDid pit retries planner past [] [] = Unit {0}
+AllDid pit retries planner past [] (run ∷ runs) = ⊥
+AllDid pit retries planner past (script ∷ scripts) [] = ⊥
+AllDid pit retries planner past (script ∷ scripts) (run ∷ runs) =
+    RanScript pit retries script planner (entries_of planner past) run × AllDid pit retries (planner + 1) past scripts runs
+
+-- the workspace was closed by logs, so no entry past the opening ones is another's, and each planner did its script, with its own of those entries
+pub record IsReport (pit : Pit) (opening : List Answered) (retries : ℕ) (scripts : List (List Job)) (desk : State) (runs : List RunState) : Type 0 where
+  pub logs : List PlannerState
+  pub closed : IsClosed pit opening (length scripts) logs desk
+  pub did : AllDid pit retries 1 (drop (length opening) desk.history) scripts runs

@@ -1,0 +1,32 @@
+//! Laws of runs.
+ghost use Rattle.std.specs.Prelude.{◌≡◌, ℕ, ◌+◌, List, slice_get, Some, length, drop};
+ghost use Rattle.pit_model.specs.Pit.{Pit};
+ghost use Rattle.pit_book.specs.History.{Answered};
+ghost use Rattle.pit_book.specs.State.{State};
+ghost use Rattle.pit_book.specs.OneThread.{IsOfOneThread};
+ghost use Rattle.pit_script.specs.Jobs.{Job};
+ghost use Rattle.pit_share.specs.Logs.{entries_of};
+ghost use Rattle.pit_run.specs.Reports.{RunState, IsReport, RanScript};
+ghost use Rattle.pit_run.specs.Laws.{IsOneByOne};
+
+use crate::report::Report;
+use pit_book::one_thread;
+use std::alloc::Allocator;
+
+/// A law of reports: the run of each planner is that of its own script and of its own entries past the opening ones.
+pub fn each_planner()
+    ensures { (pit : Pit) (opening : List Answered) (retries : ℕ) (scripts : List (List Job)) (desk : State) (runs : List RunState) → IsReport pit opening retries scripts desk runs
+        → (p : ℕ) (script : List Job) → slice_get scripts p ≡ Some script
+        → (run : RunState) × (slice_get runs p ≡ Some run) × RanScript pit retries script (1 + p) (entries_of (1 + p) (drop (length opening) desk.history)) run }
+{}
+
+/// A law of reports: the closed history is one of one thread, in which the committed jobs were done one after another, after the opening: each
+/// committed entry made the changes that its own job makes to the schedule after the entries before it. The result is the value of the
+/// schedule that is left, in units of 10^-18.
+pub fn one_after_another<A: Allocator + Copy + Drop>(report: &Report<A>) -> i128
+    ensures one_thread { IsOfOneThread report.now.closed.plan.pit report.now.closed.history result }
+    ensures one_by_one { (opening : List Answered) (retries : ℕ) (scripts : List (List Job)) → IsReport report.now.closed.plan.pit opening retries scripts report.now.closed report.now.runs.items
+        → IsOneByOne report.now.closed.plan.pit (length opening) scripts report.now.closed.history }
+{
+    one_thread(report.closed.desk())
+}

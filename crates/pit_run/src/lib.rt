@@ -1,0 +1,15 @@
+//! Planners in threads of their own, each with a script, who edit one schedule at once.
+//!
+//! Each planner's thread does the jobs of its script in order, as `pit_job` says, on one workspace, which is then closed. What is proved of the
+//! closed history is said of each planner's own entries: which job left which, with which effect, and that the outcomes tell it.
+#![tactic(auto)]
+
+pub mod laws;
+mod planner_run;
+mod report;
+mod running;
+mod threads;
+
+pub use planner_run::PlannerRun;
+pub use report::{Report, RunError};
+pub use running::run;

@@ -1,0 +1,28 @@
+use crate::planner_run::PlannerRun;
+use pit_board::Session;
+use pit_share::{CloseError, Closed, PlannerLog, Seat, Workspace};
+use std::alloc::Allocator;
+use std::sync::Wait;
+
+/// The closed desk, and how each planner's jobs ended, by rising planner.
+#[derive(Drop)]
+pub struct Report<A: Allocator + Copy + Drop> {
+    pub closed: Closed<A>,
+    pub runs: Vec<PlannerRun<A>, A>,
+}
+
+/// Why there is no report.
+#[derive(Drop)]
+pub enum RunError<S: Session, R: Wait + Drop, A: Allocator + Copy + Drop> {
+    /// No thread was started.
+    NoMemory {
+        workspace: Workspace<S, R, A>,
+        seats: Vec<Seat<S, A>, A>,
+    },
+    /// Each planner has ended, and the workspace was not closed by the logs.
+    NotClosed {
+        workspace: Workspace<S, R, A>,
+        logs: Vec<PlannerLog<S, A>, A>,
+        cause: CloseError,
+    },
+}

@@ -1,0 +1,180 @@
+//! Planners who write the same few blocks at once: each committed entry is what its job does to the schedule before it.
+ghost use Rattle.std.specs.Prelude.{◌≡◌, length};
+
+use super::{assert_legal, benches_of, empty_desk, report_of, script_of, tiny};
+use pit_book::{Entry, EntryReply};
+use pit_job::Open;
+use pit_sample::Series;
+use pit_script::{Benches, JobEnd, Script, Step};
+use std::alloc::{AllocError, Global};
+use std::fmt::Write;
+use std::process::Abort;
+use std::sync::Wait;
+use std::thread::Threads;
+
+/// The runs of each number of planners.
+const SEEDS: u32 = 70;
+
+/// The jobs of each planner.
+const JOBS: u32 = 5;
+
+#[test]
+fn two_planners(rt: HostRuntime) {
+    for seed in 0..SEEDS {
+        let texts = [
+            text_of(&rt, rt.alloc(), seed, 1),
+            text_of(&rt, rt.alloc(), seed, 2),
+        ];
+        let [a, b] = &texts;
+        play(&rt, rt.alloc(), &[a.as_bytes(), b.as_bytes()], 2);
+    }
+}
+
+#[test]
+fn four_planners(rt: HostRuntime) {
+    for seed in 0..SEEDS {
+        let texts = [
+            text_of(&rt, rt.alloc(), seed, 3),
+            text_of(&rt, rt.alloc(), seed, 4),
+            text_of(&rt, rt.alloc(), seed, 5),
+            text_of(&rt, rt.alloc(), seed, 6),
+        ];
+        let [a, b, c, d] = &texts;
+        let all = [a.as_bytes(), b.as_bytes(), c.as_bytes(), d.as_bytes()];
+        play(&rt, rt.alloc(), &all, 4);
+    }
+}
+
+/// A planner's script.
+fn text_of(rt: &impl Abort, alloc: Global, seed: u32, planner: u32) -> String {
+    let mut series = Series::new(seed.wrapping_mul(64).wrapping_add(planner));
+    let mut text = String::new(alloc);
+    for _ in 0..JOBS {
+        assert!(rt; text.push_str("begin\n").is_ok());
+        for _ in 0..series.below(4) {
+            assert!(rt; write_step(&mut text, &mut series).is_ok());
+        }
+        let end = if series.below(6) == 0 {
+            "abort\n"
+        } else {
+            "commit\n"
+        };
+        assert!(rt; text.push_str(end).is_ok());
+    }
+    text
+}
+
+fn write_step(text: &mut String, series: &mut Series) -> Result<(), AllocError> {
+    let (b, t) = (series.below(4), series.below(2));
+    match series.below(7) {
+        0 => writeln!(text, "read {b}"),
+        1 | 2 => writeln!(text, "put {b} {t}"),
+        3 => writeln!(text, "clear {b}"),
+        4 => writeln!(text, "shift {b} -1"),
+        5 => writeln!(text, "bench {t} {t}"),
+        _ => writeln!(text, "revise 0 {t} {}", series.below(9)),
+    }
+}
+
+fn play<R: Threads + Wait + Abort + Sync>(rt: &R, alloc: Global, texts: &[&[u8]], planners: u32)
+    requires { length texts.now ≡ planners }
+{
+    let desk = empty_desk(rt, alloc, 1_000);
+    let report = report_of(rt, alloc, desk, texts, planners, 3, &Open);
+    assert_legal(rt, alloc, &report);
+    assert_each(rt, alloc, texts, report.closed.desk().history());
+}
+
+/// What is known of a schedule of the small pit.
+type Held = [Option<u32>; 4];
+
+fn assert_each(rt: &impl Abort, alloc: Global, texts: &[&[u8]], history: &[Entry<Global>]) {
+    let pit = tiny(rt, alloc);
+    let benches = benches_of(rt, alloc, &pit);
+    let mut held: Held = [None; 4];
+    for entry in history {
+        if matches!(entry.reply, EntryReply::Committed { .. }) {
+            let text = texts
+                .get(entry.planner.wrapping_sub(1) as usize)
+                .expect(rt, "a planner");
+            let script = script_of(rt, alloc, &pit, &benches, text);
+            assert_own(rt, alloc, &script, &benches, &held, entry);
+            held = after(held, entry);
+        }
+    }
+}
+
+fn after(held: Held, entry: &Entry<Global>) -> Held {
+    let mut now = held;
+    for (b, period) in entry.writes.items() {
+        if let Some(slot) = now.get_mut(*b as usize) {
+            *slot = *period;
+        }
+    }
+    now
+}
+
+/// The writes are those of the entry's job.
+fn assert_own(
+    rt: &impl Abort,
+    alloc: Global,
+    script: &Script<Global>,
+    benches: &Benches<Global>,
+    held: &Held,
+    entry: &Entry<Global>,
+) {
+    let i = entry.job.wrapping_sub(1);
+    assert!(rt; i < script.jobs());
+    let (steps, end) = script.job(i);
+    assert!(rt; end == JobEnd::Commit);
+    let mut own: Vec<(u32, Option<u32>)> = Vec::new(alloc);
+    for step in steps {
+        assert!(rt; is_done(rt, &mut own, benches, held, *step));
+    }
+    assert!(rt; own.as_slice() == entry.writes.items());
+}
+
+/// Whether a step is done, and to what.
+fn is_done(
+    rt: &impl Abort,
+    own: &mut Vec<(u32, Option<u32>)>,
+    benches: &Benches<Global>,
+    held: &Held,
+    step: Step,
+) -> bool {
+    match step {
+        Step::Read { .. } | Step::Revise { .. } => {}
+        Step::Put { block, period } => put(rt, own, block, Some(period)),
+        Step::Clear { block } => put(rt, own, block, None),
+        Step::Shift { block, .. } => match seen(own, held, block) {
+            Some(1) => put(rt, own, block, Some(0)),
+            _ => return false,
+        },
+        Step::Bench { height, period } => {
+            for placed in benches.bench(height) {
+                put(rt, own, placed.1, Some(period));
+            }
+        }
+    }
+    true
+}
+
+/// The own write of a block, or else what is held.
+fn seen(own: &[(u32, Option<u32>)], held: &Held, block: u32) -> Option<u32> {
+    for (b, period) in own {
+        if *b == block {
+            return *period;
+        }
+    }
+    held.get(block as usize).copied().flatten()
+}
+
+fn put(rt: &impl Abort, own: &mut Vec<(u32, Option<u32>)>, block: u32, period: Option<u32>) {
+    for slot in own.iter_mut() {
+        if slot.0 == block {
+            slot.1 = period;
+            return;
+        }
+    }
+    assert!(rt; own.push((block, period)).is_ok());
+}
