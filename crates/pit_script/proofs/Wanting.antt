@@ -9,7 +9,7 @@ use Rattle.pit_text.specs.Numbers.{is_ascii}
 use Rattle.pit_text.specs.Stands.{◌>>=◌, FailsWhole}
 use Rattle.pit_script.specs.Benches.{has_bench}
 use Rattle.pit_script.specs.Jobs.{progress_of, script_line, script_end}
-use Rattle.pit_script.specs.Lines.{no_field, one_field, two_fields, three_fields, in_job, block_below, resource_below, period_below, begin_line, end_line_of, read_line, clear_line, put_line, shift_line, bench_line, revise_line, line_of_word, line_fact}
+use Rattle.pit_script.specs.Lines.{no_field, one_field, two_fields, three_fields, in_job, below, begin_line, end_line_of, read_line, clear_line, put_line, shift_line, bench_line, revise_line, line_of_word, line_fact}
 use Rattle.pit_script.specs.Numbers.{or_refused, read_as, shift_of}
 use Rattle.pit_script.specs.Words.{word_of, or_unknown, word_in}
 use Rattle.pit_script.specs.declared.error.ScriptCause.{ScriptCause}
@@ -78,14 +78,8 @@ own_refused (Err e) is = cc
 own_read : {X : Type 0} (number_of : List ℕ → Result X NumError) (field : List ℕ) → IsOwn (read_as number_of field)
 own_read number_of field = own_if (is_ascii field) (or_refused (number_of field)) (Err NotAscii) (own_refused (number_of field)) own_ascii
 
-own_block_below : (blocks block : ℕ) → IsOwn (block_below blocks block)
-own_block_below blocks block = own_if (nat_le blocks block) (Err BlockRange) (Ok block) own_block (own_ok block)
-
-own_resource_below : (resources resource : ℕ) → IsOwn (resource_below resources resource)
-own_resource_below resources resource = own_if (nat_le resources resource) (Err ResourceRange) (Ok resource) own_resource (own_ok resource)
-
-own_period_below : (periods period : ℕ) → IsOwn (period_below periods period)
-own_period_below periods period = own_if (nat_le periods period) (Err PeriodRange) (Ok period) own_period (own_ok period)
+own_below : (count n : ℕ) (cause : ScriptCause) → IsOwn {X = ℕ} (Err cause) → IsOwn (below count n cause)
+own_below count n cause own = own_if (nat_le count n) (Err cause) (Ok n) own (own_ok n)
 
 -- ---- fields
 
@@ -128,36 +122,36 @@ own_end how is_open fields = own_none _ fields (own_in_job is_open _ (own_ok (sa
 own_read_line : (blocks : ℕ) (is_open : Bool) (fields : List (List ℕ)) → IsOwn (read_line blocks is_open fields)
 unfolding read_line
 own_read_line blocks is_open fields =
-    own_one _ fields (λ b. own_in_job is_open _ (own_then _ _ (own_read whole_of b) (λ block. own_then _ _ (own_block_below blocks block) (λ n. own_ok _))))
+    own_one _ fields (λ b. own_in_job is_open _ (own_then _ _ (own_read whole_of b) (λ block. own_then _ _ (own_below blocks block BlockRange own_block) (λ n. own_ok _))))
 
 own_clear_line : (blocks : ℕ) (is_open : Bool) (fields : List (List ℕ)) → IsOwn (clear_line blocks is_open fields)
 unfolding clear_line
 own_clear_line blocks is_open fields =
-    own_one _ fields (λ b. own_in_job is_open _ (own_then _ _ (own_read whole_of b) (λ block. own_then _ _ (own_block_below blocks block) (λ n. own_ok _))))
+    own_one _ fields (λ b. own_in_job is_open _ (own_then _ _ (own_read whole_of b) (λ block. own_then _ _ (own_below blocks block BlockRange own_block) (λ n. own_ok _))))
 
 own_put_line : (blocks periods : ℕ) (is_open : Bool) (fields : List (List ℕ)) → IsOwn (put_line blocks periods is_open fields)
 unfolding put_line
 own_put_line blocks periods is_open fields =
     own_two _ fields (λ b t. own_in_job is_open _ (own_then _ _ (own_read whole_of b) (λ block. own_then _ _ (own_read whole_of t) (λ period.
-    own_then _ _ (own_block_below blocks block) (λ n. own_then _ _ (own_period_below periods period) (λ m. own_ok _))))))
+    own_then _ _ (own_below blocks block BlockRange own_block) (λ n. own_then _ _ (own_below periods period PeriodRange own_period) (λ m. own_ok _))))))
 
 own_shift_line : (blocks : ℕ) (is_open : Bool) (fields : List (List ℕ)) → IsOwn (shift_line blocks is_open fields)
 unfolding shift_line
 own_shift_line blocks is_open fields =
     own_two _ fields (λ b d. own_in_job is_open _ (own_then _ _ (own_read whole_of b) (λ block. own_then _ _ (own_read shift_of d) (λ shift.
-    own_then _ _ (own_block_below blocks block) (λ n. own_ok _)))))
+    own_then _ _ (own_below blocks block BlockRange own_block) (λ n. own_ok _)))))
 
 own_bench_line : (pit : Pit) (is_open : Bool) (fields : List (List ℕ)) → IsOwn (bench_line pit is_open fields)
 unfolding bench_line
 own_bench_line pit is_open fields =
     own_two _ fields (λ z t. own_in_job is_open _ (own_then _ _ (own_read micro_of z) (λ height. own_then _ _ (own_read whole_of t) (λ period.
-    own_then _ _ (own_period_below pit.periods period) (λ m. own_if (has_bench pit height) _ _ (own_ok _) own_bench)))))
+    own_then _ _ (own_below pit.periods period PeriodRange own_period) (λ m. own_if (has_bench pit height) _ _ (own_ok _) own_bench)))))
 
 own_revise_line : (resources periods : ℕ) (is_open : Bool) (fields : List (List ℕ)) → IsOwn (revise_line resources periods is_open fields)
 unfolding revise_line
 own_revise_line resources periods is_open fields =
     own_three _ fields (λ r t v. own_in_job is_open _ (own_then _ _ (own_read whole_of r) (λ resource. own_then _ _ (own_read whole_of t) (λ period. own_then _ _ (own_read upper_bound_of v) (λ upper.
-    own_then _ _ (own_resource_below resources resource) (λ n. own_then _ _ (own_period_below periods period) (λ m. own_ok _)))))))
+    own_then _ _ (own_below resources resource ResourceRange own_resource) (λ n. own_then _ _ (own_below periods period PeriodRange own_period) (λ m. own_ok _)))))))
 
 own_line_of_word : (pit : Pit) (is_open : Bool) (jobs : ℕ) (w : Word) (fields : List (List ℕ)) → IsOwn (line_of_word pit is_open jobs w fields)
 own_line_of_word pit is_open jobs word.Begin fields = own_begin is_open jobs fields

@@ -48,14 +48,8 @@ three_fields says (a ∷ b ∷ c ∷ d ∷ more) = Err FieldCount
 abbrev pub in_job : Bool → Result ScriptFact ScriptCause → Result ScriptFact ScriptCause
 in_job is_open says = if is_open then says else Err Order
 
-abbrev pub block_below : ℕ → ℕ → Result ℕ ScriptCause
-block_below blocks block = if nat_le blocks block then Err BlockRange else Ok block
-
-abbrev pub resource_below : ℕ → ℕ → Result ℕ ScriptCause
-resource_below resources resource = if nat_le resources resource then Err ResourceRange else Ok resource
-
-abbrev pub period_below : ℕ → ℕ → Result ℕ ScriptCause
-period_below periods period = if nat_le periods period then Err PeriodRange else Ok period
+abbrev pub below : ℕ → ℕ → ScriptCause → Result ℕ ScriptCause
+below count n cause = if nat_le count n then Err cause else Ok n
 
 abbrev pub does : Step → Result ScriptFact ScriptCause
 does done = Ok (says.Does done)
@@ -71,21 +65,21 @@ end_line_of end is_open fields = no_field (in_job is_open (Ok (says.Ends end))) 
 
 unfoldable pub read_line : ℕ → Bool → List (List ℕ) → Result ScriptFact ScriptCause
 read_line blocks is_open fields = one_field (λ b. in_job is_open (
-    read_as whole_of b >>= (λ block. block_below blocks block >>= (λ block. does (step.Read block))))) fields
+    read_as whole_of b >>= (λ block. below blocks block BlockRange >>= (λ block. does (step.Read block))))) fields
 
 unfoldable pub clear_line : ℕ → Bool → List (List ℕ) → Result ScriptFact ScriptCause
 clear_line blocks is_open fields = one_field (λ b. in_job is_open (
-    read_as whole_of b >>= (λ block. block_below blocks block >>= (λ block. does (step.Clear block))))) fields
+    read_as whole_of b >>= (λ block. below blocks block BlockRange >>= (λ block. does (step.Clear block))))) fields
 
 unfoldable pub put_line : ℕ → ℕ → Bool → List (List ℕ) → Result ScriptFact ScriptCause
 put_line blocks periods is_open fields = two_fields (λ b t. in_job is_open (
     read_as whole_of b >>= (λ block. read_as whole_of t >>= (λ period.
-    block_below blocks block >>= (λ block. period_below periods period >>= (λ period. does (step.Put block period))))))) fields
+    below blocks block BlockRange >>= (λ block. below periods period PeriodRange >>= (λ period. does (step.Put block period))))))) fields
 
 unfoldable pub shift_line : ℕ → Bool → List (List ℕ) → Result ScriptFact ScriptCause
 shift_line blocks is_open fields = two_fields (λ b d. in_job is_open (
     read_as whole_of b >>= (λ block. read_as shift_of d >>= (λ shift.
-    block_below blocks block >>= (λ block. does (step.Shift block shift.0 shift.1)))))) fields
+    below blocks block BlockRange >>= (λ block. does (step.Shift block shift.0 shift.1)))))) fields
 
 abbrev pub bench_in : Pit → ℤ → ℕ → Result ScriptFact ScriptCause
 bench_in pit height period = if has_bench pit height then does (step.Bench height period) else Err NoBench
@@ -93,12 +87,12 @@ bench_in pit height period = if has_bench pit height then does (step.Bench heigh
 unfoldable pub bench_line : Pit → Bool → List (List ℕ) → Result ScriptFact ScriptCause
 bench_line pit is_open fields = two_fields (λ z t. in_job is_open (
     read_as micro_of z >>= (λ height. read_as whole_of t >>= (λ period.
-    period_below pit.periods period >>= (λ period. bench_in pit height period))))) fields
+    below pit.periods period PeriodRange >>= (λ period. bench_in pit height period))))) fields
 
 unfoldable pub revise_line : ℕ → ℕ → Bool → List (List ℕ) → Result ScriptFact ScriptCause
 revise_line resources periods is_open fields = three_fields (λ r t v. in_job is_open (
     read_as whole_of r >>= (λ resource. read_as whole_of t >>= (λ period. read_as upper_bound_of v >>= (λ upper.
-    resource_below resources resource >>= (λ resource. period_below periods period >>= (λ period. does (step.Revise resource period upper)))))))) fields
+    below resources resource ResourceRange >>= (λ resource. below periods period PeriodRange >>= (λ period. does (step.Revise resource period upper)))))))) fields
 
 -- a line that begins with this word
 abbrev pub line_of_word : Pit → Bool → ℕ → Word → List (List ℕ) → Result ScriptFact ScriptCause

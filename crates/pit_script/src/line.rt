@@ -3,7 +3,7 @@ ghost use Rattle.pit_model.specs.Pit.{Pit};
 ghost use Rattle.pit_text.specs.Left.{fields_left};
 ghost use Rattle.pit_script.specs.Benches.{AreBenchesOf};
 ghost use Rattle.pit_script.specs.Ranges.{IsFactIn};
-ghost use Rattle.pit_script.specs.Lines.{MayStand, line_fact, line_of_word, bench_line, bench_in, revise_line, begin_line, end_line_of, read_line, clear_line, put_line, shift_line, block_below, resource_below, period_below};
+ghost use Rattle.pit_script.specs.Lines.{MayStand, line_fact, line_of_word, bench_line, bench_in, revise_line, begin_line, end_line_of, read_line, clear_line, put_line, shift_line, below};
 
 use super::benches::Benches;
 use super::error::ScriptCause;
@@ -83,7 +83,7 @@ fn bench_line<A: Allocator + Copy + Drop, B: Allocator + Copy + Drop>(
     }
     let height = decimal(z)?;
     let period = whole(t)?;
-    let period = period_below(pit.periods(), period)?;
+    let period = below(pit.periods(), period, ScriptCause::PeriodRange)?;
     bench_in(pit, benches, height, period)
 }
 
@@ -131,8 +131,8 @@ fn revise_line(
     let resource = whole(r)?;
     let period = whole(t)?;
     let upper = upper(v)?;
-    let resource = resource_below(resources, resource)?;
-    let period = period_below(periods, period)?;
+    let resource = below(resources, resource, ScriptCause::ResourceRange)?;
+    let period = below(periods, period, ScriptCause::PeriodRange)?;
     Ok(ScriptFact::Does(Step::Revise {
         resource,
         period,
@@ -189,7 +189,7 @@ fn read_line(mut fields: Fields<'_>, is_open: bool, blocks: u32) -> Result<Scrip
     if !is_open {
         return Err(ScriptCause::Order);
     }
-    let block = block_below(blocks, whole(b)?)?;
+    let block = below(blocks, whole(b)?, ScriptCause::BlockRange)?;
     Ok(ScriptFact::Does(Step::Read { block }))
 }
 
@@ -205,7 +205,7 @@ fn clear_line(mut fields: Fields<'_>, is_open: bool, blocks: u32) -> Result<Scri
     if !is_open {
         return Err(ScriptCause::Order);
     }
-    let block = block_below(blocks, whole(b)?)?;
+    let block = below(blocks, whole(b)?, ScriptCause::BlockRange)?;
     Ok(ScriptFact::Does(Step::Clear { block }))
 }
 
@@ -228,8 +228,8 @@ fn put_line(
     }
     let block = whole(b)?;
     let period = whole(t)?;
-    let block = block_below(blocks, block)?;
-    let period = period_below(periods, period)?;
+    let block = below(blocks, block, ScriptCause::BlockRange)?;
+    let period = below(periods, period, ScriptCause::PeriodRange)?;
     Ok(ScriptFact::Does(Step::Put { block, period }))
 }
 
@@ -247,36 +247,17 @@ fn shift_line(mut fields: Fields<'_>, is_open: bool, blocks: u32) -> Result<Scri
     }
     let block = whole(b)?;
     let (is_back, by) = shift(d)?;
-    let block = block_below(blocks, block)?;
+    let block = below(blocks, block, ScriptCause::BlockRange)?;
     Ok(ScriptFact::Does(Step::Shift { block, is_back, by }))
 }
 
-fn block_below(blocks: u32, block: u32) -> Result<u32, ScriptCause>
-    ensures value { result ≡ block_below blocks block }
-    ensures below { IfOk result (λ n. n < blocks) }
+/// A number that is below a count, or the cause that it isn't.
+fn below(count: u32, n: u32, cause: ScriptCause) -> Result<u32, ScriptCause>
+    ensures value { result ≡ below count n cause }
+    ensures below { IfOk result (λ n. n < count) }
 {
-    if block >= blocks {
-        return Err(ScriptCause::BlockRange);
+    if n >= count {
+        return Err(cause);
     }
-    Ok(block)
-}
-
-fn resource_below(resources: u32, resource: u32) -> Result<u32, ScriptCause>
-    ensures value { result ≡ resource_below resources resource }
-    ensures below { IfOk result (λ n. n < resources) }
-{
-    if resource >= resources {
-        return Err(ScriptCause::ResourceRange);
-    }
-    Ok(resource)
-}
-
-fn period_below(periods: u32, period: u32) -> Result<u32, ScriptCause>
-    ensures value { result ≡ period_below periods period }
-    ensures below { IfOk result (λ n. n < periods) }
-{
-    if period >= periods {
-        return Err(ScriptCause::PeriodRange);
-    }
-    Ok(period)
+    Ok(n)
 }

@@ -1,19 +1,12 @@
 ghost use Rattle.std.specs.Prelude.{◌≡◌};
 ghost use Rattle.pit_num.specs.Decimal.{whole_of, micro_of, after_sign, is_negative};
 ghost use Rattle.pit_text.specs.Bounds.{upper_bound_of};
-ghost use Rattle.pit_text.specs.Numbers.{is_ascii};
 ghost use Rattle.pit_script.specs.Numbers.{read_as, shift_of};
 
 use super::error::ScriptCause;
 use super::step::SHIFT_MAX;
 use pit_num::{NumError, micro_from_bytes, whole_from_bytes};
-use pit_text::upper_bound;
-
-pub(crate) fn is_ascii(field: &[u8]) -> bool
-    ensures { result ≡ is_ascii field.now }
-{
-    field.iter().all(|b| *b < 128)
-}
+use pit_text::{is_ascii, upper_bound};
 
 /// The whole number in a field.
 pub(crate) fn whole(field: &[u8]) -> Result<u32, ScriptCause>

@@ -1,11 +1,8 @@
-ghost use Rattle.std.specs.Prelude.{◌≡◌, map};
-ghost use Rattle.std.specs.Map.{lookup};
-ghost use Rattle.std.specs.Str.{bytes_eq};
-ghost use Rattle.pit_text.specs.Numbers.{is_ascii};
+ghost use Rattle.std.specs.Prelude.{◌≡◌};
 ghost use Rattle.pit_script.specs.Words.{word_of, word_in};
 
 use super::error::ScriptCause;
-use super::number::is_ascii;
+use pit_text::{beside, is_ascii};
 
 /// The word that a line of a script begins with.
 #[derive(Clone, Copy, Debug, PartialEq, Eq)]
@@ -51,19 +48,5 @@ pub(crate) fn word_in(field: &[u8]) -> Result<Word, ScriptCause>
 fn word_of(field: &[u8]) -> Option<Word>
     ensures { result ≡ word_of field.now }
 {
-    word_beside(WORDS, field)
-}
-
-/// The word of the first row that has a text.
-fn word_beside(rows: &[(&str, Word)], text: &[u8]) -> Option<Word>
-    ensures { result ≡ lookup (bytes_eq text.now) (map (λ row. (row.0.now, row.1)) rows.now) }
-{
-    let mut left = rows;
-    while let [row, rest @ ..] = left {
-        if text == row.0.as_bytes() {
-            return Some(row.1);
-        }
-        left = rest;
-    }
-    None
+    beside(WORDS, field)
 }

@@ -1,8 +1,7 @@
-ghost use Rattle.std.specs.Prelude.{◌≡◌, map};
-ghost use Rattle.std.specs.Map.{lookup};
-ghost use Rattle.std.specs.Str.{bytes_eq};
+ghost use Rattle.std.specs.Prelude.{◌≡◌};
 ghost use Rattle.pit_text.specs.Keys.{key_of};
 
+use super::table::beside;
 use std::fmt;
 
 /// A key of a model's header.
@@ -67,19 +66,5 @@ impl fmt::Display for Key {
 pub(crate) fn key_of(field: &[u8]) -> Option<Key>
     ensures { result ≡ key_of field.now }
 {
-    key_beside(KEYS, field)
-}
-
-/// The key of the first row that has a text.
-fn key_beside(rows: &[(&str, Key)], text: &[u8]) -> Option<Key>
-    ensures { result ≡ lookup (bytes_eq text.now) (map (λ row. (row.0.now, row.1)) rows.now) }
-{
-    let mut left = rows;
-    while let [row, rest @ ..] = left {
-        if text == row.0.as_bytes() {
-            return Some(row.1);
-        }
-        left = rest;
-    }
-    None
+    beside(KEYS, field)
 }

@@ -38,7 +38,8 @@ fn refusal(field: &[u8], error: NumError) -> Cause
     }
 }
 
-pub(crate) fn is_ascii(field: &[u8]) -> bool
+/// Whether each byte is below 128.
+pub fn is_ascii(field: &[u8]) -> bool
     ensures { result ≡ is_ascii field.now }
 {
     field.iter().all(|b| *b < 128)

@@ -5,7 +5,7 @@ use super::{assert_legal, benches_of, empty_desk, report_of, script_of, tiny};
 use pit_book::{Entry, EntryReply};
 use pit_job::Open;
 use pit_sample::Series;
-use pit_script::{Benches, JobEnd, Script, Step};
+use pit_script::{JobEnd, Script, Step};
 use std::alloc::{AllocError, Global};
 use std::fmt::Write;
 use std::process::Abort;
@@ -71,7 +71,7 @@ fn write_step(text: &mut String, series: &mut Series) -> Result<(), AllocError> 
         1 | 2 => writeln!(text, "put {b} {t}"),
         3 => writeln!(text, "clear {b}"),
         4 => writeln!(text, "shift {b} -1"),
-        5 => writeln!(text, "bench {t} {t}"),
+        5 => writeln!(text, "bench {} {t}", series.below(3)),
         _ => writeln!(text, "revise 0 {t} {}", series.below(9)),
     }
 }
@@ -88,6 +88,16 @@ fn play<R: Threads + Wait + Abort + Sync>(rt: &R, alloc: Global, texts: &[&[u8]]
 /// What is known of a schedule of the small pit.
 type Held = [Option<u32>; 4];
 
+/// The blocks of the small pit at each height, in millionths.
+const BENCHES: &[(i64, &[u32])] = &[(0, &[2]), (1_000_000, &[1]), (2_000_000, &[0, 3])];
+
+/// What a job has written and revised, in the order of first use.
+#[derive(Drop)]
+struct Own {
+    writes: Vec<(u32, Option<u32>)>,
+    revises: Vec<(u32, u32, Option<i64>)>,
+}
+
 fn assert_each(rt: &impl Abort, alloc: Global, texts: &[&[u8]], history: &[Entry<Global>]) {
     let pit = tiny(rt, alloc);
     let benches = benches_of(rt, alloc, &pit);
@@ -98,7 +108,7 @@ fn assert_each(rt: &impl Abort, alloc: Global, texts: &[&[u8]], history: &[Entry
                 .get(entry.planner.wrapping_sub(1) as usize)
                 .expect(rt, "a planner");
             let script = script_of(rt, alloc, &pit, &benches, text);
-            assert_own(rt, alloc, &script, &benches, &held, entry);
+            assert_own(rt, alloc, &script, &held, entry);
             held = after(held, entry);
         }
     }
@@ -114,12 +124,11 @@ fn after(held: Held, entry: &Entry<Global>) -> Held {
     now
 }
 
-/// The writes are those of the entry's job.
+/// The writes and revisions are those of the entry's job.
 fn assert_own(
     rt: &impl Abort,
     alloc: Global,
     script: &Script<Global>,
-    benches: &Benches<Global>,
     held: &Held,
     entry: &Entry<Global>,
 ) {
@@ -127,23 +136,21 @@ fn assert_own(
     assert!(rt; i < script.jobs());
     let (steps, end) = script.job(i);
     assert!(rt; end == JobEnd::Commit);
-    let mut own: Vec<(u32, Option<u32>)> = Vec::new(alloc);
+    let mut own = Own {
+        writes: Vec::new(alloc),
+        revises: Vec::new(alloc),
+    };
     for step in steps {
-        assert!(rt; is_done(rt, &mut own, benches, held, *step));
+        assert!(rt; is_done(rt, &mut own, held, *step));
     }
-    assert!(rt; own.as_slice() == entry.writes.items());
+    assert!(rt; own.writes.as_slice() == entry.writes.items());
+    assert!(rt; own.revises.as_slice() == entry.revises.items());
 }
 
 /// Whether a step is done, and to what.
-fn is_done(
-    rt: &impl Abort,
-    own: &mut Vec<(u32, Option<u32>)>,
-    benches: &Benches<Global>,
-    held: &Held,
-    step: Step,
-) -> bool {
+fn is_done(rt: &impl Abort, own: &mut Own, held: &Held, step: Step) -> bool {
     match step {
-        Step::Read { .. } | Step::Revise { .. } => {}
+        Step::Read { .. } => {}
         Step::Put { block, period } => put(rt, own, block, Some(period)),
         Step::Clear { block } => put(rt, own, block, None),
         Step::Shift { block, .. } => match seen(own, held, block) {
@@ -151,17 +158,26 @@ fn is_done(
             _ => return false,
         },
         Step::Bench { height, period } => {
-            for placed in benches.bench(height) {
-                put(rt, own, placed.1, Some(period));
+            for (at, blocks) in BENCHES {
+                if *at == height {
+                    for block in *blocks {
+                        put(rt, own, *block, Some(period));
+                    }
+                }
             }
         }
+        Step::Revise {
+            resource,
+            period,
+            upper,
+        } => revise(rt, own, resource, period, upper),
     }
     true
 }
 
 /// The own write of a block, or else what is held.
-fn seen(own: &[(u32, Option<u32>)], held: &Held, block: u32) -> Option<u32> {
-    for (b, period) in own {
+fn seen(own: &Own, held: &Held, block: u32) -> Option<u32> {
+    for (b, period) in own.writes.as_slice() {
         if *b == block {
             return *period;
         }
@@ -169,12 +185,22 @@ fn seen(own: &[(u32, Option<u32>)], held: &Held, block: u32) -> Option<u32> {
     held.get(block as usize).copied().flatten()
 }
 
-fn put(rt: &impl Abort, own: &mut Vec<(u32, Option<u32>)>, block: u32, period: Option<u32>) {
-    for slot in own.iter_mut() {
+fn put(rt: &impl Abort, own: &mut Own, block: u32, period: Option<u32>) {
+    for slot in own.writes.iter_mut() {
         if slot.0 == block {
             slot.1 = period;
             return;
         }
     }
-    assert!(rt; own.push((block, period)).is_ok());
+    assert!(rt; own.writes.push((block, period)).is_ok());
+}
+
+fn revise(rt: &impl Abort, own: &mut Own, resource: u32, period: u32, upper: Option<i64>) {
+    for slot in own.revises.iter_mut() {
+        if (slot.0, slot.1) == (resource, period) {
+            slot.2 = upper;
+            return;
+        }
+    }
+    assert!(rt; own.revises.push((resource, period, upper)).is_ok());
 }
