@@ -15,15 +15,13 @@ fn fault(line: u64, cause: ScriptCause) -> ScriptError {
 
 /// The small pit, of which only the places are known: blocks 0 and 3 are at height 2.
 fn tiny(rt: &impl Abort, alloc: Global) -> Instance<Global> {
-    built(alloc, TINY_SIZE, TINY_PLACES).ok().expect(rt, "memory")
+    built(alloc, TINY_SIZE, TINY_PLACES)
+        .ok()
+        .expect(rt, "memory")
 }
 
 /// What a script over a pit is read as.
-fn read(
-    alloc: Global,
-    pit: &Instance<Global>,
-    text: &[u8],
-) -> Result<Script<Global>, ScriptError> {
+fn read(alloc: Global, pit: &Instance<Global>, text: &[u8]) -> Result<Script<Global>, ScriptError> {
     let Ok(benches) = Benches::of(alloc, pit) else {
         return Err(fault(0, ScriptCause::NoMemory));
     };

@@ -27,7 +27,9 @@ fn pit_of(rt: &impl Abort, alloc: Global) -> Instance<Global> {
     for b in 0..1_000u32 {
         assert!(rt; facts.push(Fact::Place(b, (0, 0, -i64::from(b)))).is_ok());
     }
-    built(alloc, SIZE, facts.as_slice()).ok().expect(rt, "memory")
+    built(alloc, SIZE, facts.as_slice())
+        .ok()
+        .expect(rt, "memory")
 }
 
 /// The number of jobs that a text is read as.
