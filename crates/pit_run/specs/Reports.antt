@@ -5,12 +5,15 @@ use Rattle.pit_book.specs.History.{Answered}
 use Rattle.pit_book.specs.State.{State}
 use Rattle.pit_share.specs.Planners.{PlannerState}
 use Rattle.pit_share.specs.Logs.{entries_of}
-use Rattle.pit_share.specs.Closing.{IsClosed}
+use Rattle.pit_share.specs.declared.error.CloseError.{CloseError}
+use Rattle.pit_share.specs.Closing.{IsClosed, IsCloseError}
 use Rattle.pit_script.specs.Jobs.{Job}
 use Rattle.pit_job.specs.Runs.{RanFrom}
 use Rattle.pit_job.specs.declared.outcome.Outcome.{Outcome}
 use Rattle.pit_job.specs.declared.outcome.RunEnd.{RunEnd}
 use Rattle.pit_job.specs.declared.outcome.RunEnd.TheVariants as end
+use Rattle.pit_run.specs.declared.report.RunError.{RunError}
+use Rattle.pit_run.specs.declared.report.RunError.TheVariants as error
 
 pub record RunState : Type 0 where
   pub planner : ℕ
@@ -58,3 +61,14 @@ pub record IsReport (pit : Pit) (opening : List Answered) (retries : ℕ) (scrip
   pub logs : List PlannerState
   pub closed : IsClosed pit opening (length scripts) logs desk
   pub did : AllDid pit retries 1 (drop (length opening) desk.history) scripts runs
+
+-- each planner did its script, and the workspace was not closed by their logs
+pub record IsUnclosed (pit : Pit) (opening : List Answered) (retries : ℕ) (scripts : List (List Job)) (logs : List PlannerState) (cause : CloseError) : Type 0 where
+  pub runs : List RunState
+  pub ran : AllRan pit retries 1 scripts logs runs
+  pub refused : IsCloseError pit opening (length scripts) logs cause
+
+-- what is handed back where there is no report: the seats as they were, or the logs of planners who have ended
+abbrev pub IsRunError : {S R A : Type 0} → Pit → List Answered → ℕ → List (List Job) → List ℕ → RunError S R A → Type 0
+IsRunError pit opening retries scripts seats (error.NoMemory workspace left) = left.items ≡ seats
+IsRunError pit opening retries scripts seats (error.NotClosed workspace logs cause) = IsUnclosed pit opening retries scripts logs.items cause

@@ -1,8 +1,8 @@
-ghost use Rattle.std.specs.Prelude.{◌≡◌, ◌≤◌, All, length, drop, IfOk};
+ghost use Rattle.std.specs.Prelude.{◌≡◌, ◌≤◌, All, length, drop, IfOk, IfErr};
 ghost use Rattle.pit_script.specs.Benches.{AreBenchesOf};
 ghost use Rattle.pit_script.specs.Ranges.{AreJobsIn};
 ghost use Rattle.pit_share.specs.Opening.{AreSeats};
-ghost use Rattle.pit_run.specs.Reports.{IsReport};
+ghost use Rattle.pit_run.specs.Reports.{IsReport, IsRunError};
 ghost use Rattle.pit_share.specs.declared.blank.TheConstants.{PLANNERS_MAX};
 ghost use Rattle.pit_job.specs.declared.planner_run.TheConstants.{RETRIES_MAX};
 
@@ -44,7 +44,8 @@ pub fn run<
     requires seats { AreSeats S.planners seats.items }
     requires each { length scripts.now ≡ S.planners }
     requires planners { S.planners ≤ PLANNERS_MAX }
-    ensures { IfOk result (λ report. IsReport S.instance S.opening retries scripts.now report.closed report.runs.items) }
+    ensures ok { IfOk result (λ report. IsReport S.instance S.opening retries scripts.now report.closed report.runs.items) }
+    ensures err { IfErr result (IsRunError S.instance S.opening retries scripts.now seats.items) }
 {
     let Ok(logs) = Vec::with_capacity(alloc, seats.len()) else {
         return Err(RunError::NoMemory { workspace, seats });

@@ -14,4 +14,4 @@ returns-in-Ok-close g c =
     let closed : IsClosed g.S.Session.instance g.S.Session.opening g.S.Session.planners logs c.in-Ok-close.closed = search rules in
     let each : IsClosed g.S.Session.instance g.S.Session.opening (length scripts) logs c.in-Ok-close.closed =
     subst (λ n. IsClosed g.S.Session.instance g.S.Session.opening n logs c.in-Ok-close.closed) (sym c.requires.each) closed in
-    record { logs = logs; closed = each; did = did g.S.Session.instance c.args.retries past scripts logs runs ran each.logged }
+    record { ok = record { logs = logs; closed = each; did = did g.S.Session.instance c.args.retries past scripts logs runs ran each.logged }; err = tt }
