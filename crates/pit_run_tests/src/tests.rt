@@ -6,6 +6,7 @@ ghost use Rattle.pit_script.specs.Ranges.{AreJobsIn};
 ghost use Rattle.pit_share.specs.declared.blank.TheConstants.{PLANNERS_MAX};
 
 mod hot;
+mod memory;
 mod rows;
 
 use pit_board::Session;
@@ -18,22 +19,22 @@ use pit_run::{Report, run};
 use pit_sample::{Fact, TINY, TINY_PLACES, TINY_SIZE, built};
 use pit_script::{Benches, Script};
 use pit_share::{Blank, Workspace};
-use std::alloc::Global;
+use std::alloc::{Allocator, Global};
 use std::marker::Brand;
 use std::process::Abort;
 use std::sync::Wait;
 use std::thread::Threads;
 
 /// The small pit, with its places.
-fn tiny(rt: &impl Abort, alloc: Global) -> Instance<Global> {
-    let mut facts: Vec<Fact> = Vec::new(alloc);
+fn tiny<A: Allocator + Copy + Drop>(rt: &impl Abort, alloc: A) -> Instance<A> {
+    let mut facts: Vec<Fact, A> = Vec::new(alloc);
     assert!(rt; facts.extend_from_slice(TINY).is_ok());
     assert!(rt; facts.extend_from_slice(TINY_PLACES).is_ok());
     built(alloc, TINY_SIZE, facts.as_slice()).expect(rt, "a pit")
 }
 
 /// A desk of the small pit, with no start, that may have so many entries.
-fn empty_desk(rt: &impl Abort, alloc: Global, max_entries: u32) -> Desk<Global> {
+fn empty_desk<A: Allocator + Copy + Drop>(rt: &impl Abort, alloc: A, max_entries: u32) -> Desk<A> {
     let answer = Desk::open(alloc, tiny(rt, alloc), &[], max_entries);
     answer.ok().expect(rt, "a desk")
 }
@@ -47,7 +48,11 @@ fn started_desk(rt: &impl Abort, alloc: Global) -> Desk<Global> {
     answer.ok().expect(rt, "a desk")
 }
 
-fn benches_of(rt: &impl Abort, alloc: Global, pit: &Instance<Global>) -> Benches<Global>
+fn benches_of<A: Allocator + Copy + Drop>(
+    rt: &impl Abort,
+    alloc: A,
+    pit: &Instance<A>,
+) -> Benches<A>
     ensures { AreBenchesOf pit.now result }
 {
     match Benches::of(alloc, pit) {
@@ -56,13 +61,13 @@ fn benches_of(rt: &impl Abort, alloc: Global, pit: &Instance<Global>) -> Benches
     }
 }
 
-fn script_of(
+fn script_of<A: Allocator + Copy + Drop>(
     rt: &impl Abort,
-    alloc: Global,
-    pit: &Instance<Global>,
-    benches: &Benches<Global>,
+    alloc: A,
+    pit: &Instance<A>,
+    benches: &Benches<A>,
     text: &[u8],
-) -> Script<Global>
+) -> Script<A>
     requires { AreBenchesOf pit.now benches.now }
     ensures { AreJobsIn pit.now result }
 {
@@ -72,13 +77,13 @@ fn script_of(
     }
 }
 
-fn scripts_of(
+fn scripts_of<A: Allocator + Copy + Drop>(
     rt: &impl Abort,
-    alloc: Global,
-    pit: &Instance<Global>,
-    benches: &Benches<Global>,
+    alloc: A,
+    pit: &Instance<A>,
+    benches: &Benches<A>,
     texts: &[&[u8]],
-) -> Vec<Script<Global>, Global>
+) -> Vec<Script<A>, A>
     requires { AreBenchesOf pit.now benches.now }
     ensures in_range { All (AreJobsIn pit.now) result.items }
     ensures count { length result.items ≡ length texts.now }
@@ -177,7 +182,11 @@ fn assert_run(rt: &impl Abort, report: &Report<Global>, k: u32, jobs: &[Outcome]
     assert!(rt; run.ended() == ended);
 }
 
-fn audited(rt: &impl Abort, alloc: Global, history: &[Entry<Global>]) -> Plan<Global> {
+fn audited<A: Allocator + Copy + Drop>(
+    rt: &impl Abort,
+    alloc: Global,
+    history: &[Entry<A>],
+) -> Plan<Global> {
     let pit = tiny(rt, alloc);
     assert!(rt; pit.unmeetable().is_none());
     assert!(rt; history.len() < 1_000_000);
@@ -186,7 +195,7 @@ fn audited(rt: &impl Abort, alloc: Global, history: &[Entry<Global>]) -> Plan<Gl
 }
 
 /// The history is legal, and leads to the plan.
-fn assert_legal(rt: &impl Abort, alloc: Global, report: &Report<Global>) {
+fn assert_legal<A: Allocator + Copy + Drop>(rt: &impl Abort, alloc: Global, report: &Report<A>) {
     let desk = report.closed.desk();
     let plan = audited(rt, alloc, desk.history());
     assert!(rt; Reading::of(&plan).is_some());
