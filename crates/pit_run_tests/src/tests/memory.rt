@@ -75,10 +75,8 @@ fn refuse_each<R: Threads + Wait + Abort + Sync>(
     let before = played(rt, alloc, &none, texts, planners);
     let after = none.count();
     assert!(rt; before.asked.wrapping_add(30) < after.asked);
-    let mut number = before.asked;
-    while number < after.asked {
-        number += 1;
-        let heap = Refusing::new(alloc, number);
+    for number in before.asked..after.asked {
+        let heap = Refusing::new(alloc, number.wrapping_add(1));
         let again = played(rt, alloc, &heap, texts, planners);
         assert!(rt; again.asked == before.asked);
     }
