@@ -1,17 +1,13 @@
 -- What an insert leaves of a set.
-use Rattle.std.proofs.Common.{◌≡◌, ◌≢◌, ℕ, zero, suc, ◌<◌, ◌≤◌, ℤ, Bool, true, false, true≢false, cond, List, [], ◌∷◌, ◌++◌, Option, Some, Result, Ok, Err, OnOk, OnErr, refl, sym, ap, subst, ◌∙◌, nat_eq, arith}
-use Rattle.std.specs.Prelude.{All, AllPairs, IfErr, IfSome, is_some}
+use Rattle.std.proofs.Common.{◌≡◌, ◌≢◌, ℕ, zero, suc, ◌<◌, ℤ, Bool, true, false, true≢false, cond, List, [], ◌∷◌, ◌++◌, Option, Some, Result, Ok, Err, OnOk, OnErr, refl, sym, ap, subst, ◌∙◌, nat_eq, arith}
+use Rattle.std.specs.Prelude.{All, AllPairs, IfSome, is_some}
 use Rattle.std.proofs.lemmas.Bool.Decides.{Decides-eqb}
 use Rattle.std.proofs.lemmas.List.Elements.{All-cons, All-nil, All-head, All-tail}
 use Rattle.std.proofs.lemmas.List.Kept.{AllPairs-cons}
-use Rattle.indexmap.specs.IndexMap.{IndexMap, insert_entry, spare}
+use Rattle.indexmap.specs.IndexMap.{insert_entry}
 use Rattle.pit_num.specs.Fitting.{AreKeyed, Fits, RevisionsFit, pair_eq}
 use Rattle.pit_num.proofs.CallerLemmas.{Decides-pair_eq}
-use Rattle.pit_tx.specs.Sets.{with_read, with_write, at_key}
-use Rattle.pit_tx.specs.Refusals.{IsFurther}
-use Rattle.pit_tx.specs.Kept.{IsSetKept}
-use Rattle.pit_tx.specs.declared.error.WorkError.{WorkError}
-use Rattle.pit_tx.specs.declared.error.WorkError.TheVariants.{NoMemory}
+use Rattle.pit_tx.specs.Sets.{with_read, at_key}
 
 -- ---- any keys and values
 
@@ -58,15 +54,6 @@ insert_entry-absent eq (p ∷ ps) key value absent = by (eq key p.0) (λ e. inse
     by true later e = cc
     by false later e = ap (λ qs. p ∷ qs) (later e)
 
--- an insert leaves pairs
-pub insert_entry-some : {K V : Type 0} (eq : K → K → Bool) (pairs : List (K × V)) (key : K) (value : V) → insert_entry eq pairs key value ≢ []
-insert_entry-some eq [] key value none = cc
-insert_entry-some eq (p ∷ ps) key value none = by (eq key p.0) none
-  where
-    by : (x : Bool) → cond x ((p.0, value) ∷ ps) (p ∷ insert_entry eq ps key value) ≡ [] → ⊥
-    by true none = cc
-    by false none = cc
-
 -- keyed pairs are so after an insert, if the new key and value pass their tests
 pub AreKeyed-insert_entry : {K V : Type 0} (eq : K → K → Bool) (same : (k : K) → eq k k ≡ true) (IsKey : K → Type 0) (IsValue : V → Type 0) (pairs : List (K × V)) (key : K) (value : V)
     → IsKey key → IsValue value → AreKeyed IsKey IsValue pairs → AreKeyed IsKey IsValue (insert_entry eq pairs key value)
@@ -76,42 +63,6 @@ AreKeyed-insert_entry {K} {V} eq same IsKey IsValue pairs key value is_key is_va
   once = once-insert_entry eq same pairs key value keyed.once;
 }
 
--- ---- what a set keeps
-
--- an empty set that has room
-pub IsSetKept-empty : {K V S : Type 0} (DoFit : List (K × V) → Type 0) (set : IndexMap K V S) → set.entries ≡ [] → 1 ≤ spare set → DoFit [] → IsSetKept DoFit set
-IsSetKept-empty DoFit set none room fit = record { fit = subst DoFit (sym none) fit; room = λ empty. room }
-
-module _ {K V S : Type 0} (eq : K → K → Bool) (DoFit : List (K × V) → Type 0) (old new : IndexMap K V S) (key : K) (value : V) where
-  IsSetKept-insert : new.entries ≡ with_write eq old.entries key value → DoFit (insert_entry eq old.entries key value) → IsSetKept DoFit new
-  IsSetKept-insert inserted fit = record {
-    fit = subst DoFit (sym inserted) fit;
-    room = λ none. absurd (insert_entry-some eq old.entries key value (sym inserted ∙ none));
-  }
-
-  IsSetKept-same : new.entries ≡ old.entries → (new.entries ≡ [] → 0 < spare new) → IsSetKept DoFit old → IsSetKept DoFit new
-  IsSetKept-same same room kept = record { fit = subst DoFit (sym same) kept.fit; room = room }
-
-  -- over a write, whatever is answered
-  pub IsSetKept-write : {T : Type 0} (result : Result T WorkError) → OnOk result (new.entries ≡ with_write eq old.entries key value) → OnErr result (new.entries ≡ old.entries)
-      → IfErr result (λ e. (e ≡ NoMemory) × IsFurther eq old.entries key) → IsSetKept DoFit old → DoFit (insert_entry eq old.entries key value) → IsSetKept DoFit new
-  IsSetKept-write (Ok done) inserted same memory kept fit = IsSetKept-insert inserted fit
-  IsSetKept-write (Err e) inserted same memory kept fit = IsSetKept-same same (λ none. absurd (memory.1.others (sym same ∙ none))) kept
-
-  -- and over a read
-  pub IsSetKept-read : {T : Type 0} (result : Result T WorkError) → OnOk result (new.entries ≡ with_read eq old.entries key value) → OnErr result (new.entries ≡ old.entries)
-      → IfErr result (λ e. (e ≡ NoMemory) × IsFurther eq old.entries key) → IsSetKept DoFit old → DoFit (insert_entry eq old.entries key value) → IsSetKept DoFit new
-  IsSetKept-read (Err e) noted same memory kept fit = IsSetKept-same same (λ none. absurd (memory.1.others (sym same ∙ none))) kept
-  IsSetKept-read (Ok done) noted same memory kept fit = by (is_some (at_key eq old.entries key)) refl noted
-    where
-      some : (pairs : List (K × V)) → is_some (at_key eq pairs key) ≡ true → pairs ≡ [] → ⊥
-      some [] found none = cc
-      some (p ∷ ps) found none = cc
-
-      by : (x : Bool) → is_some (at_key eq old.entries key) ≡ x → new.entries ≡ cond x old.entries (old.entries ++ (key, value) ∷ []) → IsSetKept DoFit new
-      by true found is = IsSetKept-same is (λ none. absurd (some old.entries found (sym is ∙ none))) kept
-      by false absent is = IsSetKept-insert (is ∙ sym (insert_entry-absent eq old.entries key value absent)) fit
-
 -- ---- what the tests are of a block with a period or none, and of a resource in a period with a limit or none
 
 pub Fits-insert_entry : (block_count period_count : ℕ) (pairs : List (ℕ × Option ℕ)) (b : ℕ) (period : Option ℕ) → b < block_count → IfSome period (λ t. t < period_count)
@@ -119,9 +70,21 @@ pub Fits-insert_entry : (block_count period_count : ℕ) (pairs : List (ℕ × O
 Fits-insert_entry block_count period_count pairs b period below within =
     AreKeyed-insert_entry nat_eq (λ k. (Decides-eqb k k).1 refl) (λ (k : ℕ). k < block_count) (λ (v : Option ℕ). IfSome v (λ t. t < period_count)) pairs b period below within
 
+pub Fits-with_read : (block_count period_count : ℕ) (pairs : List (ℕ × Option ℕ)) (b : ℕ) (period : Option ℕ) → b < block_count → IfSome period (λ t. t < period_count)
+    → Fits block_count period_count pairs → Fits block_count period_count (with_read nat_eq pairs b period)
+Fits-with_read block_count period_count pairs b period below within fit = by (is_some (at_key nat_eq pairs b)) refl
+  where
+    by : (x : Bool) → is_some (at_key nat_eq pairs b) ≡ x → Fits block_count period_count (cond x pairs (pairs ++ (b, period) ∷ []))
+    by true found = fit
+    by false absent =
+        subst (Fits block_count period_count) (insert_entry-absent nat_eq pairs b period absent) (Fits-insert_entry block_count period_count pairs b period below within fit)
+
 pub RevisionsFit-insert_entry : (resource_count period_count : ℕ) (revisions : List ((ℕ × ℕ) × Option ℤ)) (key : ℕ × ℕ) (upper : Option ℤ) → (key.0 < resource_count) × (key.1 < period_count)
     → RevisionsFit resource_count period_count revisions → RevisionsFit resource_count period_count (insert_entry pair_eq revisions key upper)
 RevisionsFit-insert_entry resource_count period_count revisions key upper within =
     AreKeyed-insert_entry pair_eq (λ k. (Decides-pair_eq k k).1 refl) (λ (k : ℕ × ℕ). (k.0 < resource_count) × (k.1 < period_count)) (λ (v : Option ℤ). Unit {0}) revisions key upper within tt
 
-pub ruleset inserted = (insert_entry-absent)
+-- what is so before a call and of what it makes is so after it, whatever is answered
+pub kept_after : {X T E : Type 0} (P : X → Type 0) (result : Result T E) (old made new : X) → OnOk result (new ≡ made) → OnErr result (new ≡ old) → P old → P made → P new
+kept_after P (Ok done) old made new ok err before after = subst P (sym ok) after
+kept_after P (Err e) old made new ok err before after = subst P (sym err) before

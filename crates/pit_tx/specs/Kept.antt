@@ -1,20 +1,12 @@
--- What a transaction keeps of each of its sets.
-use Rattle.std.specs.Prelude.{◌≡◌, ℕ, ◌<◌, ◌≤◌, ℤ, List, [], Option}
-use Rattle.indexmap.specs.IndexMap.{IndexMap, spare}
-use Rattle.pit_num.specs.Fitting.{Fits, RevisionsFit}
-use Rattle.pit_num.specs.declared.limits.TheConstants.{RESOURCES_MAX}
-use Rattle.pit_tx.specs.Sets.{IsBlockCount, IsPeriodCount}
+-- What a set keeps of its pairs and of their places.
+use Rattle.std.specs.Prelude.{◌≡◌, ◌<◌, ◌≤◌, Bool, length, Vec, vec_capacity}
+use Rattle.std.specs.List.{IsDistinct}
+use Rattle.std.specs.Map.{keys_of}
+use Rattle.indexmap.specs.IndexSet.{IndexSet}
+use Rattle.pit_tx.specs.declared.keyed_set.TheConstants.{FEW}
 
--- its pairs fit, and there is room for a first one
-pub record IsSetKept {K V S : Type 0} (DoFit : List (K × V) → Type 0) (set : IndexMap K V S) : Type 0 where
-  pub fit : DoFit set.entries
-  pub room : set.entries ≡ [] → 0 < spare set
-
--- what it keeps of all three, and of the numbers of blocks, periods and resources
-pub record AreSetsKept {S : Type 0} (block_count period_count resource_count : ℕ) (read_set write_set : IndexMap ℕ (Option ℕ) S) (revise_set : IndexMap (ℕ × ℕ) (Option ℤ) S) : Type 0 where
-  pub blocks : IsBlockCount block_count
-  pub periods : IsPeriodCount period_count
-  pub resources : resource_count ≤ RESOURCES_MAX
-  pub reads : IsSetKept (Fits block_count period_count) read_set
-  pub writes : IsSetKept (Fits block_count period_count) write_set
-  pub revises : IsSetKept (RevisionsFit resource_count period_count) revise_set
+-- there is room for a first pair, no key stands twice, and where there are more than a few, the places are those of the pairs
+pub record IsSetKept {K V S A : Type 0} (eq : K → K → Bool) (pairs : Vec (K × V) A) (places : IndexSet K S) : Type 0 where
+  pub room : 1 ≤ vec_capacity pairs
+  pub distinct : IsDistinct eq (keys_of pairs.items)
+  pub placed : FEW < length pairs.items → places.keys ≡ keys_of pairs.items

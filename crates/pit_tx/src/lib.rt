@@ -12,5 +12,4 @@ mod keyed_set;
 mod work;
 
 pub use error::WorkError;
-pub use keyed_set::{AccessSet, RevisionSet};
 pub use work::Work;

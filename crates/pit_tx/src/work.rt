@@ -6,8 +6,7 @@ ghost use Rattle.pit_tx.specs.Refusals.{refusal_of, revision_refusal_of, IsFurth
 ghost use Rattle.pit_tx.specs.Sets.{known_of, with_read, with_write, AreSound};
 
 use crate::error::WorkError;
-use crate::keyed_set::{AccessSet, RevisionSet, note_in, write_in};
-use indexmap::IndexMap;
+use crate::keyed_set::KeyedSet;
 use pit_num::{BLOCKS_MAX, NoMemory, PERIODS_MAX, RESOURCES_MAX};
 use std::alloc::Allocator;
 use std::marker::Model;
@@ -23,17 +22,15 @@ pub struct Work<A: Allocator + Copy + Drop> {
     blocks: u32,
     periods: u32,
     resources: u32,
-    reads: AccessSet<A>,
-    writes: AccessSet<A>,
-    revises: RevisionSet<A>,
+    reads: KeyedSet<u32, Option<u32>, A>,
+    writes: KeyedSet<u32, Option<u32>, A>,
+    revises: KeyedSet<(u32, u32), Option<i64>, A>,
 }
 
 impl<A: Allocator + Copy + Drop> Model for Work<A> {
-    ghost use Rattle.pit_tx.specs.Sets.{Sets};
+    ghost use Rattle.pit_tx.specs.Sets.{Sets, AreSound};
 
     ghost Value = { Sets };
-
-    ghost use Rattle.pit_tx.specs.Kept.{AreSetsKept};
 
     ghost view = { λ w. record {
       planner = w.planner;
@@ -42,16 +39,26 @@ impl<A: Allocator + Copy + Drop> Model for Work<A> {
       blocks = w.blocks;
       periods = w.periods;
       resources = w.resources;
-      reads = w.reads.entries;
-      writes = w.writes.entries;
-      revises = w.revises.entries;
+      reads = w.reads;
+      writes = w.writes;
+      revises = w.revises;
     } };
 
-    ghost invariant = { λ w. AreSetsKept w.blocks w.periods w.resources w.reads w.writes w.revises };
+    ghost invariant = { λ w. AreSound (record {
+      planner = w.planner;
+      job = w.job;
+      start = w.start;
+      blocks = w.blocks;
+      periods = w.periods;
+      resources = w.resources;
+      reads = w.reads;
+      writes = w.writes;
+      revises = w.revises;
+    }) };
 }
 
 impl<A: Allocator + Copy + Drop> Work<A> {
-    /// Empty sets over blocks, periods and resources that are numbered from 0. Takes memory for one pair in each set.
+    /// Empty sets over blocks, periods and resources that are numbered from 0. Takes memory once for some pairs of each set.
     pub fn new(
         alloc: A,
         planner: u32,
@@ -78,9 +85,9 @@ impl<A: Allocator + Copy + Drop> Work<A> {
           revises = [];
         }) }
     {
-        let reads = IndexMap::with_capacity(alloc, 1)?;
-        let writes = IndexMap::with_capacity(alloc, 1)?;
-        let revises = IndexMap::with_capacity(alloc, 1)?;
+        let reads = KeyedSet::new(alloc)?;
+        let writes = KeyedSet::new(alloc)?;
+        let revises = KeyedSet::new(alloc)?;
         Ok(Work {
             planner,
             job,
@@ -143,9 +150,9 @@ impl<A: Allocator + Copy + Drop> Work<A> {
     pub fn known(&self, b: u32) -> Option<Option<u32>>
         ensures { result ≡ known_of self.now b }
     {
-        match self.writes.get(&b) {
-            Some(period) => Some(*period),
-            None => self.reads.get(&b).copied(),
+        match self.writes.get(b) {
+            Some(period) => Some(period),
+            None => self.reads.get(b),
         }
     }
 
@@ -160,7 +167,7 @@ impl<A: Allocator + Copy + Drop> Work<A> {
         if let Some(error) = self.refusal(b, period) {
             return Err(error);
         }
-        note_in(&mut self.reads, b, period)
+        self.reads.note(b, period)
     }
 
     /// Writes that a block has a period. A block that was written before keeps its place. Takes memory where the write set has
@@ -195,31 +202,31 @@ impl<A: Allocator + Copy + Drop> Work<A> {
         if let Some(error) = self.revision_refusal(r, t) {
             return Err(error);
         }
-        write_in(&mut self.revises, (r, t), upper)
+        self.revises.write((r, t), upper)
     }
 
     /// The read set: each block with what it was first seen to have.
-    pub fn reads(&self) -> &AccessSet<A>
-        ensures pairs { result.now.entries ≡ self.now.reads }
+    pub fn reads(&self) -> &[(u32, Option<u32>)]
+        ensures pairs { result.now ≡ self.now.reads }
         ensures fit { Fits self.now.blocks self.now.periods self.now.reads }
     {
-        &self.reads
+        self.reads.pairs()
     }
 
     /// The write set: each block with what it was last given.
-    pub fn writes(&self) -> &AccessSet<A>
-        ensures pairs { result.now.entries ≡ self.now.writes }
+    pub fn writes(&self) -> &[(u32, Option<u32>)]
+        ensures pairs { result.now ≡ self.now.writes }
         ensures fit { Fits self.now.blocks self.now.periods self.now.writes }
     {
-        &self.writes
+        self.writes.pairs()
     }
 
     /// The revisions: each pair of a resource and a period with the upper limit that it was last given.
-    pub fn revises(&self) -> &RevisionSet<A>
-        ensures pairs { result.now.entries ≡ self.now.revises }
+    pub fn revises(&self) -> &[((u32, u32), Option<i64>)]
+        ensures pairs { result.now ≡ self.now.revises }
         ensures fit { RevisionsFit self.now.resources self.now.periods self.now.revises }
     {
-        &self.revises
+        self.revises.pairs()
     }
 
     /// Writes a block with a period or none.
@@ -232,7 +239,7 @@ impl<A: Allocator + Copy + Drop> Work<A> {
         if let Some(error) = self.refusal(b, period) {
             return Err(error);
         }
-        write_in(&mut self.writes, b, period)
+        self.writes.write(b, period)
     }
 
     /// Why a block with a period or none can't stand in a set, if it can't.

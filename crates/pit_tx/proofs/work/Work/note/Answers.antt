@@ -1,6 +1,7 @@
 use Rattle.std.proofs.Common.{nat_eq, rules}
 use Rattle.pit_num.specs.Fitting.{Fits}
-use Rattle.pit_tx.proofs.Inserted.{Fits-insert_entry, IsSetKept-read}
+use Rattle.pit_tx.specs.Sets.{with_read}
+use Rattle.pit_tx.proofs.Inserted.{Fits-with_read, kept_after}
 use Rattle.pit_tx.proofs.work.Work.note.Goals as goal
 
 pub invariant_of-self : goal.invariant_of-self
@@ -10,9 +11,9 @@ invariant_of-self g c =
       blocks = c.self.invariant.blocks;
       periods = c.self.invariant.periods;
       resources = c.self.invariant.resources;
-      reads = IsSetKept-read nat_eq (Fits w.blocks w.periods) w.reads c.note_in.new.set c.args.b c.args.period c.note_in.result c.note_in.ensures.ok
-          c.note_in.ensures.err c.note_in.ensures.memory c.self.invariant.reads
-          (Fits-insert_entry w.blocks w.periods w.reads.entries c.args.b c.args.period (search rules) (search rules) c.self.invariant.reads.fit);
+      reads = kept_after (Fits w.blocks w.periods) c.note.result w.reads (with_read nat_eq w.reads c.args.b c.args.period) c.note.new.self c.note.ensures.ok
+          c.note.ensures.err c.self.invariant.reads
+          (Fits-with_read w.blocks w.periods w.reads c.args.b c.args.period (search rules) (search rules) c.self.invariant.reads);
       writes = c.self.invariant.writes;
       revises = c.self.invariant.revises;
     }
