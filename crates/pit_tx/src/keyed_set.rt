@@ -1,5 +1,5 @@
 //! Sets of keys, each with a value, in the order of first use.
-ghost use Rattle.std.specs.Prelude.{◌≡◌, ◌≢◌, ◌<◌, ◌≤◌, [], ◌∷◌, ◌++◌, None, length, position, OnOk, OnErr, IfOk, IfErr};
+ghost use Rattle.std.specs.Prelude.{◌≡◌, ◌<◌, ◌≤◌, [], ◌∷◌, ◌++◌, None, length, position, OnOk, OnErr, IfOk, IfErr};
 ghost use Rattle.std.specs.List.{IsDistinct};
 ghost use Rattle.std.specs.Map.{keys_of};
 ghost use Rattle.pit_tx.specs.Refusals.{IsFurther};
@@ -21,8 +21,8 @@ const FIRST_ROOM: usize = 4;
 /// Keys, of which each has the place that its pair has in the list.
 type Places<K, A> = IndexSet<K, BuildHasherDefault<FoldHasher>, A>;
 
-/// Keys, each with a value, in the order of first use. Contracts see it as the list of its pairs. While there are few, the table of
-/// places is not used.
+/// Keys, each with a value, in the order of first use. Contracts see it as the list of its pairs. The table of places takes no memory
+/// while there are few.
 #[derive(Drop)]
 pub(crate) struct KeyedSet<K: Eq + Hash + Copy, V: Copy, A: Allocator + Copy + Drop> {
     pairs: Vec<(K, V), A>,
