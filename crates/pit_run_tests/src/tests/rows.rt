@@ -230,7 +230,7 @@ const OVER: Outcome = Outcome::Refused {
     tries: 1,
 };
 
-const THREE: &[u8] =
+pub(super) const THREE: &[u8] =
     b"begin\nput 0 0\nput 1 0\ncommit\nbegin\nput 3 0\ncommit\nbegin\nput 3 1\ncommit\n";
 
 #[test]
@@ -246,7 +246,7 @@ fn the_history_is_full(rt: HostRuntime) {
     assert!(rt; report.closed.desk().history().len() == 2);
 }
 
-const REVISED: &[u8] =
+pub(super) const REVISED: &[u8] =
     b"begin\nput 0 0\nput 1 0\ncommit\nbegin\nput 3 0\nrevise 0 0 5\ncommit\nbegin\nrevise 0 0 4\ncommit\n";
 
 #[test]

@@ -1,0 +1,54 @@
+-- The lines that tell how a run ended.
+use Rattle.std.specs.Prelude.{ℕ, ℤ, ◌+◌, List, [], ◌∷◌, ◌++◌, codes, decimal}
+use Rattle.std.specs.List.{flat_map}
+use Rattle.pit_num.specs.Printed.{fixed_text}
+use Rattle.pit_book.specs.declared.reply.Refusal.{Refusal}
+use Rattle.pit_book.specs.declared.reply.Refusal.TheVariants as refusal
+use Rattle.pit_job.specs.declared.outcome.Outcome.{Outcome}
+use Rattle.pit_job.specs.declared.outcome.Outcome.TheVariants as outcome
+use Rattle.pit_job.specs.declared.outcome.RunEnd.{RunEnd}
+use Rattle.pit_job.specs.declared.outcome.RunEnd.TheVariants as end
+use Rattle.pit_run.specs.Reports.{RunState}
+
+-- a word, a space and a whole number
+unfoldable pub numbered_text : List ℕ → ℕ → List ℕ
+numbered_text word n = word ++ decimal n
+
+abbrev pub refusal_text : Refusal → List ℕ
+refusal_text (refusal.Ahead start commits) = numbered_text (codes "ahead ") start ++ numbered_text (codes " ") commits
+refusal_text (refusal.Moved block version) = numbered_text (codes "moved ") block ++ numbered_text (codes " ") version
+refusal_text (refusal.Misread block) = numbered_text (codes "misread ") block
+refusal_text (refusal.Precedence block before) = numbered_text (codes "precedence ") block ++ numbered_text (codes " ") before
+refusal_text (refusal.Over resource period load limit) =
+    numbered_text (codes "over ") resource ++ (numbered_text (codes " ") period ++ (codes " " ++ (fixed_text 6 load ++ (codes " " ++ fixed_text 6 limit))))
+
+abbrev pub outcome_text : Outcome → List ℕ
+outcome_text (outcome.Committed number tries) = numbered_text (codes "committed ") number ++ numbered_text (codes " tries ") tries
+outcome_text (outcome.Withdrawn tries) = numbered_text (codes "withdrawn tries ") tries
+outcome_text (outcome.Refused why tries) = codes "refused " ++ (refusal_text why ++ numbered_text (codes " tries ") tries)
+
+-- `planner K job J WORDS`, and a line feed
+unfoldable pub job_text : ℕ → ℕ → Outcome → List ℕ
+job_text planner job what = numbered_text (codes "planner ") planner ++ (numbered_text (codes " job ") job ++ (codes " " ++ (outcome_text what ++ codes "\n")))
+
+-- the outcomes of a planner's jobs, of which the first has this number
+unfoldable pub jobs_text : ℕ → ℕ → List Outcome → List ℕ
+jobs_text planner job [] = []
+jobs_text planner job (what ∷ more) = job_text planner job what ++ jobs_text planner (job + 1) more
+
+unfoldable pub stopped_text : ℕ → ℕ → List ℕ → List ℕ
+stopped_text planner job why = numbered_text (codes "planner ") planner ++ (numbered_text (codes " stopped at job ") job ++ why)
+
+-- where the run isn't whole
+unfoldable pub end_text : ℕ → RunEnd → List ℕ
+end_text planner end.Whole = []
+end_text planner (end.Full job) = stopped_text planner job (codes ": full\n")
+end_text planner (end.NoMemory job) = stopped_text planner job (codes ": no memory\n")
+end_text planner (end.NoEntry job) = stopped_text planner job (codes ": no entry\n")
+end_text planner end.NoThread = numbered_text (codes "planner ") planner ++ codes " not started\n"
+
+abbrev pub run_text : RunState → List ℕ
+run_text run = jobs_text run.planner 1 run.jobs ++ end_text run.planner run.ended
+
+unfoldable pub runs_text : List RunState → List ℕ
+runs_text runs = flat_map run_text runs
