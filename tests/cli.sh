@@ -71,6 +71,9 @@ TEXT
 printf '0 0\n1 0\n2 1\n' >solution
 printf '1 1 0\n2 2 0 1\n' >precedence
 printf '2 0\n' >early
+printf '0 0 0 2\n1 0 0 1\n2 0 0 0\n3 1 0 2\n' >blocks
+printf 'begin\nput 0 0\nput 1 0\ncommit\nbegin\nput 3 0\ncommit\nbegin\nput 3 1\ncommit\n' >script
+: >empty
 # Refused at its first line, if anything reads it.
 printf 'no model\n' >refused
 mkdir folder
@@ -87,6 +90,57 @@ check 'check, bad precedences' 2 '' 'pit: precedence line 1: bad number' check m
 check 'check, no precedences' 3 '' 'pit: cannot read precedence' check model absent solution
 check 'value' 0 "$VALUE" '' value model solution
 check 'value, files after --' 0 "$VALUE" '' value -- model solution
+
+# Plans. What several planners leave is their own affair, so but one of them changes anything here.
+readonly PLANNED='0 0
+1 0
+3 1'
+readonly REPORT='planner 1 job 1 committed 1 tries 1
+planner 1 job 2 refused over 0 0 5.000000 4.000000 tries 1
+planner 1 job 3 committed 2 tries 1
+value 15.045454545455000000'
+readonly NOTHING='value 0.000000000000000000
+short 0 1 0.000000 1.000000'
+check 'plan' 0 "$PLANNED" "$REPORT" plan model precedence script
+check 'plan, options behind the scripts' 0 "$PLANNED" "$REPORT" plan model precedence script --retries 1000 --blocks blocks
+check 'plan, an empty second script' 0 "$PLANNED" "$REPORT" plan --retries=0 model precedence script empty
+check 'plan, an empty script' 1 '' "$NOTHING" plan model precedence empty
+printf 'begin\nbench 2 0\ncommit\nbegin\nread 0\nabort\nbegin\nshift 3 1\ncommit\nbegin\nshift 3 1\ncommit\nbegin\nput 2 0\ncommit\n' >second
+check 'plan, by benches' 0 '0 0
+3 1' 'planner 2 job 1 committed 1 tries 1
+planner 2 job 2 withdrawn tries 1
+planner 2 job 3 committed 2 tries 1
+planner 2 job 4 withdrawn tries 1
+planner 2 job 5 refused precedence 2 1 tries 1
+value -5.454545454545000000' plan --blocks blocks model precedence empty second
+check 'plan, from a start' 0 '0 0
+1 0
+2 1' "value $VALUE" plan --start solution model precedence empty
+printf 'begin\nrevise 0 0 5\nput 3 0\ncommit\nbegin\nclear 2\ncommit\n' >revised
+check 'plan, a limit revised' 1 '0 0
+1 0
+3 0' 'planner 1 job 1 committed 2 tries 1
+planner 1 job 2 committed 3 tries 1
+value 15.500000000000000000
+short 0 1 0.000000 1.000000' plan --start solution model precedence revised
+scripts=()
+for i in {1..64}; do scripts+=(empty); done
+check 'plan, 64 scripts' 1 '' "$NOTHING" plan model precedence "${scripts[@]}"
+check 'plan, 65 scripts' 2 '' 'pit: planner count' plan model precedence "${scripts[@]}" empty
+check 'plan, a bad model' 2 '' 'pit: model line 2: missing TYPE' plan refused refused refused --blocks refused --start refused
+check 'plan, bad precedences' 2 '' 'pit: precedence line 1: bad number' plan model refused refused --blocks refused --start refused
+check 'plan, bad blocks' 2 '' 'pit: blocks line 1: field count' plan model precedence refused --blocks refused --start refused
+check 'plan, a bad start' 2 '' 'pit: start line 1: bad number' plan model precedence refused --blocks blocks --start refused
+check 'plan, a bad script' 2 '' 'pit: script 2 line 1: unknown word' plan model precedence --blocks blocks --start solution script refused refused
+check 'plan, a bench without blocks' 2 '' 'pit: script 1 line 2: no such bench' plan model precedence second
+check 'plan, a start that breaks a precedence' 2 '' 'pit: start: precedence 2 0' plan model precedence --start early "${scripts[@]}" empty
+printf '0 0\n1 0\n3 0\n' >heavy
+check 'plan, a start above a limit' 2 '' 'pit: start: over 0 0 5.000000 4.000000' plan model precedence --start heavy empty
+sed 's/^0 0 L 4$/0 0 L -1/' model >unmeetable
+check 'plan, a limit below zero' 2 '' 'pit: model: upper limit below zero 0 0' plan unmeetable precedence --start heavy empty
+check 'check, a limit below zero' 1 'value 0.000000000000000000
+over 0 0 0.000000 -1.000000
+short 0 1 0.000000 1.000000' '' check unmeetable precedence empty
 
 # The greatest numbers of a header are read, and then the rest of it is wanting; the next greater are not.
 # greatest KEY NUMBER NEXT
@@ -109,6 +163,15 @@ check 'check, no file at all' 3 '' 'pit: cannot read model' check missing missin
 check 'check, the model alone' 3 '' 'pit: cannot read precedence' check model missing missing
 check 'check, no solution' 3 '' 'pit: cannot read solution' check model precedence missing
 check 'all files are opened before one is read' 3 '' 'pit: cannot read solution' value refused missing
+check 'plan, no file at all' 3 '' 'pit: cannot read model' plan missing missing missing --blocks missing --start missing
+check 'plan, the model alone' 3 '' 'pit: cannot read precedence' plan model missing missing --blocks missing --start missing
+check 'plan, no blocks' 3 '' 'pit: cannot read blocks' plan model precedence missing --blocks missing --start missing
+check 'plan, no start' 3 '' 'pit: cannot read start' plan model precedence missing --blocks blocks --start missing
+check 'plan, no script' 3 '' 'pit: cannot read script 1' plan model precedence missing missing --blocks blocks --start solution
+check 'plan, no second script' 3 '' 'pit: cannot read script 2' plan model precedence script missing missing
+check 'plan, all files are opened before one is read' 3 '' 'pit: cannot read script 2' plan folder folder script missing
+check 'plan, all files are read before one is parsed' 3 '' 'pit: cannot read script 2' plan refused refused script folder
+check 'plan, the start is a folder' 3 '' 'pit: cannot read start' plan refused refused --start folder folder
 check 'the model is a folder' 3 '' 'pit: cannot read model' value folder solution
 check 'the solution is a folder' 3 '' 'pit: cannot read solution' value model folder
 check 'both are folders' 3 '' 'pit: cannot read model' value folder folder
@@ -140,6 +203,23 @@ compare 'a closed output' 3 '' 'pit: cannot write'
 "$pit" value model solution 2>err <&- >&-
 status=$?
 compare 'a closed input and output' 3 '' 'pit: cannot write'
+"$pit" plan model precedence script 2>err >/dev/full
+status=$?
+compare 'plan to a full output' 3 '' 'pit: cannot write'
+"$pit" plan model precedence script 2>err >&-
+status=$?
+compare 'plan to a closed output' 3 '' 'pit: cannot write'
+"$pit" plan model precedence empty 2>err >&-
+status=$?
+compare 'plan of nothing to a closed output' 1 '' "$NOTHING"
+: >err
+"$pit" plan model precedence script >out 2>&-
+status=$?
+compare 'plan with a closed standard error' 3 "$PLANNED" ''
+"$pit" plan model precedence script >out 2>/dev/full
+status=$?
+compare 'plan with a full standard error' 3 "$PLANNED" ''
+: >out
 # The reader is gone before the program starts.
 mkfifo nobody
 : <nobody &
@@ -172,6 +252,12 @@ check 'no such subcommand' 2 '' "$SOME" valu
 check 'no files' 2 '' "$SOME" value
 check 'one file' 2 '' "$SOME" value model
 check 'three files' 2 '' "$SOME" value model solution solution
+check 'plan, no script' 2 '' "$SOME" plan model precedence
+check 'plan, retries of 1001' 2 '' "$SOME" plan --retries 1001 model precedence script
+check 'plan, retries below zero' 2 '' "$SOME" plan --retries=-1 model precedence script
+check 'plan, retries that are no number' 2 '' "$SOME" plan --retries few model precedence script
+check 'plan, retries twice' 2 '' "$SOME" plan --retries 1 --retries 2 model precedence script
+check 'plan, an option without its file' 2 '' "$SOME" plan model precedence script --start
 check 'no such option' 2 '' "$SOME" value --fast model solution
 check 'help on no such subcommand' 2 '' "$SOME" help valu
 check 'a word that is not UTF-8' 2 '' "$SOME" value $'\xff' solution
@@ -206,6 +292,11 @@ status=0
 grep -q 'over RESOURCE PERIOD LOAD LIMIT' out && grep -q 'numbered' out && grep -q '^Status: 0 ' out || status=lacking
 : >out
 compare 'help on check tells what is printed, and the statuses' 0 '' ''
+check 'help on plan' 0 "$SOME" '' plan --help
+status=0
+grep -q 'begin' out && grep -q 'revise R T V' out && grep -q -- '--retries' out && grep -q '^Status: 0 ' out || status=lacking
+: >out
+compare 'help on plan tells of scripts, options and statuses' 0 '' ''
 check 'version' 0 'pit 0.1.0' '' --version
 check 'version, short' 0 'pit 0.1.0' '' -V
 check 'version of a subcommand' 2 '' "$SOME" value --version
@@ -224,6 +315,12 @@ compare 'no memory for the model' 3 '' 'pit: no memory'
 ) >out 2>err
 status=$?
 compare 'no memory for the solution' 3 '' 'pit: no memory'
+(
+    ulimit -v 200000
+    exec "$pit" plan model precedence script large
+) >out 2>err
+status=$?
+compare 'no memory for a script' 3 '' 'pit: no memory'
 
 if [ "$failures" -ne 0 ]; then
     echo "$failures failed"

@@ -1,1 +1,3 @@
 pub mod CommandLemmas
+pub mod PlanFiles
+pub mod Retries

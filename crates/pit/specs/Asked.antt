@@ -1,17 +1,19 @@
 -- What the words of the command line ask for.
-use Rattle.std.specs.Prelude.{ℕ, List, [], ◌∷◌, Option, codes}
+use Rattle.std.specs.Prelude.{◌≡◌, ℕ, zero, suc, nat_le, if◌then◌else◌, List, [], ◌∷◌, Option, None, Some, Ok, Err, unwrap_or, option_map, slice_get, codes}
 use Rattle.std.specs.Map.{lookup}
 use Rattle.std.specs.Str.{bytes_eq}
-use Rattle.clap.specs.Matches.{found_of, first_value}
+use Rattle.clap.specs.Matches.{found_of, first_value, matched_of, raw_values, one_text}
+use Rattle.std.specs.Str.Parse.{ParsesUnsigned}
 use Rattle.clap.specs.declared.parser.matches.ArgMatches.{ArgMatches}
+use Rattle.pit_job.specs.declared.planner_run.TheConstants.{RETRIES_MAX}
 use Rattle.pit_cli.specs.declared.input.Input.{Input}
-use Rattle.pit_cli.specs.declared.input.Input.TheVariants.{Model, Precedence, Solution}
+use Rattle.pit_cli.specs.declared.input.Input.TheVariants.{Model, Precedence, Blocks, Start, Solution, Script}
 use Rattle.pit.specs.declared.engine.Engine.{Engine}
-use Rattle.pit.specs.declared.engine.Engine.TheVariants.{Value, Check}
+use Rattle.pit.specs.declared.engine.Engine.TheVariants.{Value, Check, Plan}
 
 -- the subcommands, each with the engine that it asks for
 abbrev pub engines : List (List ℕ × Engine)
-engines = (codes "value", Value) ∷ (codes "check", Check) ∷ []
+engines = (codes "value", Value) ∷ (codes "check", Check) ∷ (codes "plan", Plan) ∷ []
 
 unfoldable pub engine_of : List ℕ → Option Engine
 engine_of name = lookup (bytes_eq name) engines
@@ -20,8 +22,38 @@ engine_of name = lookup (bytes_eq name) engines
 abbrev pub argument_of : Input → List ℕ
 argument_of Model = codes "MODEL"
 argument_of Precedence = codes "PREC"
+argument_of Blocks = codes "blocks"
+argument_of Start = codes "start"
 argument_of Solution = codes "SOLUTION"
+argument_of (Script number) = codes "SCRIPT"
 
--- the path that the words give for an input
+-- the paths that the words give for scripts
+unfoldable pub scripts_of : ArgMatches → List (List ℕ)
+scripts_of given = unwrap_or (option_map raw_values (matched_of (found_of given) (codes "SCRIPT"))) []
+
+abbrev pub first_path : ArgMatches → Input → Option (List ℕ)
+first_path given input = first_value (found_of given) (argument_of input)
+
+-- the path that the words give for an input; scripts are numbered from 1
 unfoldable pub path_of : ArgMatches → Input → Option (List ℕ)
-path_of given input = first_value (found_of given) (argument_of input)
+path_of given (Script zero) = None
+path_of given (Script (suc i)) = slice_get (scripts_of given) i
+path_of given Model = first_path given Model
+path_of given Precedence = first_path given Precedence
+path_of given Blocks = first_path given Blocks
+path_of given Start = first_path given Start
+path_of given Solution = first_path given Solution
+
+-- the number of retries by the number that the words give, no more than there may be; 3 where what they give is no number
+abbrev pub retries_in : Option ℕ → ℕ
+retries_in None = 3
+retries_in (Some n) = if nat_le n RETRIES_MAX then n else RETRIES_MAX
+
+-- a text is the number of its digits, if it is one of 16 bits
+abbrev pub ReadsAs : List ℕ → Option ℕ → Type 0
+ReadsAs text None = ParsesUnsigned {E = Unit {0}} 16 10 text (Err tt)
+ReadsAs text (Some n) = ParsesUnsigned {E = Unit {0}} 16 10 text (Ok n)
+
+pub record IsRetries (given : ArgMatches) (retries : ℕ) : Type 0 where
+  pub absent : one_text (found_of given) (codes "retries") ≡ None → retries ≡ 3
+  pub present : (text : List ℕ) → one_text (found_of given) (codes "retries") ≡ Some text → (n : Option ℕ) × ReadsAs text n × (retries ≡ retries_in n)

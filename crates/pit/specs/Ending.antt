@@ -4,7 +4,8 @@ use Rattle.clap.specs.Values.{kind_of}
 use Rattle.clap.specs.declared.error.Error.{Error}
 use Rattle.clap.specs.declared.error.kind.ErrorKind.TheVariants.{DisplayHelp, DisplayVersion}
 use Rattle.pit_cli.specs.declared.status.Status.{Status}
-use Rattle.pit_cli.specs.Statuses.{answer_status, fault_status}
+use Rattle.pit_cli.specs.Statuses.{answer_status}
+use Rattle.pit_planning.specs.Statuses.{plan_fault_status}
 use Rattle.pit.specs.declared.fault.Fault.{Fault}
 use Rattle.pit.specs.declared.fault.Fault.TheVariants.{Engine, Command}
 
@@ -15,5 +16,5 @@ pub record IsCommandStatus (error : Error) (status : ℕ) : Type 0 where
 
 abbrev pub IsStatusOf : Result Status Fault → ℕ → Type 0
 IsStatusOf (Ok found) status = status ≡ answer_status found
-IsStatusOf (Err (Engine fault)) status = status ≡ fault_status fault
+IsStatusOf (Err (Engine fault)) status = status ≡ plan_fault_status fault
 IsStatusOf (Err (Command error)) status = IsCommandStatus error status

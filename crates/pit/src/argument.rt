@@ -1,9 +1,17 @@
 //! The arguments of the command line, by the inputs whose paths they are.
-ghost use Rattle.std.specs.Prelude.{◌≡◌, option_map};
-ghost use Rattle.pit.specs.Asked.{argument_of, path_of};
+ghost use Rattle.std.specs.Prelude.{◌≡◌, ◌≤◌, length, option_map, slice_get};
+ghost use Rattle.pit_job.specs.declared.planner_run.TheConstants.{RETRIES_MAX};
+ghost use Rattle.pit.specs.Asked.{argument_of, path_of, scripts_of, retries_in, IsRetries};
 
 use clap::ArgMatches;
 use pit_cli::Input;
+use pit_job::RETRIES_MAX;
+
+/// The name of the option for the number of retries.
+pub const RETRIES: &str = "retries";
+
+/// The number of retries where the words give none.
+const RETRIES_UNSAID: u32 = 3;
 
 /// The name of the argument for an input.
 pub fn argument_of<'a>(input: Input) -> &'a str
@@ -12,14 +20,59 @@ pub fn argument_of<'a>(input: Input) -> &'a str
     match input {
         Input::Model => "MODEL",
         Input::Precedence => "PREC",
+        Input::Blocks => "blocks",
+        Input::Start => "start",
         Input::Solution => "SOLUTION",
+        Input::Script(_) => "SCRIPT",
     }
 }
 
-/// The path that the words give for an input.
+/// The path that the words give for an input. Scripts are numbered from 1.
 #[tactic(auto, unfolding(crate::specs::Asked::path_of))]
 pub fn path_of<'a>(given: &ArgMatches<'a>, input: Input) -> Option<&'a str>
     ensures { option_map (λ path. path.now) result ≡ path_of given.now input }
 {
-    given.get_str(argument_of(input))
+    match input {
+        Input::Script(0) => None,
+        Input::Script(number) => script_path(given, (number - 1) as usize),
+        _ => given.get_str(argument_of(input)),
+    }
+}
+
+/// The path that the words give for a script, counted from 0.
+#[tactic(auto, unfolding(crate::specs::Asked::scripts_of))]
+fn script_path<'a>(given: &ArgMatches<'a>, i: usize) -> Option<&'a str>
+    ensures { option_map (λ path. path.now) result ≡ slice_get (scripts_of given.now) i }
+{
+    given.get_strs(argument_of(Input::Script(1)))?.get(i).copied()
+}
+
+/// How many scripts the words name.
+#[tactic(auto, unfolding(crate::specs::Asked::scripts_of))]
+pub fn script_count(given: &ArgMatches<'_>) -> usize
+    ensures { result ≡ length (scripts_of given.now) }
+{
+    match given.get_strs(argument_of(Input::Script(1))) {
+        Some(paths) => paths.len(),
+        None => 0,
+    }
+}
+
+/// The number of retries that the words give, no more than there may be; or 3.
+pub fn retries_of(given: &ArgMatches<'_>) -> u32
+    ensures is { IsRetries given.now result }
+    ensures few { result ≤ RETRIES_MAX }
+{
+    retries_in(given.get_one::<u16>(RETRIES))
+}
+
+fn retries_in(n: Option<u16>) -> u32
+    ensures is { result ≡ retries_in n }
+    ensures few { result ≤ RETRIES_MAX }
+{
+    match n {
+        Some(n) if u32::from(n) <= RETRIES_MAX => u32::from(n),
+        Some(_) => RETRIES_MAX,
+        None => RETRIES_UNSAID,
+    }
 }

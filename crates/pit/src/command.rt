@@ -1,20 +1,20 @@
 //! The command line.
-ghost use Rattle.std.specs.Prelude.{◌≡◌, ◌⊎◌, IfOk, false, map};
+ghost use Rattle.std.specs.Prelude.{◌≡◌, ◌⊎◌, ◌∷◌, [], IfOk, false, map};
 ghost use Rattle.clap.specs.Simple.{app_of, matches_of, subcommand_of, subcommand_rows_of};
 ghost use Rattle.clap.specs.Walk.{rows_of, rule_of};
 ghost use Rattle.clap.specs.Matches.{found_of};
 ghost use Rattle.clap.specs.Kinds.{FailsBy};
 ghost use Rattle.clap.specs.Faults.{fault_of};
 ghost use Rattle.clap.specs.declared.builder.command.Command.TheViews.{out-Command as fields_of};
-ghost use Rattle.pit.specs.Command.{AsksAll, pit_app, value_shape, check_shape, file_rule, IsSubcommand};
+ghost use Rattle.pit.specs.Command.{AsksAll, app_with, pit_app, value_shape, check_shape, plan_files_shape, plan_shape, file_rule, option_rule, retries_rule, scripts_rule, IsSubcommand};
 ghost use Rattle.clap.specs.Values.{kind_of};
 ghost use Rattle.clap.specs.declared.error.kind.ErrorKind.TheVariants.{OutOfMemory};
 
-use crate::argument::argument_of;
-use crate::engine::{CHECK, VALUE};
+use crate::argument::{RETRIES, argument_of};
+use crate::engine::{CHECK, PLAN, VALUE};
 use crate::fault::Fault;
 use clap::error::ErrorKind;
-use clap::{Arg, ArgMatches, Command, Error};
+use clap::{Arg, ArgAction, ArgMatches, Command, Error, value_parser};
 use pit_cli::Input;
 use std::alloc::{AllocError, Global};
 use std::convert::AsStr;
@@ -56,6 +56,25 @@ error says why.
 Example:
   pit check tiny.cpit tiny.prec tiny.sol";
 
+const PLAN_NOTES: &str = "\
+Each planner does the jobs of its script in a thread of its own, all on one schedule. A job is lines
+between `begin` and `commit` or `abort`:
+  read B      reads block B             put B T     puts block B into period T
+  clear B     takes block B out         shift B D   moves block B by D periods, or aborts the job
+  bench Z T   puts each block at height Z into period T
+  revise R T V  limits resource R in period T to at most V; `inf` is no limit
+A job is committed as a whole, where it read what the schedule then held and breaks no precedence
+and no upper limit; else it is refused, and one that met a change of another planner is repeated.
+Standard output is the solution that is left. Standard error tells of each job, the value, and
+`short RESOURCE PERIOD LOAD LIMIT` for each load below its lower limit. Blocks, periods and
+resources are numbered from 0, planners and jobs from 1. docs/FORMATS.md has every form.
+
+Status: 0 where all is well, 1 where a load falls short, 2 where an input or the command line is
+refused, 3 where memory, a device or a thread is wanting, or a planner stopped.
+
+Example:
+  pit plan tiny.cpit tiny.prec --blocks tiny.blocks one.script two.script";
+
 /// The words of the command line, the program's name first.
 pub fn words(rt: &HostRuntime) -> Result<Vec<String>, Fault> {
     let words = match std::env::args(rt) {
@@ -73,8 +92,16 @@ pub fn command<'a>(alloc: Global) -> Result<Command<'a>, AllocError>
     ensures app { IfOk result (λ c. app_of c ≡ pit_app) }
     ensures local { IfOk result (λ c. (fields_of c).has_globals ≡ false) }
 {
+    of_files(alloc)?.subcommand(plan_command(alloc)?)
+}
+
+/// `pit`, with the subcommands that read files alone.
+fn of_files<'a>(alloc: Global) -> Result<Command<'a>, AllocError>
+    ensures app { IfOk result (λ c. app_of c ≡ app_with (value_shape ∷ check_shape ∷ [])) }
+    ensures local { IfOk result (λ c. (fields_of c).has_globals ≡ false) }
+{
     Command::new(alloc, "pit")
-        .about("Values and checks schedules of open pit mines")
+        .about("Values, checks and edits schedules of open pit mines")
         .version(VERSION)
         .after_help(PIT_NOTES)
         .subcommand_required(true)
@@ -114,6 +141,27 @@ fn check_command<'a>(alloc: Global) -> Result<Command<'a>, AllocError>
         .arg(file(alloc, Input::Solution))
 }
 
+/// `plan`, with the first of its arguments.
+fn plan_files<'a>(alloc: Global) -> Result<Command<'a>, AllocError>
+    ensures { IfOk result (IsSubcommand plan_files_shape) }
+{
+    Command::new(alloc, PLAN)
+        .about("Has planners edit one schedule at once, each by a script, and prints what is left")
+        .after_help(PLAN_NOTES)
+        .arg(file(alloc, Input::Model))?
+        .arg(file(alloc, Input::Precedence))?
+        .arg(option(alloc, Input::Blocks))
+}
+
+fn plan_command<'a>(alloc: Global) -> Result<Command<'a>, AllocError>
+    ensures { IfOk result (IsSubcommand plan_shape) }
+{
+    plan_files(alloc)?
+        .arg(option(alloc, Input::Start))?
+        .arg(retries(alloc))?
+        .arg(scripts(alloc))
+}
+
 /// The argument for an input.
 fn file<'a>(alloc: Global, input: Input) -> Arg<'a>
     ensures rule { rule_of result ≡ file_rule input }
@@ -122,6 +170,42 @@ fn file<'a>(alloc: Global, input: Input) -> Arg<'a>
     Arg::new(alloc, argument_of(input))
         .required(true)
         .help(help_of(input))
+}
+
+/// The option for an input.
+fn option<'a>(alloc: Global, input: Input) -> Arg<'a>
+    ensures rule { rule_of result ≡ option_rule input }
+    ensures local { result.global ≡ false }
+{
+    Arg::new(alloc, argument_of(input))
+        .long(argument_of(input))
+        .value_name("FILE")
+        .help(help_of(input))
+}
+
+/// The option for the number of retries.
+fn retries<'a>(alloc: Global) -> Arg<'a>
+    ensures rule { rule_of result ≡ retries_rule }
+    ensures local { result.global ≡ false }
+{
+    Arg::new(alloc, RETRIES)
+        .long(RETRIES)
+        .value_name("N")
+        .value_parser(value_parser!(u16).range(0..=1000))
+        .default_value("3")
+        .help("How often a job is repeated that met a change of another planner, 0 to 1000")
+}
+
+/// The arguments for the scripts.
+fn scripts<'a>(alloc: Global) -> Arg<'a>
+    ensures rule { rule_of result ≡ scripts_rule }
+    ensures local { result.global ≡ false }
+{
+    Arg::new(alloc, argument_of(Input::Script(1)))
+        .required(true)
+        .num_args(1..)
+        .action(ArgAction::Append)
+        .help(help_of(Input::Script(1)))
 }
 
 /// What help says of an input.
@@ -133,6 +217,11 @@ fn help_of<'a>(input: Input) -> &'a str {
         Input::Precedence => {
             "The precedences: `BLOCK COUNT PREDECESSOR..` for each block that has predecessors"
         }
+        Input::Blocks => {
+            "The blocks' places: `BLOCK X Y Z` for each block that has one. `bench` needs them"
+        }
+        Input::Start => "A solution that the schedule begins with; without it no block is mined",
+        Input::Script(_) => "A script of jobs for each planner, 1 to 64 of them",
         Input::Solution => {
             "The solution: `BLOCK PERIOD` or `BLOCK DESTINATION PERIOD PART` for a mined block"
         }

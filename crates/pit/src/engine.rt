@@ -13,6 +13,8 @@ pub enum Engine {
     Value,
     /// Prints what a solution is worth, its first breach and its shortfalls.
     Check,
+    /// Has planners do their scripts on one schedule, and prints the solution that is left.
+    Plan,
 }
 
 /// The subcommand that asks for `Engine::Value`.
@@ -20,6 +22,9 @@ pub const VALUE: &str = "value";
 
 /// The subcommand that asks for `Engine::Check`.
 pub const CHECK: &str = "check";
+
+/// The subcommand that asks for `Engine::Plan`.
+pub const PLAN: &str = "plan";
 
 /// The engine that a subcommand asks for.
 #[tactic(auto, unfolding(crate::specs::Asked::engine_of))]
@@ -29,6 +34,7 @@ fn engine_of(name: &str) -> Option<Engine>
     match name {
         VALUE => Some(Engine::Value),
         CHECK => Some(Engine::Check),
+        PLAN => Some(Engine::Plan),
         _ => None,
     }
 }

@@ -1,4 +1,4 @@
-//! `pit` values and checks open pit schedules: it opens the files that its words name, and calls an engine.
+//! `pit` values, checks and edits open pit schedules: it opens the files that its words name, and calls an engine.
 #![tactic(auto)]
 
 mod argument;
@@ -7,6 +7,7 @@ mod ending;
 mod engine;
 mod fault;
 mod files;
+mod plan_files;
 mod runs;
 
 use clap::error::ErrorKind;
@@ -16,14 +17,16 @@ use pit_cli::Status;
 use pit_num::Out;
 use runs::run;
 use std::process::ExitCode;
+use std::sync::Wait;
+use std::thread::Threads;
 
 fn main(rt: HostRuntime) -> ExitCode {
-    let answer = answer(&rt);
+    let answer = answer(&rt, &rt);
     ending::ended(&rt, answer)
 }
 
-/// Reads the words of the command line, and does what they ask.
-fn answer(rt: &HostRuntime) -> Result<Status, Fault> {
+/// Reads the words of the command line, and does what they ask, with threads where it takes them.
+fn answer<R: Threads + Wait + Sync>(rt: &HostRuntime, threads: &R) -> Result<Status, Fault> {
     let words = command::words(rt)?;
     let matches = command::matched(rt.alloc(), words.as_slice())?;
     let Some((engine, given)) = asked(&matches) else {
@@ -31,5 +34,6 @@ fn answer(rt: &HostRuntime) -> Result<Status, Fault> {
         return Err(Fault::from(refusal));
     };
     let mut out = Out::new(rt.stdout());
-    Ok(run(rt.alloc(), rt, engine, given, &mut out)?)
+    let mut report = Out::new(rt.stderr());
+    Ok(run(rt.alloc(), rt, threads, engine, given, &mut out, &mut report)?)
 }

@@ -2,32 +2,50 @@
 ghost use Rattle.std.specs.Prelude.{◌≡◌};
 ghost use Rattle.pit_cli.specs.Devices.{writing_of};
 ghost use Rattle.pit.specs.declared.engine.Engine.TheVariants.{Value as value_engine, Check as check_engine};
-ghost use Rattle.pit.specs.Runs.{file_bytes, file_opens, inputs_of, OpensEach, IsRunOf, IsValueRun, IsCheckRun};
+ghost use Rattle.pit.specs.Runs.{file_bytes, file_opens, inputs_of, of_cli, OpensEach, IsRunOf, IsValueRun, IsCheckRun, IsPlanOf};
 
+use crate::argument::retries_of;
 use crate::engine::Engine;
 use crate::files::{Disk, opened};
+use crate::plan_files::plan_input;
 use clap::ArgMatches;
 use pit_cli::{CliFault, Input, Status, check, value};
 use pit_num::Sink;
+use pit_planning::{PlanFault, plan};
 use std::alloc::Global;
+use std::sync::Wait;
+use std::thread::Threads;
 
-/// Runs an engine. The first input whose file can't be opened is answered, and then nothing is written.
-pub fn run<D: Disk, W: Sink>(
+/// Runs an engine. Only `plan` writes a report. The first input whose file can't be opened is answered, and then nothing is written.
+pub fn run<D: Disk, R: Threads + Wait + Sync, W: Sink, L: Sink>(
     alloc: Global,
     disk: &D,
+    rt: &R,
     engine: Engine,
     given: &ArgMatches<'_>,
     out: &mut W,
-) -> Result<Status, CliFault>
-    ensures { let told = file_bytes (D.bytes_at disk.now) given.now in
+    report: &mut L,
+) -> Result<Status, PlanFault>
+    ensures { let opens = file_opens (D.opens_at disk.now) given.now in
+        let told = file_bytes (D.bytes_at disk.now) given.now in
         let written = writing_of (W.contents out.old) (W.contents out.new) (W.has_failed out.new) in
-        OpensEach (file_opens (D.opens_at disk.now) given.now) (inputs_of engine)
-        (λ input. (result ≡ Err (CliFault.CannotRead input)) × (out.new ≡ out.old))
-        (IsRunOf engine told written result) }
+        let lines = writing_of (L.contents report.old) (L.contents report.new) (L.has_failed report.new) in
+        IsRunOf engine opens told given.now (out.new ≡ out.old) written lines result }
 {
     match engine {
-        Engine::Value => run_value(alloc, disk, given, out),
-        Engine::Check => run_check(alloc, disk, given, out),
+        Engine::Value => of_cli(run_value(alloc, disk, given, out)),
+        Engine::Check => of_cli(run_check(alloc, disk, given, out)),
+        Engine::Plan => run_plan(alloc, disk, rt, given, out, report),
+    }
+}
+
+/// The answer of an engine whose faults are those of inputs and outputs.
+fn of_cli(answer: Result<Status, CliFault>) -> Result<Status, PlanFault>
+    ensures { result ≡ of_cli answer }
+{
+    match answer {
+        Ok(status) => Ok(status),
+        Err(fault) => Err(PlanFault::Cli(fault)),
     }
 }
 
@@ -64,4 +82,25 @@ fn run_check<D: Disk, W: Sink>(
     let mut precedence = opened(disk, given, Input::Precedence)?;
     let mut solution = opened(disk, given, Input::Solution)?;
     check(alloc, &mut model, &mut precedence, &mut solution, out)
+}
+
+fn run_plan<D: Disk, R: Threads + Wait + Sync, W: Sink, L: Sink>(
+    alloc: Global,
+    disk: &D,
+    rt: &R,
+    given: &ArgMatches<'_>,
+    out: &mut W,
+    report: &mut L,
+) -> Result<Status, PlanFault>
+    ensures { let opens = file_opens (D.opens_at disk.now) given.now in
+        let told = file_bytes (D.bytes_at disk.now) given.now in
+        let written = writing_of (W.contents out.old) (W.contents out.new) (W.has_failed out.new) in
+        let lines = writing_of (L.contents report.old) (L.contents report.new) (L.has_failed report.new) in
+        IsPlanOf opens told given.now written lines result }
+{
+    let retries = retries_of(given);
+    match plan_input(alloc, disk, given) {
+        Ok(input) => plan(alloc, rt, input, retries, out, report),
+        Err(fault) => Err(PlanFault::Cli(fault)),
+    }
 }

@@ -5,3 +5,4 @@ pub mod Determined
 pub mod DeterminedSteps
 pub mod Runs
 pub mod Stops
+pub mod CallerLemmas

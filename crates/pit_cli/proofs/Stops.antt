@@ -9,13 +9,14 @@ use Rattle.pit_text.specs.declared.error.TextError.{TextError}
 use Rattle.pit_text.specs.Stands.{StopsAt, FailsFirst, FailsWhole}
 use Rattle.pit_text.specs.Model.{model_line, model_end, ModelStops}
 use Rattle.pit_text.specs.Precedence.{precedence_line}
+use Rattle.pit_text.specs.Blocks.{block_line}
 use Rattle.pit_text.specs.Solution.{solution_line, SolutionStops}
-use Rattle.pit_text.proofs.CallerLemmas.{no_model_wants, no_order_wants, no_solution_wants}
+use Rattle.pit_text.proofs.CallerLemmas.{no_model_wants, no_order_wants, no_block_wants, no_solution_wants}
 use Rattle.pit_cli.specs.declared.input.Input.{Input}
 use Rattle.pit_cli.specs.declared.fault.CliFault.{CliFault}
 use Rattle.pit_cli.specs.declared.fault.CliFault.TheVariants.{NoMemory}
 use Rattle.pit_cli.specs.Devices.{Reading, IsTextFault, input_step}
-use Rattle.pit_cli.specs.Inputs.{IsModel, IsModelStop, IsOrder, IsOrderStop, IsSolutionOf, IsSolutionStop}
+use Rattle.pit_cli.specs.Inputs.{IsModel, IsModelStop, IsOrder, IsOrderStop, IsPlacesStop, IsSolutionOf, IsSolutionStop}
 
 -- ---- behind the whole text
 
@@ -54,6 +55,16 @@ order-wants given bytes error is answered =
       error.line,
       stop_alone (StopsAt (precedence_line given) (cut_of bytes) error.line) (FailsFirst (precedence_line given) (cut_of bytes) error.line) error.cause is
           (no_order_wants given (cut_of bytes) error.line) answered,
+    )
+
+pub places-wants : (given : Pit) (bytes : List ℕ) (error : TextError) → error.cause ≡ WantsMemory
+    → ((error.cause ≡ WantsMemory) × StopsAt (block_line given) (cut_of bytes) error.line) ⊎ FailsFirst (block_line given) (cut_of bytes) error.line error.cause → IsPlacesStop given bytes
+unfolding IsPlacesStop
+places-wants given bytes error is answered =
+    inl (
+      error.line,
+      stop_alone (StopsAt (block_line given) (cut_of bytes) error.line) (FailsFirst (block_line given) (cut_of bytes) error.line) error.cause is
+          (no_block_wants given (cut_of bytes) error.line) answered,
     )
 
 pub solution-wants : (pit : Pit) (bytes : List ℕ) (error : TextError) → error.cause ≡ WantsMemory

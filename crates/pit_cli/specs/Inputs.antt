@@ -1,22 +1,26 @@
 -- The inputs: the words that faults name them with, and what their texts stand for.
-use Rattle.std.specs.Prelude.{◌≡◌, ◌⊎◌, ℕ, List, Option, codes}
+use Rattle.std.specs.Prelude.{◌≡◌, ◌⊎◌, ℕ, ℤ, ◌++◌, List, Option, codes, decimal}
 use Rattle.pit_model.specs.Pit.{Pit}
 use Rattle.pit_text.specs.declared.error.TextError.{TextError}
 use Rattle.pit_text.specs.Cutting.{cut_of, end_line}
 use Rattle.pit_text.specs.Stands.{StandsFor, StopsAt, FailsFirst, StandsWhole, FailsWhole}
 use Rattle.pit_text.specs.Model.{model_line, model_end, pit_of, ModelStops}
 use Rattle.pit_text.specs.Precedence.{precedence_line, pit_with_preds}
+use Rattle.pit_text.specs.Blocks.{block_line, pit_with_places}
 use Rattle.pit_num.specs.Fitting.{IsSchedule}
 use Rattle.pit_text.specs.Solution.{solution_line, period_in, schedule_of, SolutionStops}
 use Rattle.pit_cli.specs.declared.input.Input.{Input}
-use Rattle.pit_cli.specs.declared.input.Input.TheVariants.{Model, Precedence, Solution}
+use Rattle.pit_cli.specs.declared.input.Input.TheVariants.{Model, Precedence, Blocks, Start, Solution, Script}
 use Rattle.pit_cli.specs.Steps.{Step}
 use Rattle.pit_cli.specs.Devices.{Reading, input_step}
 
 abbrev pub input_name : Input → List ℕ
 input_name Model = codes "model"
 input_name Precedence = codes "precedence"
+input_name Blocks = codes "blocks"
+input_name Start = codes "start"
 input_name Solution = codes "solution"
+input_name (Script number) = codes "script " ++ decimal number
 
 -- a text stands for facts, and these say a value
 pub record StandsAs {F B : Type 0} (Stands : List F → Type 0) (value_of : List F → B) (value : B) : Type 0 where
@@ -38,6 +42,13 @@ IsOrder given bytes = StandsAs (StandsFor (precedence_line given) (cut_of bytes)
 abbrev pub IsBadOrder : Pit → List ℕ → TextError → Type 0
 IsBadOrder given bytes error = FailsFirst (precedence_line given) (cut_of bytes) error.line error.cause
 
+-- places of blocks that stand for a pit, of one that is given; and places with their first error
+abbrev pub IsPlaced : Pit → List ℕ → Pit → Type 0
+IsPlaced given bytes = StandsAs (StandsFor (block_line given) (cut_of bytes)) (pit_with_places given)
+
+abbrev pub IsBadPlaces : Pit → List ℕ → TextError → Type 0
+IsBadPlaces given bytes error = FailsFirst (block_line given) (cut_of bytes) error.line error.cause
+
 -- a solution of a pit, its blocks with their periods by rising block, and one with its first error
 abbrev pub IsSolutionOf : Pit → List ℕ → List (ℕ × ℕ) → Type 0
 IsSolutionOf pit bytes = StandsAs (StandsFor (solution_line pit.blocks pit.periods) (cut_of bytes)) (λ facts. schedule_of pit.blocks (period_in facts))
@@ -53,6 +64,10 @@ IsModelStop bytes = (place : ℕ) × ModelStops (cut_of bytes) (end_line bytes) 
 unfoldable pub IsOrderStop : Pit → List ℕ → Type 0
 IsOrderStop given bytes =
     ((place : ℕ) × StopsAt (precedence_line given) (cut_of bytes) place) ⊎ ((facts : List (ℕ × List ℕ)) × StandsFor (precedence_line given) (cut_of bytes) facts)
+
+unfoldable pub IsPlacesStop : Pit → List ℕ → Type 0
+IsPlacesStop given bytes =
+    ((place : ℕ) × StopsAt (block_line given) (cut_of bytes) place) ⊎ ((facts : List (ℕ × (ℤ × ℤ × ℤ))) × StandsFor (block_line given) (cut_of bytes) facts)
 
 unfoldable pub IsSolutionStop : Pit → List ℕ → Type 0
 IsSolutionStop pit bytes =

@@ -86,7 +86,7 @@ fn write_over<W: Sink>(
     write_load(w, resource, period, load, i128::from(limit))
 }
 
-fn write_shorts<W: Sink>(w: &mut W, shorts: &[Short]) -> Result<(), WriteFault>
+pub(crate) fn write_shorts<W: Sink>(w: &mut W, shorts: &[Short]) -> Result<(), WriteFault>
     ensures { OnOk result (Appends (W.contents w.old) (W.contents w.new) (shorts_text shorts.now)) }
 {
     for short in shorts {

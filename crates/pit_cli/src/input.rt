@@ -5,7 +5,11 @@ use std::fmt;
 pub enum Input {
     Model,
     Precedence,
+    Blocks,
+    Start,
     Solution,
+    /// By its number, counted from 1.
+    Script(u64),
 }
 
 impl fmt::Display for Input {
@@ -18,7 +22,10 @@ impl fmt::Display for Input {
         match self {
             Input::Model => write!(f, "model"),
             Input::Precedence => write!(f, "precedence"),
+            Input::Blocks => write!(f, "blocks"),
+            Input::Start => write!(f, "start"),
             Input::Solution => write!(f, "solution"),
+            Input::Script(number) => write!(f, "script {number}"),
         }
     }
 }

@@ -21,5 +21,7 @@ pub use engines::value::value;
 pub use fault::CliFault;
 pub use input::Input;
 pub use outcome::one_outcome;
+pub use parsed::{builder_of, built, bytes_of, ordered, placed, schedule_of};
 pub use read::{INPUT_BYTES_MAX, ReadError, read_all};
 pub use status::Status;
+pub use value_text::with_value;

@@ -1,18 +1,18 @@
 ghost use Rattle.std.specs.Prelude.{◌≡◌, IfOk, MatchResult};
 ghost use Rattle.pit_cli.specs.Steps.{IsResultOf};
 ghost use Rattle.pit_cli.specs.Devices.{reading_of, IsWhole, IsInputFault, IsTextFault};
-ghost use Rattle.pit_cli.specs.Inputs.{IsModel, IsBadModel, IsModelStop, IsOrder, IsBadOrder, IsOrderStop, IsSolutionOf, IsBadSolution, IsSolutionStop, IsScheduleOf, model_step, schedule_step};
+ghost use Rattle.pit_cli.specs.Inputs.{IsModel, IsBadModel, IsModelStop, IsOrder, IsBadOrder, IsOrderStop, IsPlaced, IsBadPlaces, IsPlacesStop, IsSolutionOf, IsBadSolution, IsSolutionStop, IsScheduleOf, model_step, schedule_step};
 
 use super::fault::CliFault;
 use super::input::Input;
 use super::read::{ReadError, read_all};
 use pit_model::{Builder, Instance};
 use pit_num::Source;
-use pit_text::{Cause, read_model, read_precedence, read_solution};
+use pit_text::{Cause, read_blocks, read_model, read_precedence, read_solution};
 use std::alloc::Allocator;
 
-/// The bytes of an input.
-pub(crate) fn bytes_of<A: Allocator, R: Source>(
+/// The bytes of an input, all that its source has left.
+pub fn bytes_of<A: Allocator, R: Source>(
     alloc: A,
     source: &mut R,
     file: Input,
@@ -28,8 +28,8 @@ pub(crate) fn bytes_of<A: Allocator, R: Source>(
     }
 }
 
-/// The pit of a model, to which facts can be added.
-fn builder_of<A: Allocator + Copy + Drop>(alloc: A, model: &[u8]) -> Result<Builder<A>, CliFault>
+/// The pit of a model text, to which facts can be added.
+pub fn builder_of<A: Allocator + Copy + Drop>(alloc: A, model: &[u8]) -> Result<Builder<A>, CliFault>
     ensures { MatchResult result (IsModel model.now) (IsTextFault Input.Model (IsBadModel model.now) (IsModelStop model.now)) }
 {
     match read_model(alloc, model) {
@@ -43,7 +43,7 @@ fn builder_of<A: Allocator + Copy + Drop>(alloc: A, model: &[u8]) -> Result<Buil
 }
 
 /// The pit with the precedences of a text.
-pub(crate) fn ordered<A: Allocator + Copy + Drop>(
+pub fn ordered<A: Allocator + Copy + Drop>(
     alloc: A,
     precedence: &[u8],
     given: Builder<A>,
@@ -60,8 +60,25 @@ pub(crate) fn ordered<A: Allocator + Copy + Drop>(
     }
 }
 
+/// The pit with the places of a block text.
+pub fn placed<A: Allocator + Copy + Drop>(
+    blocks: &[u8],
+    given: Builder<A>,
+) -> Result<Builder<A>, CliFault>
+    ensures { MatchResult result (IsPlaced given blocks.now) (IsTextFault Input.Blocks (IsBadPlaces given blocks.now) (IsPlacesStop given blocks.now)) }
+{
+    match read_blocks(blocks, given) {
+        Ok(builder) => Ok(builder),
+        Err(error) if error.cause == Cause::NoMemory => Err(CliFault::NoMemory),
+        Err(error) => Err(CliFault::Text {
+            file: Input::Blocks,
+            error,
+        }),
+    }
+}
+
 /// The pit as it was set.
-pub(crate) fn built<A: Allocator + Copy + Drop>(
+pub fn built<A: Allocator + Copy + Drop>(
     builder: Builder<A>,
 ) -> Result<Instance<A>, CliFault>
     ensures { MatchResult result (λ instance. instance ≡ builder) (λ fault. fault ≡ CliFault.NoMemory) }
@@ -72,24 +89,22 @@ pub(crate) fn built<A: Allocator + Copy + Drop>(
     }
 }
 
-/// The blocks and periods of a solution, by rising block.
-fn schedule_of<A: Allocator + Copy + Drop>(
+/// The blocks and periods of a solution, by rising block. The file is the one that a fault names.
+pub fn schedule_of<A: Allocator + Copy + Drop>(
     alloc: A,
+    file: Input,
     solution: &[u8],
     instance: &Instance<A>,
 ) -> Result<Vec<(u32, u32), A>, CliFault>
     ensures result { MatchResult result
         (λ schedule. IsSolutionOf instance.now solution.now schedule.items)
-        (IsTextFault Input.Solution (IsBadSolution instance.now solution.now) (IsSolutionStop instance.now solution.now)) }
+        (IsTextFault file (IsBadSolution instance.now solution.now) (IsSolutionStop instance.now solution.now)) }
     ensures fits { IfOk result (λ schedule. IsScheduleOf instance.now schedule.items) }
 {
     match read_solution(alloc, solution, instance) {
         Ok(schedule) => Ok(schedule),
         Err(error) if error.cause == Cause::NoMemory => Err(CliFault::NoMemory),
-        Err(error) => Err(CliFault::Text {
-            file: Input::Solution,
-            error,
-        }),
+        Err(error) => Err(CliFault::Text { file, error }),
     }
 }
 
@@ -116,5 +131,5 @@ pub(crate) fn read_schedule<A: Allocator + Copy + Drop, S: Source>(
     ensures fits { IfOk result (λ schedule. IsScheduleOf pit.now schedule.items) }
 {
     let bytes = bytes_of(alloc, solution, Input::Solution)?;
-    schedule_of(alloc, &bytes, pit)
+    schedule_of(alloc, Input::Solution, &bytes, pit)
 }

@@ -104,6 +104,14 @@ impl<A: Allocator + Copy + Drop> Plan<A> {
         self.tally.periods[b as usize]
     }
 
+    /// The period of each block, or none, by rising block.
+    pub fn periods(&self) -> &[Option<u32>]
+        ensures periods { result.now ≡ self.now.periods }
+        ensures count { length result.now ≡ self.now.pit.blocks }
+    {
+        &self.tally.periods
+    }
+
     /// The number of the last commit that named a block, or 0.
     pub fn version(&self, b: u32) -> u32
         requires { b < self.now.pit.blocks }

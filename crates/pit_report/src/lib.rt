@@ -3,4 +3,4 @@
 
 mod report_text;
 
-pub use report_text::write_runs;
+pub use report_text::run_lines;

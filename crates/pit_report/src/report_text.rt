@@ -1,4 +1,4 @@
-ghost use Rattle.std.specs.Prelude.{◌≡◌, ◌++◌, OnOk, codes, decimal};
+ghost use Rattle.std.specs.Prelude.{◌≡◌, ◌++◌, IfOk, OnOk, codes, decimal};
 ghost use Rattle.std.specs.Io.KnownBytes.{Appends};
 ghost use Rattle.pit_num.specs.Printed.{fixed_text};
 ghost use Rattle.pit_report.specs.ReportText.{numbered_text, refusal_text, outcome_text, job_text, jobs_text, end_text, stopped_text, run_text, runs_text};
@@ -6,12 +6,25 @@ ghost use Rattle.pit_report.specs.ReportText.{numbered_text, refusal_text, outco
 use itoa::Buffer;
 use pit_book::Refusal;
 use pit_job::{Outcome, RunEnd};
-use pit_num::{Sink, WriteFault, write_micro, write_text};
+use pit_num::{NoMemory, Out, Sink, WriteFault, write_micro, write_text};
 use pit_run::PlannerRun;
 use std::alloc::Allocator;
 
-/// A line for each outcome, by rising planner and job, and one for each planner whose run isn't whole.
-pub fn write_runs<A: Allocator + Drop, W: Sink>(
+/// A line for each outcome, by rising planner and job, and one for each planner whose run isn't whole. Takes the memory of the lines.
+pub fn run_lines<A: Allocator + Drop, B: Allocator + Copy + Drop>(
+    alloc: B,
+    runs: &[PlannerRun<A>],
+) -> Result<Vec<u8, B>, NoMemory>
+    ensures { IfOk result (λ text. text.items ≡ runs_text runs.now) }
+{
+    let mut text = Out::new(Vec::new(alloc));
+    match write_runs(&mut text, runs) {
+        Ok(()) => Ok(text.into_inner()),
+        Err(_) => Err(NoMemory),
+    }
+}
+
+fn write_runs<A: Allocator + Drop, W: Sink>(
     w: &mut W,
     runs: &[PlannerRun<A>],
 ) -> Result<(), WriteFault>

@@ -8,6 +8,7 @@ ghost use Rattle.pit_share.specs.declared.blank.TheConstants.{PLANNERS_MAX};
 mod hot;
 mod lines;
 mod memory;
+mod planning;
 mod rows;
 
 use pit_board::Session;

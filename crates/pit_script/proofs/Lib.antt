@@ -1,8 +1,9 @@
-pub mod Kept
+pub mod ByHeight
+pub mod CallerLemmas
 pub mod Drafts
 pub mod Fields
+pub mod Kept
 pub mod Placed
-pub mod ByHeight
 pub mod Progressing
 pub mod Ranging
 pub mod Wanting

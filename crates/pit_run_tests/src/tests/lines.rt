@@ -2,9 +2,9 @@
 use super::rows::{REVISED, THREE};
 use super::{empty_desk, report_of, started_desk};
 use pit_job::Open;
-use pit_report::write_runs;
+use pit_refuse::Refusing;
+use pit_report::run_lines;
 use pit_run::Report;
-use pit_sample::Narrow;
 use std::alloc::Global;
 use std::process::Abort;
 
@@ -20,7 +20,7 @@ fn a_planner_stops(rt: HostRuntime) {
     let desk = empty_desk(&rt, rt.alloc(), 2);
     let report = report_of(&rt, rt.alloc(), desk, &[THREE], 1, 3, &Open);
     assert_lines(&rt, rt.alloc(), &report, STOPPED);
-    assert_fronts(&rt, rt.alloc(), &report, STOPPED);
+    assert_refusals(&rt, rt.alloc(), &report);
 }
 
 #[test]
@@ -56,16 +56,15 @@ fn no_job(rt: HostRuntime) {
 }
 
 fn assert_lines(rt: &impl Abort, alloc: Global, report: &Report<Global>, wanted: &str) {
-    let mut out = Narrow::new(alloc, 7, 1_000);
-    assert!(rt; write_runs(&mut out, report.runs.as_slice()).is_ok());
-    assert!(rt; out.held() == wanted.as_bytes());
+    let lines = run_lines(alloc, report.runs.as_slice()).expect(rt, "memory");
+    assert!(rt; lines.as_slice() == wanted.as_bytes());
 }
 
-/// A device that fails after so many bytes, for each number of them, holds the front of the lines.
-fn assert_fronts(rt: &impl Abort, alloc: Global, report: &Report<Global>, wanted: &str) {
-    for room in 0..wanted.len() {
-        let mut out = Narrow::new(alloc, 1_000, room);
-        assert!(rt; write_runs(&mut out, report.runs.as_slice()).is_err());
-        assert!(rt; Some(out.held()) == wanted.as_bytes().get(..room));
+/// Memory is wanted only where it was refused.
+fn assert_refusals(rt: &impl Abort, alloc: Global, report: &Report<Global>) {
+    for number in 1..20 {
+        let heap = Refusing::new(alloc, number);
+        let answer = run_lines(&heap, report.runs.as_slice());
+        assert!(rt; answer.is_err() == heap.count().has_refused());
     }
 }

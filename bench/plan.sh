@@ -1,0 +1,129 @@
+#!/usr/bin/env bash
+# Times `pit plan`, in turn with a native program; the best of three runs.
+# usage: bench/plan.sh [-n JOBS] [-t TWIN] PIT NAME..   reads NAME.cpit, NAME.prec and NAME.sol, whose lines have two fields
+# Plans from the solution: with one planner who has one job of one line; then with 1 and 4 planners who have JOBS each (50,000 where it isn't
+# said), of one block, which is read and put where it is; then with 1 and 4 planners whose jobs read 32 blocks and put one. Prints seconds and peak
+# memory, and jobs a second: those of a run less those of a run with empty scripts. The twin is run as `TWIN plan .. --reads board`, on the same
+# files. Wants GNU time.
+set -eu
+
+usage() {
+    echo "usage: $0 [-n JOBS] [-t TWIN] PIT NAME.." >&2
+    exit 2
+}
+jobs=50000
+twin=
+while getopts n:t: option; do
+    case $option in
+    n) jobs=$OPTARG ;;
+    t) twin=$(realpath "$OPTARG") ;;
+    *) usage ;;
+    esac
+done
+shift $((OPTIND - 1))
+[ $# -ge 2 ] && [ -x "$1" ] || usage
+case $jobs in
+'' | 0* | *[!0-9]*) usage ;;
+esac
+pit=$(realpath "$1")
+shift
+for name in "$@"; do
+    [ -s "$name.sol" ] || usage
+done
+work=$(mktemp -d)
+trap 'rm -rf "$work"' EXIT
+
+# script NAME SEED JOBS READS: a planner's jobs.
+script() {
+    awk -v jobs="$3" -v reads="$4" -v x="$2" '
+        function next_block() {
+            x = (x * 1664525 + 1013904223) % 4294967296
+            return int(x / 256) % blocks
+        }
+        FILENAME != ARGV[1] && $1 == "NBLOCKS:" { blocks = $2; exit }
+        FILENAME == ARGV[1] { period[$1] = $2 }
+        END {
+            for (; jobs > 0; jobs--) {
+                print "begin"
+                for (i = 0; i < reads; i++) {
+                    b = next_block()
+                    print "read", b
+                }
+                if (b in period) print "put", b, period[b]; else print "clear", b
+                print "commit"
+            }
+        }' "$1.sol" "$1.cpit" >"$work/script.$2.$3.$4"
+}
+
+# best KEY PROGRAM WORD..: keeps the least seconds and the least peak memory, in KB, of the runs so far. A status of 1 says that a load falls
+# short; one above 1 ends the script.
+declare -A seconds memory
+best() {
+    local key=$1 status=0 begun ended m s
+    shift
+    begun=$EPOCHREALTIME
+    /usr/bin/time -f '%M' -o "$work/measured" "$@" >"$work/out" 2>"$work/err" || status=$?
+    ended=$EPOCHREALTIME
+    if [ "$status" -gt 1 ]; then
+        echo "$key: status $status" >&2
+        tail -2 "$work/err" >&2
+        exit 1
+    fi
+    m=$(tail -1 "$work/measured")
+    s=$(awk "BEGIN { print $ended - $begun }")
+    if awk "BEGIN { exit !($s < ${seconds[$key]:-999999}) }"; then seconds[$key]=$s; fi
+    if [ "$m" -lt "${memory[$key]:-999999999}" ]; then memory[$key]=$m; fi
+}
+
+# runs KEY NAME SCRIPT..: both programs, in turn.
+runs() {
+    local key=$1 name=$2
+    shift 2
+    best "pit $key" "$pit" plan "$name.cpit" "$name.prec" --start "$name.sol" "$@"
+    [ -z "$twin" ] || best "twin $key" "$twin" plan "$name.cpit" "$name.prec" --start "$name.sol" --reads board "$@"
+}
+
+# whole KEY WHAT: seconds and memory, and their ratios to the twin's.
+whole() {
+    printf '%-36s %8.2f s %10s KB' "$2" "${seconds[pit $1]}" "${memory[pit $1]}"
+    [ -z "$twin" ] || awk "BEGIN { printf \"   to the twin: time %.2f, memory %.2f\", ${seconds[pit $1]} / ${seconds[twin $1]}, ${memory[pit $1]} / ${memory[twin $1]} }"
+    echo
+}
+
+# rate OF KEY NONE PLANNERS: jobs a second.
+rate() {
+    awk "BEGIN { printf \"%.0f\", $4 * $jobs / (${seconds[$1 $2]} - ${seconds[$1 $3]}) }"
+}
+
+# rates KEY NONE PLANNERS WHAT: jobs a second, and their ratio to the twin's.
+rates() {
+    local of
+    of=$(rate pit "$1" "$2" "$3")
+    printf '%-36s %8s jobs a second' "$4" "$of"
+    [ -z "$twin" ] || awk "BEGIN { printf \"   to the twin: %.2f\", $of / $(rate twin "$1" "$2" "$3") }"
+    echo
+}
+
+: >"$work/none"
+for name in "$@"; do
+    for seed in 1 2 3 4; do
+        script "$name" "$seed" "$jobs" 1
+        script "$name" "$seed" "$jobs" 32
+    done
+    printf 'begin\nput %s\ncommit\n' "$(awk '$1 ~ /^[0-9]+$/ { print $1, $2; exit }' "$name.sol")" >"$work/one"
+    for _ in 1 2 3; do
+        runs "$name one" "$name" "$work/one"
+        runs "$name none" "$name" "$work/none"
+        for reads in 1 32; do
+            runs "$name $reads 1" "$name" "$work/script.1.$jobs.$reads"
+            runs "$name $reads 4" "$name" "$work"/script.[1-4]."$jobs.$reads"
+        done
+    done
+    whole "$name one" "${name##*/}, one job of one line"
+    for reads in 1 32; do
+        for planners in 1 4; do
+            whole "$name $reads $planners" "${name##*/}, reads $reads, planners $planners"
+            rates "$name $reads $planners" "$name none" "$planners" ''
+        done
+    done
+done

@@ -1,0 +1,9 @@
+use Rattle.std.proofs.Common.{◌≡◌, All, map, take}
+use Rattle.pit.specs.Runs.{file_bytes, file_opens}
+use Rattle.pit.specs.PlanRun.{IsOpen}
+use Rattle.pit.proofs.plan_files.open_each.Given as goal
+
+abbrev pub invariant-loop-input : goal.invariant-loop-input
+invariant-loop-input g l =
+    (map (λ file. g.D.File.Read.remaining file.reader) l.files.items ≡ map (file_bytes (g.D.Disk.bytes_at l.disk) l.given) (take l.input-index l.inputs))
+    × All (IsOpen (file_opens (g.D.Disk.opens_at l.disk) l.given)) (take l.input-index l.inputs)

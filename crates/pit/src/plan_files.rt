@@ -1,0 +1,143 @@
+//! The files of the inputs of `plan`: all are opened, in the order of the inputs, and then each is read whole.
+ghost use Rattle.std.specs.Prelude.{◌≡◌, ◌++◌, ◌∷◌, [], ◌+◌, ◌≤◌, ℕ, List, Option, All, IfOk, IfErr, OnOk, MatchResult, length, map, is_some, option_to_list};
+ghost use Rattle.pit_cli.specs.declared.input.Input.{Input as input_type};
+ghost use Rattle.pit.specs.Runs.{file_bytes, file_opens};
+ghost use Rattle.pit.specs.PlanRun.{plan_inputs, input_if, script_inputs, count_if, all_texts, IsOpen, IsUnopened, IsUnreadOf, AreRead, IsInput, IsNoInput};
+
+use crate::argument::{path_of, script_count};
+use crate::files::{Disk, opened};
+use clap::ArgMatches;
+use pit_cli::{CliFault, Input, bytes_of};
+use pit_num::In;
+use pit_planning::PlanInput;
+use std::alloc::Global;
+use std::io::Read;
+
+/// Opens the file of each input, and then reads each. The first that can't be opened is answered, or else the first that can't be read whole.
+pub fn plan_input<D: Disk>(
+    alloc: Global,
+    disk: &D,
+    given: &ArgMatches<'_>,
+) -> Result<PlanInput<Global>, CliFault>
+    ensures { let opens = file_opens (D.opens_at disk.now) given.now in
+        let told = file_bytes (D.bytes_at disk.now) given.now in
+        MatchResult result (IsInput opens told given.now) (IsNoInput opens told given.now) }
+{
+    let inputs = plan_inputs(alloc, given)?;
+    let mut files = open_each(alloc, disk, given, &inputs)?;
+    let texts = read_each(alloc, &inputs, &mut files)?;
+    let blocks = path_of(given, Input::Blocks).is_some();
+    let start = path_of(given, Input::Start).is_some();
+    Ok(in_order(texts, blocks, start))
+}
+
+/// The inputs, in the order in which they are opened and read.
+fn plan_inputs(alloc: Global, given: &ArgMatches<'_>) -> Result<Vec<Input>, CliFault>
+    ensures ok { IfOk result (λ inputs. inputs.items ≡ plan_inputs given.now) }
+    ensures err { IfErr result (λ fault. fault ≡ CliFault.NoMemory) }
+{
+    let mut inputs = Vec::new(alloc);
+    push(&mut inputs, Input::Model)?;
+    push(&mut inputs, Input::Precedence)?;
+    push_if(&mut inputs, given, Input::Blocks)?;
+    push_if(&mut inputs, given, Input::Start)?;
+    push_scripts(&mut inputs, script_count(given))?;
+    Ok(inputs)
+}
+
+/// An input that the words may leave out.
+fn push_if(inputs: &mut Vec<Input>, given: &ArgMatches<'_>, input: Input) -> Result<(), CliFault>
+    ensures ok { OnOk result (inputs.new.items ≡ inputs.old.items ++ input_if given.now input) }
+    ensures err { IfErr result (λ fault. fault ≡ CliFault.NoMemory) }
+{
+    if path_of(given, input).is_some() {
+        return push(inputs, input);
+    }
+    Ok(())
+}
+
+fn push_scripts(inputs: &mut Vec<Input>, count: usize) -> Result<(), CliFault>
+    ensures ok { OnOk result (inputs.new.items ≡ inputs.old.items ++ script_inputs 1 count) }
+    ensures err { IfErr result (λ fault. fault ≡ CliFault.NoMemory) }
+{
+    for i in 0..count {
+        push(inputs, Input::Script(i as u64 + 1))?;
+    }
+    Ok(())
+}
+
+fn push<T: Drop>(list: &mut Vec<T>, item: T) -> Result<(), CliFault>
+    ensures ok { OnOk result (list.new.items ≡ list.old.items ++ item ∷ []) }
+    ensures err { IfErr result (λ fault. fault ≡ CliFault.NoMemory) }
+{
+    match list.push(item) {
+        Ok(()) => Ok(()),
+        Err(_) => Err(CliFault::NoMemory),
+    }
+}
+
+/// The open file of each input.
+fn open_each<D: Disk>(
+    alloc: Global,
+    disk: &D,
+    given: &ArgMatches<'_>,
+    inputs: &[Input],
+) -> Result<Vec<In<D::File>>, CliFault>
+    ensures files { let told = file_bytes (D.bytes_at disk.now) given.now in
+        IfOk result (λ files. map (λ file. D.File.remaining file.reader) files.items ≡ map told inputs.now) }
+    ensures open { let opens = file_opens (D.opens_at disk.now) given.now in OnOk result (All (IsOpen opens) inputs.now) }
+    ensures err { let opens = file_opens (D.opens_at disk.now) given.now in IfErr result (IsUnopened opens inputs.now) }
+{
+    let mut files = Vec::new(alloc);
+    for input in inputs {
+        let file = opened(disk, given, *input)?;
+        push(&mut files, file)?;
+    }
+    Ok(files)
+}
+
+/// The bytes of each file.
+fn read_each<F: Read + Drop>(
+    alloc: Global,
+    inputs: &[Input],
+    files: &mut [In<F>],
+) -> Result<Vec<Vec<u8>>, CliFault>
+    requires { length files.old ≡ length inputs.now }
+    ensures { (told : input_type → Option (List ℕ)) → map (λ file. F.remaining file.reader) files.old ≡ map told inputs.now
+        → MatchResult result (λ texts. AreRead told inputs.now (map (λ bytes. bytes.items) texts.items)) (IsUnreadOf told inputs.now) }
+{
+    let mut texts = Vec::new(alloc);
+    for i in 0..inputs.len() {
+        let bytes = bytes_of(alloc, &mut files[i], inputs[i])?;
+        push(&mut texts, bytes)?;
+    }
+    Ok(texts)
+}
+
+/// The texts by their inputs.
+fn in_order(texts: Vec<Vec<u8>>, blocks: bool, start: bool) -> PlanInput<Global>
+    requires { 2 + (count_if blocks + count_if start) ≤ length texts.items }
+    ensures all { all_texts result ≡ map (λ bytes. bytes.items) texts.items }
+    ensures blocks { is_some result.blocks ≡ blocks }
+    ensures start { is_some result.start ≡ start }
+{
+    let mut texts = texts;
+    let model = texts.remove(0);
+    let precedence = texts.remove(0);
+    let blocks = first_if(&mut texts, blocks);
+    let start = first_if(&mut texts, start);
+    PlanInput::new(model, precedence, blocks, start, texts)
+}
+
+/// The first text, taken out, if it is there.
+fn first_if(texts: &mut Vec<Vec<u8>>, is_there: bool) -> Option<Vec<u8>>
+    requires { count_if is_there ≤ length texts.old.items }
+    ensures all { texts.old.items ≡ option_to_list result ++ texts.new.items }
+    ensures is_there { is_some result ≡ is_there }
+{
+    if is_there {
+        Some(texts.remove(0))
+    } else {
+        None
+    }
+}

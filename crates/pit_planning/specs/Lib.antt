@@ -1,0 +1,4 @@
+pub mod Texts
+pub mod Planning
+pub mod Telling
+pub mod Statuses

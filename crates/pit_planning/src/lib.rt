@@ -1,0 +1,20 @@
+//! Several planners, each with a script, edit one schedule at once: from the texts of the inputs to the solution and the report.
+//!
+//! The texts are parsed in order. A desk is opened on the start, and a workspace on the desk, with a planner for each script. What is proved of
+//! their run is what `pit_run` says, after the opening history of that start; or the first fault is answered: of the texts, of the pit's limits, of the
+//! start, or of the number of planners. What is written is the solution that the closed history leaves, and what is told of the runs.
+#![tactic(auto)]
+
+mod engine;
+mod micro;
+mod plan_fault;
+mod plan_input;
+mod planning;
+mod texts;
+mod told;
+
+pub use engine::plan;
+pub use micro::Micro;
+pub use plan_fault::PlanFault;
+pub use plan_input::PlanInput;
+pub use planning::planned_run;

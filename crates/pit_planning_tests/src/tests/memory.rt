@@ -1,0 +1,86 @@
+//! Each request of a plan refused in turn.
+use super::{BARE, Given, ROOM, input_of};
+use pit_cli::{CliFault, Status};
+use pit_planning::{PlanFault, plan};
+use pit_refuse::{Count, Refusing};
+use pit_sample::{Narrow, TINY_BLOCKS};
+use std::alloc::Global;
+use std::process::Abort;
+use std::sync::Wait;
+use std::thread::Threads;
+
+/// An allocator that counts requests, and refuses one or none.
+type Heap<'a> = &'a Refusing<Global>;
+
+const GIVEN: Given<'static> = Given {
+    blocks: Some(TINY_BLOCKS),
+    start: Some(b"0 0\n"),
+    scripts: &[b"begin\nput 1 0\ncommit\nbegin\nbench 2 1\ncommit\nbegin\nread 3\nabort\n"],
+    ..BARE
+};
+
+const SOLUTION: &[u8] = b"0 0\n1 0\n";
+
+const REPORT: &[u8] = b"planner 1 job 1 committed 2 tries 1
+planner 1 job 2 refused precedence 1 0 tries 1
+planner 1 job 3 withdrawn tries 1
+value 10.500000000000000000
+short 0 1 0.000000 1.000000
+";
+
+/// The count of requests before the plan, and behind it.
+fn planned<'a, R: Threads + Wait + Abort + Sync>(
+    rt: &R,
+    alloc: Global,
+    heap: Heap<'a>,
+) -> (Count, Count) {
+    let mut solution = Narrow::new(alloc, 100, ROOM);
+    let mut report = Narrow::new(alloc, 100, ROOM);
+    let input = input_of(rt, heap, GIVEN);
+    let before = heap.count();
+    let answer = plan(heap, rt, input, 3, &mut solution, &mut report);
+    let after = heap.count();
+    match answer {
+        Ok(status) => {
+            assert!(rt; status == Status::Failed);
+            assert!(rt; solution.held() == SOLUTION);
+            assert!(rt; report.held() == REPORT);
+        }
+        Err(PlanFault::Stopped) => assert_stopped(rt, heap, report.held()),
+        Err(fault) => {
+            assert!(rt; fault == PlanFault::Cli(CliFault::NoMemory));
+            assert!(rt; heap.count().has_refused());
+            assert!(rt; solution.held().is_empty());
+            assert!(rt; report.held().is_empty());
+        }
+    }
+    (before, after)
+}
+
+/// A planner stopped for want of memory, and its jobs before that are told as ever.
+fn assert_stopped<'a>(rt: &impl Abort, heap: Heap<'a>, report: &[u8]) {
+    assert!(rt; heap.count().has_refused());
+    let told = TOLD.iter().any(|lines| report.starts_with(lines));
+    assert!(rt; told);
+}
+
+/// What is told of a planner who stops at each of the jobs.
+const TOLD: &[&[u8]] = &[
+    b"planner 1 stopped at job 1: no memory\nvalue -10.000000000000000000\n",
+    b"planner 1 job 1 committed 2 tries 1\nplanner 1 stopped at job 2: no memory\nvalue 10.500000000000000000\n",
+    b"planner 1 job 1 committed 2 tries 1\nplanner 1 job 2 refused precedence 1 0 tries 1\nplanner 1 stopped at job 3: no memory\nvalue 10.500000000000000000\n",
+    b"planner 1 not started\nvalue -10.000000000000000000\n",
+];
+
+#[test]
+fn each_request(rt: HostRuntime) {
+    let alloc = rt.alloc();
+    let none = Refusing::new(alloc, 0);
+    let (before, after) = planned(&rt, alloc, &none);
+    assert!(rt; before.asked.wrapping_add(50) < after.asked);
+    for number in before.asked..after.asked {
+        let heap = Refusing::new(alloc, number.wrapping_add(1));
+        let (again, _) = planned(&rt, alloc, &heap);
+        assert!(rt; again.asked == before.asked);
+    }
+}

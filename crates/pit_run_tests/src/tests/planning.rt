@@ -1,0 +1,183 @@
+//! Runs from a start, and what is answered where planners can't begin.
+use super::rows::THREE;
+use super::{assert_legal, benches_of, scripts_of, tiny};
+use pit_cli::CliFault;
+use pit_model::Instance;
+use pit_planning::{Micro, PlanFault, planned_run};
+use pit_run::Report;
+use pit_sample::{Fact, TINY, TINY_SIZE, built};
+use std::alloc::Global;
+use std::process::Abort;
+use std::sync::Wait;
+use std::thread::Threads;
+
+/// What planners leave of the small pit, of which no block is mined at the start.
+fn from_nothing<R: Threads + Wait + Abort + Sync>(
+    rt: &R,
+    alloc: Global,
+    pit: Instance<Global>,
+    texts: &[&[u8]],
+) -> Result<Report<Global>, PlanFault> {
+    let benches = benches_of(rt, alloc, &pit);
+    let scripts = scripts_of(rt, alloc, &pit, &benches, texts);
+    planned_run(alloc, rt, pit, &[], scripts.as_slice(), &benches, 3)
+}
+
+/// The periods of the small pit's blocks.
+fn assert_periods(rt: &impl Abort, report: &Report<Global>, periods: [Option<u32>; 4]) {
+    let plan = report.closed.desk().plan();
+    assert!(rt; plan.instance().blocks() == 4);
+    for b in 0..4 {
+        assert!(rt; Some(plan.period(b)) == periods.get(b as usize).copied());
+    }
+}
+
+fn assert_text(rt: &impl Abort, alloc: Global, fault: PlanFault, text: &str, status: u8) {
+    let shown = format!(in alloc; "{}", fault).expect(rt, "memory");
+    assert!(rt; shown.as_str() == text);
+    assert!(rt; fault.status() == status);
+}
+
+#[test]
+fn one_script(rt: HostRuntime) {
+    let pit = tiny(&rt, rt.alloc());
+    match from_nothing(&rt, rt.alloc(), pit, &[THREE]) {
+        Ok(report) => {
+            assert_legal(&rt, rt.alloc(), &report);
+            assert_periods(&rt, &report, [Some(0), Some(0), None, Some(1)]);
+        }
+        Err(_) => panic!(rt; "no report"),
+    }
+}
+
+/// The fault, and its line.
+fn assert_refused<R: Threads + Wait + Abort + Sync>(
+    rt: &R,
+    alloc: Global,
+    answer: Result<Report<Global>, PlanFault>,
+    fault: PlanFault,
+    text: &str,
+) {
+    match answer {
+        Ok(_) => panic!(rt; "a report"),
+        Err(found) => {
+            assert!(rt; found == fault);
+            assert_text(rt, alloc, found, text, 2);
+        }
+    }
+}
+
+/// The small pit, with one more upper limit of period 0.
+fn limited(rt: &impl Abort, alloc: Global, limit: i64) -> Instance<Global> {
+    let mut facts: Vec<Fact> = Vec::new(alloc);
+    assert!(rt; facts.extend_from_slice(TINY).is_ok());
+    assert!(rt; facts.push(Fact::Limit(0, 0, None, Some(limit))).is_ok());
+    built(alloc, TINY_SIZE, facts.as_slice()).expect(rt, "a pit")
+}
+
+#[test]
+fn a_limit_below_zero(rt: HostRuntime) {
+    let pit = limited(&rt, rt.alloc(), -1_000_000);
+    let fault = PlanFault::LimitBelowZero {
+        resource: 0,
+        period: 0,
+    };
+    let answer = from_nothing(&rt, rt.alloc(), pit, &[]);
+    assert_refused(
+        &rt,
+        rt.alloc(),
+        answer,
+        fault,
+        "pit: model: upper limit below zero 0 0",
+    );
+}
+
+#[test]
+fn an_early_start(rt: HostRuntime) {
+    let pit = tiny(&rt, rt.alloc());
+    assert!(rt; pit.blocks() > 2);
+    assert!(rt; pit.periods() > 0);
+    let benches = benches_of(&rt, rt.alloc(), &pit);
+    let answer = planned_run(rt.alloc(), &rt, pit, &[(2, 0)], &[], &benches, 0);
+    let fault = PlanFault::StartPrecedence {
+        block: 2,
+        before: 0,
+    };
+    assert_refused(&rt, rt.alloc(), answer, fault, "pit: start: precedence 2 0");
+}
+
+#[test]
+fn a_start_over_a_limit(rt: HostRuntime) {
+    let pit = limited(&rt, rt.alloc(), 1_000_000);
+    assert!(rt; pit.blocks() > 0);
+    assert!(rt; pit.periods() > 0);
+    let benches = benches_of(&rt, rt.alloc(), &pit);
+    let answer = planned_run(rt.alloc(), &rt, pit, &[(0, 0)], &[], &benches, 0);
+    let fault = PlanFault::StartOver {
+        resource: 0,
+        period: 0,
+        load: Micro(2_000_000),
+        limit: Micro(1_000_000),
+    };
+    let text = "pit: start: over 0 0 2.000000 1.000000";
+    assert_refused(&rt, rt.alloc(), answer, fault, text);
+}
+
+fn assert_planner_count<R: Threads + Wait + Abort + Sync>(
+    rt: &R,
+    alloc: Global,
+    texts: &[&[u8]],
+) {
+    let pit = tiny(rt, alloc);
+    let answer = from_nothing(rt, alloc, pit, texts);
+    let fault = PlanFault::PlannerCount;
+    assert_refused(rt, alloc, answer, fault, "pit: planner count");
+}
+
+#[test]
+fn no_planner(rt: HostRuntime) {
+    assert_planner_count(&rt, rt.alloc(), &[]);
+}
+
+#[test]
+fn one_planner_too_many(rt: HostRuntime) {
+    let text: &[u8] = b"";
+    assert_planner_count(&rt, rt.alloc(), &[text; 65]);
+}
+
+#[test]
+fn sixty_four_planners(rt: HostRuntime) {
+    let text: &[u8] = b"begin\nclear 0\ncommit\n";
+    let pit = tiny(&rt, rt.alloc());
+    match from_nothing(&rt, rt.alloc(), pit, &[text; 64]) {
+        Ok(report) => {
+            assert!(rt; report.runs.len() == 64);
+            assert!(rt; report.closed.desk().history().len() == 64);
+        }
+        Err(_) => panic!(rt; "no report"),
+    }
+}
+
+/// Lines that no run of a test leads to.
+#[test]
+fn other_lines(rt: HostRuntime) {
+    assert_text(&rt, rt.alloc(), PlanFault::NoPlace, "pit: no place", 3);
+    assert_text(&rt, rt.alloc(), PlanFault::NotClosed, "pit: not closed", 3);
+    assert_text(&rt, rt.alloc(), PlanFault::Cli(CliFault::NoMemory), "pit: no memory", 3);
+}
+
+/// Loads and limits, in millionths, with their texts.
+const AMOUNTS: &[(i128, &str)] = &[
+    (0, "0.000000"),
+    (1, "0.000001"),
+    (-500_000, "-0.500000"),
+    (-12_000_001, "-12.000001"),
+];
+
+#[test]
+fn amounts(rt: HostRuntime) {
+    for (amount, text) in AMOUNTS {
+        let shown = format!(in rt.alloc(); "{}", Micro(*amount)).expect(&rt, "memory");
+        assert!(rt; shown.as_str() == *text);
+    }
+}
