@@ -15,6 +15,7 @@ SOURCES := crates.txt $(shell find crates -name out -prune -o -type f '(' -name 
 demo: pit
 	./pit value $(EXAMPLE)/tiny.cpit $(EXAMPLE)/tiny.sol
 	./pit check $(EXAMPLE)/tiny.cpit $(EXAMPLE)/tiny.prec $(EXAMPLE)/tiny.sol
+	./pit plan $(EXAMPLE)/tiny.cpit $(EXAMPLE)/tiny.prec $(EXAMPLE)/first.script $(EXAMPLE)/second.script
 
 # Only a proved program is built: the command checks every crate below it, and then runs what it built.
 pit: $(SOURCES)

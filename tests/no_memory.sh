@@ -1,6 +1,7 @@
 #!/usr/bin/env bash
 # Refuses each request of a built `pit` for memory in turn, those of the command line's parser too. A run with a refused
-# request has to print `pit: no memory` alone, with status 3, or to end as the run in which nothing is refused.
+# request has to print `pit: no memory` alone, with status 3, or to end as the run in which nothing is refused; or a planner
+# stops for it, and the report says so, with status 3.
 # usage: tests/no_memory.sh PIT FOLDER      PIT is the path of the program, FOLDER has the small example. Wants a C compiler.
 set -u
 
@@ -50,6 +51,8 @@ each() {
         status=$?
         if [ "$status" = 3 ] && [ ! -s out ] && [ "$(cat err)" = 'pit: no memory' ]; then
             refused=$((refused + 1))
+        elif [ "$status" = 3 ] && grep -q '^planner [0-9]* \(stopped at job [0-9]*: no memory\|not started\)$' err; then
+            refused=$((refused + 1))
         elif [ "$status" != "$whole" ] || ! cmp -s out whole.out || ! cmp -s err whole.err; then
             echo "FAIL  $name: request $number refused: status $status"
             failures=$((failures + 1))
@@ -66,10 +69,15 @@ each() {
 each 'value' value "$data/tiny.cpit" "$data/tiny.sol"
 each 'check' check "$data/tiny.cpit" "$data/tiny.prec" "$data/tiny.sol"
 each 'check, breach and shortfall' check "$data/tiny.cpit" "$data/tiny.prec" "$data/over.sol"
+printf 'begin\nput 0 0\nput 1 0\ncommit\nbegin\nread 0\nrevise 0 0 inf\ncommit\nbegin\nshift 1 1\nabort\n' >one
+printf 'begin\nread 3\nabort\n' >two
+each 'plan' plan "$data/tiny.cpit" "$data/tiny.prec" one
+each 'plan, two planners from a start' plan "$data/tiny.cpit" "$data/tiny.prec" --start "$data/tiny.sol" --retries 0 one two
 each 'help' --help
 each 'help on value' value --help
 each 'help value' help value
 each 'help check' help check
+each 'help plan' help plan
 each 'version' --version
 each 'no words'
 each 'no such subcommand' valu
