@@ -2,9 +2,9 @@
 # Times `pit plan`, in turn with a native program; the best of three runs.
 # usage: bench/plan.sh [-n JOBS] [-t TWIN] PIT NAME..   reads NAME.cpit, NAME.prec and NAME.sol, whose lines have two fields
 # Plans from the solution: with one planner who has one job of one line; then with 1 and 4 planners who have JOBS each (50,000 where it isn't
-# said), of one block, which is read and put where it is; then with 1 and 4 planners whose jobs read 32 blocks and put one. Prints seconds and peak
-# memory, and jobs a second: those of a run less those of a run with empty scripts. The twin is run as `TWIN plan .. --reads board`, on the same
-# files. Wants GNU time.
+# said), of one block, which is read and put where it is; then with 1 and 4 planners whose jobs read 32 blocks and put one. Prints seconds and
+# peak memory, and jobs a second: by the time of a run less that of one that ends once its scripts are parsed, since one more behind them is bad.
+# The twin is run as `TWIN plan .. --reads board`, on the same files. Wants GNU time.
 set -eu
 
 usage() {
@@ -55,16 +55,16 @@ script() {
         }' "$1.sol" "$1.cpit" >"$work/script.$2.$3.$4"
 }
 
-# best KEY PROGRAM WORD..: keeps the least seconds and the least peak memory, in KB, of the runs so far. A status of 1 says that a load falls
-# short; one above 1 ends the script.
+# best KEY STATUS PROGRAM WORD..: keeps the least seconds and the least peak memory, in KB, of the runs so far. A status above STATUS ends the
+# script.
 declare -A seconds memory
 best() {
-    local key=$1 status=0 begun ended m s
-    shift
+    local key=$1 most=$2 status=0 begun ended m s
+    shift 2
     begun=$EPOCHREALTIME
     /usr/bin/time -f '%M' -o "$work/measured" "$@" >"$work/out" 2>"$work/err" || status=$?
     ended=$EPOCHREALTIME
-    if [ "$status" -gt 1 ]; then
+    if [ "$status" -gt "$most" ]; then
         echo "$key: status $status" >&2
         tail -2 "$work/err" >&2
         exit 1
@@ -75,12 +75,15 @@ best() {
     if [ "$m" -lt "${memory[$key]:-999999999}" ]; then memory[$key]=$m; fi
 }
 
-# runs KEY NAME SCRIPT..: both programs, in turn.
+# runs KEY NAME SCRIPT..: both programs, in turn, and each with a bad script behind the others. A status of 1 says that a load falls short.
 runs() {
     local key=$1 name=$2
     shift 2
-    best "pit $key" "$pit" plan "$name.cpit" "$name.prec" --start "$name.sol" "$@"
-    [ -z "$twin" ] || best "twin $key" "$twin" plan "$name.cpit" "$name.prec" --start "$name.sol" --reads board "$@"
+    best "pit $key" 1 "$pit" plan "$name.cpit" "$name.prec" --start "$name.sol" "$@"
+    best "pit $key parsed" 2 "$pit" plan "$name.cpit" "$name.prec" --start "$name.sol" "$@" "$work/bad"
+    [ -n "$twin" ] || return 0
+    best "twin $key" 1 "$twin" plan "$name.cpit" "$name.prec" --start "$name.sol" --reads board "$@"
+    best "twin $key parsed" 2 "$twin" plan "$name.cpit" "$name.prec" --start "$name.sol" --reads board "$@" "$work/bad"
 }
 
 # whole KEY WHAT: seconds and memory, and their ratios to the twin's.
@@ -90,21 +93,21 @@ whole() {
     echo
 }
 
-# rate OF KEY NONE PLANNERS: jobs a second.
+# rate KEY PLANNERS: jobs a second.
 rate() {
-    awk "BEGIN { printf \"%.0f\", $4 * $jobs / (${seconds[$1 $2]} - ${seconds[$1 $3]}) }"
+    awk "BEGIN { printf \"%.0f\", $2 * $jobs / (${seconds[$1]} - ${seconds[$1 parsed]}) }"
 }
 
-# rates KEY NONE PLANNERS WHAT: jobs a second, and their ratio to the twin's.
+# rates KEY PLANNERS: jobs a second, and their ratio to the twin's.
 rates() {
     local of
-    of=$(rate pit "$1" "$2" "$3")
-    printf '%-36s %8s jobs a second' "$4" "$of"
-    [ -z "$twin" ] || awk "BEGIN { printf \"   to the twin: %.2f\", $of / $(rate twin "$1" "$2" "$3") }"
+    of=$(rate "pit $1" "$2")
+    printf '%36s %8s jobs a second' '' "$of"
+    [ -z "$twin" ] || awk "BEGIN { printf \"   to the twin: %.2f\", $of / $(rate "twin $1" "$2") }"
     echo
 }
 
-: >"$work/none"
+echo bad >"$work/bad"
 for name in "$@"; do
     for seed in 1 2 3 4; do
         script "$name" "$seed" "$jobs" 1
@@ -113,7 +116,6 @@ for name in "$@"; do
     printf 'begin\nput %s\ncommit\n' "$(awk '$1 ~ /^[0-9]+$/ { print $1, $2; exit }' "$name.sol")" >"$work/one"
     for _ in 1 2 3; do
         runs "$name one" "$name" "$work/one"
-        runs "$name none" "$name" "$work/none"
         for reads in 1 32; do
             runs "$name $reads 1" "$name" "$work/script.1.$jobs.$reads"
             runs "$name $reads 4" "$name" "$work"/script.[1-4]."$jobs.$reads"
@@ -123,7 +125,7 @@ for name in "$@"; do
     for reads in 1 32; do
         for planners in 1 4; do
             whole "$name $reads $planners" "${name##*/}, reads $reads, planners $planners"
-            rates "$name $reads $planners" "$name none" "$planners" ''
+            rates "$name $reads $planners" "$planners"
         done
     done
 done

@@ -3,14 +3,14 @@ use Rattle.std.proofs.Common.{◌≡◌, ◌≢◌, ◌⊎◌, inl, inr, ℕ, ze
 use Rattle.std.proofs.lemmas.Bool.{false≢true}
 use Rattle.std.specs.List.{range_with_len}
 use Rattle.std.proofs.lemmas.List.{take_more, set_split, set-get_or, get_or-map, get_or-drop, drop-drop, drop-set-lt, length-append, map_push}
-use Rattle.std.proofs.lemmas.List.Elements.{All-more, All-nil, All-cons}
+use Rattle.std.proofs.lemmas.List.Elements.{All-nil, All-cons}
 use Rattle.pit_cli.specs.declared.input.Input.{Input}
 use Rattle.pit_cli.specs.declared.input.Input.TheVariants.{Blocks, Start, Script}
 use Rattle.pit_cli.specs.declared.fault.CliFault.{CliFault}
 use Rattle.pit_cli.specs.declared.fault.CliFault.TheVariants.{CannotRead, NoMemory}
 use Rattle.clap.specs.declared.parser.matches.ArgMatches.{ArgMatches}
 use Rattle.pit.specs.Asked.{path_of, scripts_of}
-use Rattle.pit.specs.PlanRun.{plan_inputs, input_if, count_if, IsFirst, IsOpen, IsUnopened, IsUnreadOf, IsRead, IsReadWhole, IsUnread, AreRead, script_inputs}
+use Rattle.pit.specs.PlanRun.{plan_inputs, input_if, count_if, IsOpen, IsUnopened, IsUnreadOf, IsRead, IsReadWhole, IsUnread, AreRead, script_inputs}
 
 -- a list at one of its items
 split_at : {X : Type 0} (xs : List X) (i : ℕ) (x : X) → i < length xs → x ≡ slice_index_or xs i x → xs ≡ take i xs ++ x ∷ drop (suc i) xs
@@ -35,14 +35,14 @@ pub first-closed : (opens : Input → Option Bool) (inputs : List Input) (i : �
     → All (IsOpen opens) (take i inputs) → opens input ≢ Some true → fault ≡ CannotRead input → IsUnopened opens inputs fault
 first-closed opens inputs i input fault below is fine closed same =
     inr (
-      record {
-        before = take i inputs;
-        input = input;
-        after = drop (suc i) inputs;
-        whole = split_at inputs i input below is;
-        fine = fine;
-        faulty = (closed, same);
-      }
+    record {
+      before = take i inputs;
+      input = input;
+      after = drop (suc i) inputs;
+      whole = split_at inputs i input below is;
+      fine = fine;
+      faulty = (closed, same);
+    }
     )
 
 pub told-more : (told : Input → Option (List ℕ)) (inputs : List Input) (i : ℕ) (input : Input) (lefts : List (Option (List ℕ))) → i < length inputs → input ≡ slice_index_or inputs i input
@@ -78,14 +78,14 @@ pub read-first : (told : Input → Option (List ℕ)) (inputs : List Input) (i :
     → AreRead told (take i inputs) texts → IsUnread told fault input → IsUnreadOf told inputs fault
 read-first told inputs i input texts fault below is so unread =
     inr (
-      record {
-        before = take i inputs;
-        input = input;
-        after = drop (suc i) inputs;
-        whole = split_at inputs i input below is;
-        fine = read-each told (take i inputs) texts so;
-        faulty = unread;
-      }
+    record {
+      before = take i inputs;
+      input = input;
+      after = drop (suc i) inputs;
+      whole = split_at inputs i input below is;
+      fine = read-each told (take i inputs) texts so;
+      faulty = unread;
+    }
     )
 
 -- ---- faults that a `?` hands on

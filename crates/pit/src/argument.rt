@@ -44,7 +44,10 @@ pub fn path_of<'a>(given: &ArgMatches<'a>, input: Input) -> Option<&'a str>
 fn script_path<'a>(given: &ArgMatches<'a>, i: usize) -> Option<&'a str>
     ensures { option_map (λ path. path.now) result ≡ slice_get (scripts_of given.now) i }
 {
-    given.get_strs(argument_of(Input::Script(1)))?.get(i).copied()
+    given
+        .get_strs(argument_of(Input::Script(1)))?
+        .get(i)
+        .copied()
 }
 
 /// How many scripts the words name.

@@ -35,5 +35,13 @@ fn answer<R: Threads + Wait + Sync>(rt: &HostRuntime, threads: &R) -> Result<Sta
     };
     let mut out = Out::new(rt.stdout());
     let mut report = Out::new(rt.stderr());
-    Ok(run(rt.alloc(), rt, threads, engine, given, &mut out, &mut report)?)
+    Ok(run(
+        rt.alloc(),
+        rt,
+        threads,
+        engine,
+        given,
+        &mut out,
+        &mut report,
+    )?)
 }

@@ -1,9 +1,6 @@
-use Rattle.std.proofs.Common.{◌≡◌, ◌≢◌, ◌+◌, All, List, Option, ℕ, Some, false, map, take, subst, sym, ap, ◌∙◌}
-use Rattle.std.proofs.lemmas.List.{get_or_default, map_push, take_more}
-use Rattle.std.proofs.lemmas.List.Elements.{All-more}
-use Rattle.pit.specs.Runs.{file_bytes, file_opens}
-use Rattle.pit.specs.PlanRun.{IsOpen}
-use Rattle.pit.proofs.PlanFiles.{first-closed, told-more, err-handed, wants-room}
+use Rattle.std.proofs.lemmas.List.{get_or_default}
+use Rattle.pit.specs.Runs.{file_opens}
+use Rattle.pit.proofs.PlanFiles.{first-closed, err-handed}
 use Rattle.pit.proofs.plan_files.open_each.Goals as goal
 
 pub returns-in_err-file-clause-err : goal.returns-in_err-file-clause-err

@@ -1,4 +1,4 @@
-use Rattle.std.proofs.Common.{◌≡◌, ◌≤◌, ◌+◌, All, List, Option, ℕ, Bool, is_some, length, map, ap, subst, sym, ◌∙◌, arith}
+use Rattle.std.proofs.Common.{◌≡◌, All, List, ℕ, is_some, map, ap, subst, sym, ◌∙◌, arith}
 use Rattle.std.proofs.lemmas.List.{length-map}
 use Rattle.pit_cli.specs.declared.input.Input.{Input}
 use Rattle.pit_cli.specs.declared.input.Input.TheVariants.{Blocks, Start}
@@ -6,7 +6,7 @@ use Rattle.pit_cli.proofs.CallerLemmas.{handed_on}
 use Rattle.pit.specs.Asked.{path_of}
 use Rattle.pit.specs.Runs.{file_bytes, file_opens}
 use Rattle.pit.specs.PlanRun.{plan_inputs, IsOpen, IsUnreadOf, AreRead}
-use Rattle.pit.specs.PlanRun.IsNoInput.{unopened, unread}
+use Rattle.pit.specs.PlanRun.IsNoInput.{unread}
 use Rattle.pit.proofs.PlanFiles.{plan-length, read-length, some-told}
 use Rattle.pit.proofs.plan_files.plan_input.Goals as goal
 
@@ -19,8 +19,8 @@ returns-in_err-texts g c =
     let here = c.deref.ensures.value ∙ c.in_ok-inputs.ensures.ok in
     let there = c.deref-2.ensures.value ∙ c.in_ok-inputs.ensures.ok in
     let tells =
-        ap (λ xs. map (λ file. left file.reader) xs) c.deref_mut.ensures.value ∙ c.in_ok-files.ensures.files
-        ∙ ap (λ (xs : List Input). map told xs) (here ∙ sym there) in
+    ap (λ xs. map (λ file. left file.reader) xs) c.deref_mut.ensures.value ∙ c.in_ok-files.ensures.files
+    ∙ ap (λ (xs : List Input). map told xs) (here ∙ sym there) in
     handed_on c.from_residual-in_err-texts.result fault _ _ c.from_residual-in_err-texts.ensures.0 c.from_residual-in_err-texts.ensures.1
     (unread (subst (λ (xs : List Input). All (IsOpen opens) xs) here c.in_ok-files.ensures.open)
     (subst (λ (xs : List Input). IsUnreadOf told xs fault) there (c.in_err-texts.ensures told tells)))
@@ -33,8 +33,8 @@ in_order-requires g c =
     let here = c.deref.ensures.value ∙ c.in_ok-inputs.ensures.ok in
     let there = c.deref-2.ensures.value ∙ c.in_ok-inputs.ensures.ok in
     let tells =
-        ap (λ xs. map (λ file. left file.reader) xs) c.deref_mut.ensures.value ∙ c.in_ok-files.ensures.files
-        ∙ ap (λ (xs : List Input). map told xs) (here ∙ sym there) in
+    ap (λ xs. map (λ file. left file.reader) xs) c.deref_mut.ensures.value ∙ c.in_ok-files.ensures.files
+    ∙ ap (λ (xs : List Input). map told xs) (here ∙ sym there) in
     let all = map (λ bytes. bytes.items) c.in_ok-texts.texts.items in
     let read = subst (λ (xs : List Input). AreRead told xs all) there (c.in_ok-texts.ensures told tells) in
     let n = read-length told (plan_inputs given) all read in
@@ -53,8 +53,8 @@ returns g c =
     let here = c.deref.ensures.value ∙ c.in_ok-inputs.ensures.ok in
     let there = c.deref-2.ensures.value ∙ c.in_ok-inputs.ensures.ok in
     let tells =
-        ap (λ xs. map (λ file. left file.reader) xs) c.deref_mut.ensures.value ∙ c.in_ok-files.ensures.files
-        ∙ ap (λ (xs : List Input). map told xs) (here ∙ sym there) in
+    ap (λ xs. map (λ file. left file.reader) xs) c.deref_mut.ensures.value ∙ c.in_ok-files.ensures.files
+    ∙ ap (λ (xs : List Input). map told xs) (here ∙ sym there) in
     let all = map (λ bytes. bytes.items) c.in_ok-texts.texts.items in
     let read = subst (λ (xs : List Input). AreRead told xs all) there (c.in_ok-texts.ensures told tells) in
     let blocks : c.is_some-blocks.result ≡ is_some (path_of given Blocks) = c.is_some-blocks.ensures ∙ some-told (λ path. path.now) c.path_of.result (path_of given Blocks) c.path_of.ensures in

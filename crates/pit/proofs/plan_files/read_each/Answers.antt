@@ -1,6 +1,5 @@
-use Rattle.std.proofs.Common.{◌+◌, List, Option, None, ℕ, slice_index_or, map, take, ap, subst, sym, ◌∙◌}
+use Rattle.std.proofs.Common.{◌+◌, List, None, ℕ, slice_index_or, map, take, ap, subst, sym, ◌∙◌}
 use Rattle.std.proofs.lemmas.List.{get_or_default, map_push}
-use Rattle.pit_cli.specs.declared.input.Input.{Input}
 use Rattle.pit_cli.specs.declared.input.Input.TheVariants.{Model}
 use Rattle.pit_cli.specs.Devices.{reading_of}
 use Rattle.pit_cli.proofs.CallerLemmas.{handed_on}
@@ -25,16 +24,16 @@ pub loop-i-preserved : goal.loop-i-preserved
 loop-i-preserved g c = (
   rest-kept (λ file. g.F.Read.remaining file.reader) (λ _. None) c.args.inputs.now c.args.files.now c.loop-i.files c.loop-i.i c.loop-i-test.true c.requires c.loop-i.invariant.0 c.bytes_of.new.source,
   λ told tells.
-    let left = g.F.Read.remaining in
-    let i = c.loop-i.i in
-    let bytes = c.in_ok-bytes.bytes in
-    let input = slice_index_or c.args.inputs.now i Model in
-    let read : IsRead told input bytes.items = record {
-      reading = reading_of (left _) (left c.bytes_of.new.source.reader) c.bytes_of.new.source.has_failed;
-      before_is = told-at (λ file. left file.reader) told c.args.inputs.now c.args.files.now c.loop-i.files i c.loop-i-test.true c.requires c.loop-i.invariant.0 _ Model tells;
-      whole = c.in_ok-bytes.ensures;
-    } in
-    let all = map (λ bytes. bytes.items) c.loop-i.texts.items in
-    subst (λ (ts : List (List ℕ)). AreRead told (take (i + 1) c.args.inputs.now) ts) (sym (ap (λ xs. map (λ bytes. bytes.items) xs) c.in_ok-push.ensures.ok ∙ map_push (λ bytes. bytes.items) c.loop-i.texts.items bytes))
-    (read-more told c.args.inputs.now i input all bytes.items c.loop-i-test.true (get_or_default c.args.inputs.now i Model input c.loop-i-test.true) (c.loop-i.invariant.1 told tells) read),
+      let left = g.F.Read.remaining in
+      let i = c.loop-i.i in
+      let bytes = c.in_ok-bytes.bytes in
+      let input = slice_index_or c.args.inputs.now i Model in
+      let read : IsRead told input bytes.items = record {
+        reading = reading_of (left _) (left c.bytes_of.new.source.reader) c.bytes_of.new.source.has_failed;
+        before_is = told-at (λ file. left file.reader) told c.args.inputs.now c.args.files.now c.loop-i.files i c.loop-i-test.true c.requires c.loop-i.invariant.0 _ Model tells;
+        whole = c.in_ok-bytes.ensures;
+      } in
+      let all = map (λ bytes. bytes.items) c.loop-i.texts.items in
+      subst (λ (ts : List (List ℕ)). AreRead told (take (i + 1) c.args.inputs.now) ts) (sym (ap (λ xs. map (λ bytes. bytes.items) xs) c.in_ok-push.ensures.ok ∙ map_push (λ bytes. bytes.items) c.loop-i.texts.items bytes))
+      (read-more told c.args.inputs.now i input all bytes.items c.loop-i-test.true (get_or_default c.args.inputs.now i Model input c.loop-i-test.true) (c.loop-i.invariant.1 told tells) read),
 )
