@@ -322,6 +322,25 @@ compare 'no memory for the solution' 3 '' 'pit: no memory'
 status=$?
 compare 'no memory for a script' 3 '' 'pit: no memory'
 
+
+# Too little memory for the threads of 64 planners: the report says who wasn't started, the others do their scripts, and the solution is printed.
+printf 'begin\nput 3 1\ncommit\n' >late
+scripts=()
+for i in {1..64}; do scripts+=(late); done
+(
+    ulimit -v 60000
+    exec "$pit" plan model precedence "${scripts[@]}"
+) >out 2>err
+status=$?
+awk '
+    NR <= 64 && $0 == "planner " NR " not started" { refused++; next }
+    NR <= 64 && $0 ~ "^planner " NR " job 1 committed [0-9]+ tries 1$" { done++; next }
+    NR == 65 && $0 == "value 4.545454545455000000" { value = 1; next }
+    { other = 1 }
+    END { exit !(refused && done && value && !other) }' err || status=lacking
+: >err
+compare 'plan, threads that cannot be started' 3 '3 1' ''
+
 if [ "$failures" -ne 0 ]; then
     echo "$failures failed"
     exit 1
