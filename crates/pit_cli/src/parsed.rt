@@ -29,7 +29,10 @@ pub fn bytes_of<A: Allocator, R: Source>(
 }
 
 /// The pit of a model text, to which facts can be added.
-pub fn builder_of<A: Allocator + Copy + Drop>(alloc: A, model: &[u8]) -> Result<Builder<A>, CliFault>
+pub fn builder_of<A: Allocator + Copy + Drop>(
+    alloc: A,
+    model: &[u8],
+) -> Result<Builder<A>, CliFault>
     ensures { MatchResult result (IsModel model.now) (IsTextFault Input.Model (IsBadModel model.now) (IsModelStop model.now)) }
 {
     match read_model(alloc, model) {
@@ -78,9 +81,7 @@ pub fn placed<A: Allocator + Copy + Drop>(
 }
 
 /// The pit as it was set.
-pub fn built<A: Allocator + Copy + Drop>(
-    builder: Builder<A>,
-) -> Result<Instance<A>, CliFault>
+pub fn built<A: Allocator + Copy + Drop>(builder: Builder<A>) -> Result<Instance<A>, CliFault>
     ensures { MatchResult result (λ instance. instance ≡ builder) (λ fault. fault ≡ CliFault.NoMemory) }
 {
     match builder.build() {

@@ -24,7 +24,7 @@ pub left_as : (closed desk : State) (plan : Standing) (periods : List (Option �
 left_as closed desk plan periods is at kept same count =
     ap (λ (qs : List (Option ℕ)). solution_text (schedule_of (length qs) (by_block qs))) same
     ∙ left_is plan (commits_of desk.history) (subst (λ (p : Standing). IsPlanOf p (commits_of desk.history)) (sym at) kept.follows.stands)
-      (ap (λ (qs : List (Option ℕ)). length qs) (sym same) ∙ count)
+    (ap (λ (qs : List (Option ℕ)). length qs) (sym same) ∙ count)
     ∙ ap (λ (p : Standing). left_text p.pit (commits_of desk.history)) at
     ∙ ap (λ (d : State). left_text d.plan.pit (commits_of d.history)) is
 

@@ -11,7 +11,10 @@ pub enum PlanFault {
     Cli(CliFault),
     /// The first fault of a script, by its number, counted from 1.
     #[error("pit: script {number} {error}")]
-    Script { number: u64, error: ScriptError },
+    Script {
+        number: u64,
+        error: ScriptError,
+    },
     /// Of the least period and resource of which no schedule meets the upper limit.
     #[error("pit: model: upper limit below zero {resource} {period}")]
     LimitBelowZero {

@@ -76,10 +76,7 @@ fn pit_of<A: Allocator + Copy + Drop>(
     placed_pit(given, blocks)
 }
 
-fn bare_pit<A: Allocator + Copy + Drop>(
-    alloc: A,
-    model: Vec<u8, A>,
-) -> Result<Builder<A>, CliFault>
+fn bare_pit<A: Allocator + Copy + Drop>(alloc: A, model: Vec<u8, A>) -> Result<Builder<A>, CliFault>
     ensures { MatchResult result (IsModel model.items) (IsTextFault Model (IsBadModel model.items) (IsModelStop model.items)) }
 {
     builder_of(alloc, &model)

@@ -30,10 +30,7 @@ pub fn told<A: Allocator + Copy + Drop>(
     Ok((text, ended(&report.runs, &shorts)))
 }
 
-fn ended<A: Allocator + Drop>(
-    runs: &[PlannerRun<A>],
-    shorts: &[Short],
-) -> Result<Status, PlanFault>
+fn ended<A: Allocator + Drop>(runs: &[PlannerRun<A>], shorts: &[Short]) -> Result<Status, PlanFault>
     ensures { result ≡ ended_of runs.now shorts.now }
 {
     if are_whole(runs) {

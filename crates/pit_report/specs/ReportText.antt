@@ -1,5 +1,5 @@
 -- The lines that tell how a run ended.
-use Rattle.std.specs.Prelude.{ℕ, ℤ, ◌+◌, List, [], ◌∷◌, ◌++◌, codes, decimal}
+use Rattle.std.specs.Prelude.{ℕ, ◌+◌, List, [], ◌∷◌, ◌++◌, codes, decimal}
 use Rattle.std.specs.List.{flat_map}
 use Rattle.pit_num.specs.Printed.{fixed_text}
 use Rattle.pit_book.specs.declared.reply.Refusal.{Refusal}

@@ -16,6 +16,6 @@ returns-clause-err g c =
     let start = c.deref.result.now in
     let scripts = c.deref-2.result.now in
     let stand : AreTextsOf c.args.input pit start scripts =
-        subst (λ (xs : List (ℕ × ℕ)). AreTextsOf c.args.input pit xs scripts) (sym c.deref.ensures.value)
-        (subst (λ (ys : List (List Job)). AreTextsOf c.args.input pit c.in_ok-inputs.inputs.start.items ys) (sym c.deref-2.ensures.value) c.in_ok-inputs.ensures.ok) in
+    subst (λ (xs : List (ℕ × ℕ)). AreTextsOf c.args.input pit xs scripts) (sym c.deref.ensures.value)
+    (subst (λ (ys : List (List Job)). AreTextsOf c.args.input pit c.in_ok-inputs.inputs.start.items ys) (sym c.deref-2.ensures.value) c.in_ok-inputs.ensures.ok) in
     IfErr-weaker c.planned_run.result _ _ (λ fault is. of_plan pit start scripts stand is) c.planned_run.ensures.err

@@ -21,7 +21,7 @@ loop-i-preserved g c =
     let all = map (λ bytes. bytes.items) c.args.texts.now in
     let script = c.in_ok-script.script in
     let more = scripts-go_on (λ bytes. bytes.items) pit c.args.texts.now c.loop-i.i c.index-texts-i.result c.loop-i-test.true c.index-texts-i.is c.loop-i.scripts.items c.loop-i.invariant.0
-        script (subst (λ (xs : List ℕ). IsScriptOf pit xs script) c.deref.ensures.value c.in_ok-script.ensures.result) in
+    script (subst (λ (xs : List ℕ). IsScriptOf pit xs script) c.deref.ensures.value c.in_ok-script.ensures.result) in
     subst (λ (xs : List (List Job)). AreScriptsOf pit (take (c.loop-i.i + 1) all) xs × All (AreJobsIn pit) xs) (sym {A = List (List Job)} c.in_ok-push_script.ensures.ok)
     (more, All-push (AreJobsIn pit) c.loop-i.scripts.items script c.loop-i.invariant.1 c.in_ok-script.ensures.in_range)
 
