@@ -38,11 +38,7 @@ fn bad_precedences(rt: HostRuntime) {
         scripts: &[BAD],
         ..BARE
     };
-    let fault = of_text(
-        Input::Precedence,
-        1,
-        Cause::BadNumber(NumError::Malformed),
-    );
+    let fault = of_text(Input::Precedence, 1, Cause::BadNumber(NumError::Malformed));
     assert_refused(&rt, rt.alloc(), given, fault);
 }
 
