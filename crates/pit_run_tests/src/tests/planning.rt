@@ -123,11 +123,7 @@ fn a_start_over_a_limit(rt: HostRuntime) {
     assert_refused(&rt, rt.alloc(), answer, fault, text);
 }
 
-fn assert_planner_count<R: Threads + Wait + Abort + Sync>(
-    rt: &R,
-    alloc: Global,
-    texts: &[&[u8]],
-) {
+fn assert_planner_count<R: Threads + Wait + Abort + Sync>(rt: &R, alloc: Global, texts: &[&[u8]]) {
     let pit = tiny(rt, alloc);
     let answer = from_nothing(rt, alloc, pit, texts);
     let fault = PlanFault::PlannerCount;
@@ -163,7 +159,13 @@ fn sixty_four_planners(rt: HostRuntime) {
 fn other_lines(rt: HostRuntime) {
     assert_text(&rt, rt.alloc(), PlanFault::NoPlace, "pit: no place", 3);
     assert_text(&rt, rt.alloc(), PlanFault::NotClosed, "pit: not closed", 3);
-    assert_text(&rt, rt.alloc(), PlanFault::Cli(CliFault::NoMemory), "pit: no memory", 3);
+    assert_text(
+        &rt,
+        rt.alloc(),
+        PlanFault::Cli(CliFault::NoMemory),
+        "pit: no memory",
+        3,
+    );
 }
 
 /// Loads and limits, in millionths, with their texts.
