@@ -2,7 +2,8 @@
 //!
 //! An engine is a run of steps: it reads its inputs whole from devices, in order, and each is parsed before the next is read. What it writes is
 //! the text of what its inputs stand for, or nothing where an input has a fault or memory is wanting; the fault is the first one. As
-//! `one_outcome` says, what the devices show tells how a run ended.
+//! `one_outcome` says, what the devices show tells how a run ended. An engine in a crate above is made of the same steps: `bytes_of` reads an
+//! input, and `builder_of`, `ordered`, `placed`, `built` and `schedule_of` parse one each.
 #![tactic(auto)]
 
 mod check_text;
