@@ -28,9 +28,9 @@ Blocks, periods and resources are numbered from 0. The model's discount rate is 
 10 % a period. A section of the model whose name is misspelt may be skipped with its lines.
 docs/FORMATS.md has every form and fault line.
 
-Status: 0 where all is well, 1 where `check` printed a breach or a shortfall, 2 where an input or
-the command line is refused, 3 where memory or a device is wanting. Of 2 and 3 a line on standard
-error says why.";
+Status: 0 where all is well, 1 where a breach or a shortfall was printed, 2 where an input or the
+command line is refused, 3 where memory, a device or a thread is wanting, or a planner stopped. Of
+2 and 3 standard error says why.";
 
 const VALUE_NOTES: &str = "\
 Prints the sum of the profits, each times the factor of its period, with 18 digits. Blocks and
