@@ -45,13 +45,6 @@ first-closed opens inputs i input fault below is fine closed same =
     }
     )
 
-pub told-more : (told : Input → Option (List ℕ)) (inputs : List Input) (i : ℕ) (input : Input) (lefts : List (Option (List ℕ))) → i < length inputs → input ≡ slice_index_or inputs i input
-    → lefts ≡ map told (take i inputs) → lefts ++ told input ∷ [] ≡ map told (take (i + 1) inputs)
-told-more told inputs i input lefts below is so =
-    ap (λ (os : List (Option (List ℕ))). os ++ told input ∷ []) so
-    ∙ sym (map_push told (take i inputs) input)
-    ∙ ap (λ (xs : List Input). map told xs) (ap (λ (x : Input). take i inputs ++ x ∷ []) is ∙ sym (take_more inputs i input below))
-
 -- ---- reading
 
 read-push : (told : Input → Option (List ℕ)) (inputs : List Input) (texts : List (List ℕ)) (input : Input) (bytes : List ℕ)
@@ -93,9 +86,6 @@ read-first told inputs i input texts fault below is so unread =
 pub err-handed : {B E : Type 0} (result : Result B E) (fault : E) (Fails : E → Type 0) → IsErr result → IsErrAnd result (λ (e : E). e ≡ fault) → Fails fault → IfErr result Fails
 err-handed (Ok x) fault Fails is same fails = absurd (false≢true is)
 err-handed (Err e) fault Fails is same fails = subst Fails (sym same) fails
-
-pub wants-room : {P : Type 0} (fault : CliFault) → fault ≡ NoMemory → (fault ≡ NoMemory) ⊎ P
-wants-room fault is = inl is
 
 -- ---- lengths
 
