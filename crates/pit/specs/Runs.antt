@@ -57,11 +57,12 @@ abbrev pub of_cli : Result Status CliFault → Result Status PlanFault
 of_cli (Ok status) = Ok status
 of_cli (Err fault) = Err (Cli fault)
 
--- `value` or `check`: the first file that doesn't open is the fault, and then the output is left alone
-pub record IsFileRun (Run : Result Status CliFault → Type 0) (opens : Input → Option Bool) (inputs : List Input) (IsUntouched : Type 0) (result : Result Status PlanFault) : Type 0 where
+-- `value` or `check`: the first file that doesn't open is the fault, and then the output is left alone; nothing is reported
+pub record IsFileRun (Run : Result Status CliFault → Type 0) (opens : Input → Option Bool) (inputs : List Input) (IsUntouched IsQuiet : Type 0) (result : Result Status PlanFault) : Type 0 where
   pub answer : Result Status CliFault
   pub runs : OpensEach opens inputs (λ input. (answer ≡ Err (CannotRead input)) × IsUntouched) (Run answer)
   pub is : result ≡ of_cli answer
+  pub quiet : IsQuiet
 
 pub record IsPlanOf (opens : Input → Option Bool) (told : Input → Option (List ℕ)) (given : ArgMatches) (out lines : Writing) (result : Result Status PlanFault) : Type 0 where
   pub retries : ℕ
@@ -69,7 +70,7 @@ pub record IsPlanOf (opens : Input → Option Bool) (told : Input → Option (Li
   pub runs : IsPlanRun opens told given retries out lines result
 
 -- the result is that of an engine on the files of its inputs
-abbrev pub IsRunOf : Engine → (Input → Option Bool) → (Input → Option (List ℕ)) → ArgMatches → Type 0 → Writing → Writing → Result Status PlanFault → Type 0
-IsRunOf Value opens told given IsUntouched out lines = IsFileRun (IsValueRun told out) opens (inputs_of Value) IsUntouched
-IsRunOf Check opens told given IsUntouched out lines = IsFileRun (IsCheckRun told out) opens (inputs_of Check) IsUntouched
-IsRunOf Plan opens told given IsUntouched out lines = IsPlanOf opens told given out lines
+abbrev pub IsRunOf : Engine → (Input → Option Bool) → (Input → Option (List ℕ)) → ArgMatches → Type 0 → Type 0 → Writing → Writing → Result Status PlanFault → Type 0
+IsRunOf Value opens told given IsUntouched IsQuiet out lines = IsFileRun (IsValueRun told out) opens (inputs_of Value) IsUntouched IsQuiet
+IsRunOf Check opens told given IsUntouched IsQuiet out lines = IsFileRun (IsCheckRun told out) opens (inputs_of Check) IsUntouched IsQuiet
+IsRunOf Plan opens told given IsUntouched IsQuiet out lines = IsPlanOf opens told given out lines

@@ -30,7 +30,7 @@ pub fn run<D: Disk, R: Threads + Wait + Sync, W: Sink, L: Sink>(
         let told = file_bytes (D.bytes_at disk.now) given.now in
         let written = writing_of (W.contents out.old) (W.contents out.new) (W.has_failed out.new) in
         let lines = writing_of (L.contents report.old) (L.contents report.new) (L.has_failed report.new) in
-        IsRunOf engine opens told given.now (out.new ≡ out.old) written lines result }
+        IsRunOf engine opens told given.now (out.new ≡ out.old) (report.new ≡ report.old) written lines result }
 {
     match engine {
         Engine::Value => of_cli(run_value(alloc, disk, given, out)),
