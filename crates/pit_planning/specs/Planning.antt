@@ -1,7 +1,8 @@
 -- What a run of scripts from a start comes to, and its faults.
-use Rattle.std.specs.Prelude.{◌≡◌, ℕ, List}
+use Rattle.std.specs.Prelude.{◌≡◌, ℕ, List, length}
 use Rattle.pit_model.specs.Pit.{Pit}
 use Rattle.pit_plan.specs.declared.breach.Breach.TheVariants.{Precedence, Over}
+use Rattle.pit_book.specs.History.{Answered}
 use Rattle.pit_book.specs.Opened.{IsGoodStart, IsDeskError, opening_history}
 use Rattle.pit_book.specs.State.{State}
 use Rattle.pit_book.specs.declared.entry.TheConstants.{ENTRIES_MAX}
@@ -12,7 +13,9 @@ use Rattle.pit_planning.specs.declared.plan_fault.PlanFault.{PlanFault}
 use Rattle.pit_planning.specs.declared.plan_fault.PlanFault.TheVariants as plan
 use Rattle.pit_script.specs.Jobs.{Job}
 use Rattle.pit_share.specs.Opening.{IsPlannerCount}
-use Rattle.pit_run.specs.Reports.{RunState, IsReport}
+use Rattle.pit_share.specs.Planners.{PlannerState}
+use Rattle.pit_share.specs.declared.error.CloseError.{CloseError}
+use Rattle.pit_run.specs.Reports.{RunState, IsReport, IsUnclosed}
 
 -- the start breaks no rule, and after it, in the opening history, planners did their scripts
 pub record IsRunFrom (pit : Pit) (start : List (ℕ × ℕ)) (retries : ℕ) (scripts : List (List Job)) (closed : State) (runs : List RunState) : Type 0 where
@@ -27,19 +30,20 @@ opening_fault_of (desk.BadStart (Over resource period load limit)) = plan.StartO
 opening_fault_of desk.Full = plan.Cli NoMemory
 opening_fault_of desk.NoMemory = plan.Cli NoMemory
 
--- the number of planners is looked at first; then memory or a place may be wanting, or what planners hand in doesn't close the workspace
-abbrev pub IsRunFault : ℕ → PlanFault → Type 0
-IsRunFault planners (plan.Cli fault) = (fault ≡ NoMemory) × IsPlannerCount planners
-IsRunFault planners (plan.Script number error) = ⊥
-IsRunFault planners (plan.LimitBelowZero resource period) = ⊥
-IsRunFault planners (plan.StartPrecedence block before) = ⊥
-IsRunFault planners (plan.StartOver resource period load limit) = ⊥
-IsRunFault planners plan.PlannerCount = IsPlannerCount planners → ⊥
-IsRunFault planners plan.NoPlace = IsPlannerCount planners
-IsRunFault planners plan.NotClosed = IsPlannerCount planners
-IsRunFault planners plan.Stopped = ⊥
+-- the number of planners is looked at first; then memory or a place may be wanting, or the logs of planners who have ended don't close the workspace
+abbrev pub IsRunFault : Pit → List Answered → ℕ → List (List Job) → PlanFault → Type 0
+IsRunFault pit opening retries scripts (plan.Cli fault) = (fault ≡ NoMemory) × IsPlannerCount (length scripts)
+IsRunFault pit opening retries scripts (plan.Script number error) = ⊥
+IsRunFault pit opening retries scripts (plan.LimitBelowZero resource period) = ⊥
+IsRunFault pit opening retries scripts (plan.StartPrecedence block before) = ⊥
+IsRunFault pit opening retries scripts (plan.StartOver resource period load limit) = ⊥
+IsRunFault pit opening retries scripts plan.PlannerCount = IsPlannerCount (length scripts) → ⊥
+IsRunFault pit opening retries scripts plan.NoPlace = IsPlannerCount (length scripts)
+IsRunFault pit opening retries scripts plan.NotClosed =
+    IsPlannerCount (length scripts) × ((logs : List PlannerState) × (cause : CloseError) × IsUnclosed pit opening retries scripts logs cause)
+IsRunFault pit opening retries scripts plan.Stopped = ⊥
 
 -- first what is wrong with the pit's limits or with the start, then with the number of planners
-pub data IsPlanFault (pit : Pit) (start : List (ℕ × ℕ)) (planners : ℕ) (fault : PlanFault) : Type 0 where
-  of_start : (why : DeskError) → IsDeskError pit start ENTRIES_MAX why → fault ≡ opening_fault_of why → IsPlanFault pit start planners fault
-  of_run : IsGoodStart pit start → IsRunFault planners fault → IsPlanFault pit start planners fault
+pub data IsPlanFault (pit : Pit) (start : List (ℕ × ℕ)) (retries : ℕ) (scripts : List (List Job)) (fault : PlanFault) : Type 0 where
+  of_start : (why : DeskError) → IsDeskError pit start ENTRIES_MAX why → fault ≡ opening_fault_of why → IsPlanFault pit start retries scripts fault
+  of_run : IsGoodStart pit start → IsRunFault pit (opening_history start) retries scripts fault → IsPlanFault pit start retries scripts fault

@@ -71,10 +71,10 @@ pub record IsRunOf (texts : Texts) (retries : ℕ) (closed : State) (runs : List
   pub run : IsRunFrom pit start retries scripts closed runs
 
 -- the first fault of the texts, or else of the start or of the run
-pub data IsNoRun (texts : Texts) (fault : PlanFault) : Type 0 where
-  of_texts : IsTextsFault texts fault → IsNoRun texts fault
-  of_plan : (pit : Pit) (start : List (ℕ × ℕ)) (scripts : List (List Job)) → AreTextsOf texts pit start scripts → IsPlanFault pit start (length scripts) fault
-      → IsNoRun texts fault
+pub data IsNoRun (texts : Texts) (retries : ℕ) (fault : PlanFault) : Type 0 where
+  of_texts : IsTextsFault texts fault → IsNoRun texts retries fault
+  of_plan : (pit : Pit) (start : List (ℕ × ℕ)) (scripts : List (List Job)) → AreTextsOf texts pit start scripts → IsPlanFault pit start retries scripts fault
+      → IsNoRun texts retries fault
 
 -- What `plan` does. Where there is a run, the solution that it left and its report are written, unless memory is wanting for the report; else nothing is
 -- written.
@@ -85,5 +85,5 @@ pub data IsPlanned (texts : Texts) (retries : ℕ) (out lines : Writing) (result
       → IsPlanned texts retries out lines result
   untold : (closed : State) (runs : List RunState) → IsRunOf texts retries closed runs → Keeps out.before out.after → Keeps lines.before lines.after
       → result ≡ Err (Cli NoMemory) → IsPlanned texts retries out lines result
-  refused : (fault : PlanFault) → IsNoRun texts fault → Keeps out.before out.after → Keeps lines.before lines.after → result ≡ Err fault
+  refused : (fault : PlanFault) → IsNoRun texts retries fault → Keeps out.before out.after → Keeps lines.before lines.after → result ≡ Err fault
       → IsPlanned texts retries out lines result

@@ -1,5 +1,8 @@
 //! From a pit, a start and scripts to the report of their run.
-ghost use Rattle.std.specs.Prelude.{◌≡◌, ◌≤◌, ℕ, All, length, IfOk, IfErr};
+ghost use Rattle.std.specs.Prelude.{◌≡◌, ◌≤◌, ℕ, List, All, length, IfOk, IfErr};
+ghost use Rattle.pit_model.specs.Pit.{Pit};
+ghost use Rattle.pit_book.specs.History.{Answered};
+ghost use Rattle.pit_script.specs.Jobs.{Job};
 ghost use Rattle.pit_num.specs.Fitting.{IsSchedule};
 ghost use Rattle.pit_script.specs.Benches.{AreBenchesOf};
 ghost use Rattle.pit_script.specs.Ranges.{AreJobsIn};
@@ -40,7 +43,7 @@ pub fn planned_run<R: Threads + Wait + Sync, A: Allocator + Copy + Drop + Send +
     requires in_range { All (AreJobsIn pit) scripts.now }
     requires few { retries ≤ RETRIES_MAX }
     ensures ok { IfOk result (λ report. IsRunFrom pit start.now retries scripts.now report.closed report.runs.items) }
-    ensures err { IfErr result (IsPlanFault pit start.now (length scripts.now)) }
+    ensures err { IfErr result (IsPlanFault pit start.now retries scripts.now) }
 {
     let periods = pit.periods();
     match Desk::open(alloc, pit, start, ENTRIES_MAX) {
@@ -93,7 +96,7 @@ fn run_on<R: Threads + Wait + Sync, A: Allocator + Copy + Drop + Send + Sync>(
     requires in_range { All (AreJobsIn desk.plan.pit) scripts.now }
     requires few { retries ≤ RETRIES_MAX }
     ensures ok { IfOk result (λ report. IsReport desk.plan.pit desk.history retries scripts.now report.closed report.runs.items) }
-    ensures err { IfErr result (IsRunFault (length scripts.now)) }
+    ensures err { IfErr result (IsRunFault desk.plan.pit desk.history retries scripts.now) }
 {
     let Ok(planners) = u32::try_from(scripts.len()) else {
         return Err(PlanFault::PlannerCount);
@@ -141,7 +144,7 @@ fn run_in<
     requires in_range { All (AreJobsIn S.instance) scripts.now }
     requires few { retries ≤ RETRIES_MAX }
     ensures ok { IfOk result (λ report. IsReport S.instance S.opening retries scripts.now report.closed report.runs.items) }
-    ensures err { IfErr result (IsRunFault planners) }
+    ensures err { IfErr result (IsRunFault S.instance S.opening retries scripts.now) }
 {
     let (workspace, seats) = match Workspace::<S, O, A>::open(own, alloc, desk, planners, blank) {
         Ok(opened) => opened,
@@ -159,7 +162,8 @@ fn run_in<
 
 /// The fault of a workspace that can't be opened.
 fn workspace_fault(error: OpenError) -> PlanFault
-    ensures { (planners : ℕ) → IsOpenError planners error → IsRunFault planners result }
+    ensures { (pit : Pit) (opening : List Answered) (retries : ℕ) (scripts : List (List Job)) → IsOpenError (length scripts) error
+        → IsRunFault pit opening retries scripts result }
 {
     match error {
         OpenError::PlannerCount => PlanFault::PlannerCount,
