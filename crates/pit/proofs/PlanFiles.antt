@@ -1,6 +1,5 @@
 -- The files of inputs, one after the other.
-use Rattle.std.proofs.Common.{◌≡◌, ◌≢◌, ◌⊎◌, inl, inr, ℕ, zero, suc, ◌+◌, ◌<◌, ◌≤◌, List, [], ◌∷◌, ◌++◌, All, length, map, take, drop, slice_index_or, set, refl, ap, subst, sym, ◌∙◌, arith, Option, None, Some, Bool, if◌then◌else◌, is_some, option_map, false, true, Result, Ok, Err, IsErr, IsErrAnd, IfErr}
-use Rattle.std.proofs.lemmas.Bool.{false≢true}
+use Rattle.std.proofs.Common.{◌≡◌, ◌≢◌, ◌⊎◌, inl, inr, ℕ, zero, suc, ◌+◌, ◌<◌, ◌≤◌, List, [], ◌∷◌, ◌++◌, All, length, map, take, drop, slice_index_or, set, refl, ap, subst, sym, ◌∙◌, arith, Option, None, Some, Bool, if◌then◌else◌, is_some, option_map, false, true}
 use Rattle.std.specs.List.{range_with_len}
 use Rattle.std.proofs.lemmas.List.{take_more, set_split, set-get_or, get_or-map, get_or-drop, drop-drop, drop-set-lt, length-append, map_push}
 use Rattle.std.proofs.lemmas.List.Elements.{All-nil, All-cons}
@@ -80,12 +79,6 @@ read-first told inputs i input texts fault below is so unread =
       faulty = unread;
     }
     )
-
--- ---- faults that a `?` hands on
-
-pub err-handed : {B E : Type 0} (result : Result B E) (fault : E) (Fails : E → Type 0) → IsErr result → IsErrAnd result (λ (e : E). e ≡ fault) → Fails fault → IfErr result Fails
-err-handed (Ok x) fault Fails is same fails = absurd (false≢true is)
-err-handed (Err e) fault Fails is same fails = subst Fails (sym same) fails
 
 -- ---- lengths
 

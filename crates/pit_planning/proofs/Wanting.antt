@@ -45,10 +45,6 @@ script-wants pit bytes error is answered =
     )
 
 -- a fault that a `?` hands on
-pub err-handed : {B E : Type 0} (result : Result B E) (fault : E) (Fails : E → Type 0) → IsErr result → IsErrAnd result (λ (e : E). e ≡ fault) → Fails fault → IfErr result Fails
-err-handed (Ok x) fault Fails is same fails = absurd (false≢true is)
-err-handed (Err e) fault Fails is same fails = subst Fails (sym same) fails
-
 pub is-err : {B E : Type 0} (result : Result B E) (fault : E) → IsErr result → IsErrAnd result (λ (e : E). e ≡ fault) → result ≡ Err fault
 is-err (Ok x) fault is same = absurd (false≢true is)
 is-err (Err e) fault is same = ap Err same

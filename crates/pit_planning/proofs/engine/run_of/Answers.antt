@@ -3,12 +3,12 @@ use Rattle.std.proofs.lemmas.Result.{IfErr-weaker}
 use Rattle.pit_script.specs.Jobs.{Job}
 use Rattle.pit_planning.specs.Texts.{AreTextsOf}
 use Rattle.pit_planning.specs.Telling.IsNoRun.{of_texts, of_plan}
-use Rattle.pit_planning.proofs.Wanting.{err-handed}
+use Rattle.pit_cli.proofs.CallerLemmas.{err_handed}
 use Rattle.pit_planning.proofs.engine.run_of.Goals as goal
 
 pub returns-in_err-inputs-clause-err : goal.returns-in_err-inputs-clause-err
 returns-in_err-inputs-clause-err g c =
-    err-handed c.from_residual.result c.in_err-inputs.field-0.0 _ c.from_residual.ensures.0 c.from_residual.ensures.1 (of_texts c.in_err-inputs.ensures.err)
+    err_handed c.from_residual.result c.in_err-inputs.field-0.0 _ c.from_residual.ensures.0 c.from_residual.ensures.1 (of_texts c.in_err-inputs.ensures.err)
 
 pub returns-clause-err : goal.returns-clause-err
 returns-clause-err g c =

@@ -1,7 +1,7 @@
 use Rattle.std.proofs.Common.{refl, subst, map}
 use Rattle.pit_planning.specs.Texts.{IsScriptsFault}
 use Rattle.pit_planning.specs.Texts.IsTextsFault.{of_pit, of_start, of_benches, of_scripts}
-use Rattle.pit_planning.proofs.Wanting.{err-handed}
+use Rattle.pit_cli.proofs.CallerLemmas.{err_handed}
 use Rattle.pit_planning.proofs.texts.parsed.Goals as goal
 
 pub returns-in-Err-clause-err : goal.returns-in-Err-clause-err
@@ -18,6 +18,6 @@ returns-in_default-clause-err g c =
 pub returns-in_err-scripts-clause-err : goal.returns-in_err-scripts-clause-err
 returns-in_err-scripts-clause-err g c =
     let fault = c.in_err-scripts.field-0.0 in
-    err-handed c.from_residual.result fault _ c.from_residual.ensures.0 c.from_residual.ensures.1
+    err_handed c.from_residual.result fault _ c.from_residual.ensures.0 c.from_residual.ensures.1
     (rw (← c.input.view_is) (of_scripts c.in-Ok.pit c.in-Ok-start_of.start.items c.in-Ok.ensures c.in-Ok-start_of.ensures.result
     (subst (λ xs. IsScriptsFault c.in-Ok.pit 1 (map (λ bytes. bytes.items) xs) fault) c.deref.ensures.value c.in_err-scripts.ensures.result)))
