@@ -19,6 +19,7 @@ use crate::floor::Floor;
 use crate::planner::Planner;
 use pit_board::Session;
 use pit_book::{Reply, Stop};
+use pit_num::NoMemory;
 use pit_tx::{Work, WorkError};
 use std::alloc::Allocator;
 use std::marker::Model;
@@ -224,8 +225,8 @@ impl<'a, S: Session, R: Wait + Drop, A: Allocator + Copy + Drop> Transaction<'a,
         Ok(slot.period)
     }
 
-    /// Notes what a block held at the start. Nothing but want of memory is refused.
-    fn note(&mut self, block: u32, period: Option<u32>) -> Result<(), WorkError>
+    /// Notes what a block held at the start.
+    fn note(&mut self, block: u32, period: Option<u32>) -> Result<(), NoMemory>
         requires block { block < S.instance.blocks }
         requires period { IfSome period (λ t. t < S.instance.periods) }
         requires unknown { known_of self.old.work block ≡ None }
@@ -233,8 +234,7 @@ impl<'a, S: Session, R: Wait + Drop, A: Allocator + Copy + Drop> Transaction<'a,
         ensures planner { self.new.planner ≡ self.old.planner }
         ensures ok { OnOk result (self.new.work ≡ record self.old.work { reads = self.old.work.reads ++ (block, period) ∷ [] }) }
         ensures err { OnErr result (self.new ≡ self.old) }
-        ensures memory { IfErr result (λ e. e ≡ WorkError.NoMemory) }
     {
-        self.work.note(block, period)
+        self.work.note_unknown(block, period)
     }
 }

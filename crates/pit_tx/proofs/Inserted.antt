@@ -1,5 +1,5 @@
 -- What an insert leaves of a set.
-use Rattle.std.proofs.Common.{◌≡◌, ◌≢◌, ℕ, zero, suc, ◌<◌, ℤ, Bool, true, false, true≢false, cond, List, [], ◌∷◌, ◌++◌, Option, Some, Result, Ok, Err, OnOk, OnErr, refl, sym, ap, subst, ◌∙◌, nat_eq, arith}
+use Rattle.std.proofs.Common.{◌≡◌, ◌≢◌, ℕ, zero, suc, ◌<◌, ℤ, Bool, true, false, true≢false, cond, List, [], ◌∷◌, ◌++◌, Option, Some, None, Result, Ok, Err, OnOk, OnErr, refl, sym, ap, subst, ◌∙◌, nat_eq, arith}
 use Rattle.std.specs.Prelude.{All, AllPairs, IfSome, is_some}
 use Rattle.std.proofs.lemmas.Bool.Decides.{Decides-eqb}
 use Rattle.std.proofs.lemmas.List.Elements.{All-cons, All-nil, All-head, All-tail}
@@ -69,6 +69,12 @@ pub Fits-insert_entry : (block_count period_count : ℕ) (pairs : List (ℕ × O
     → Fits block_count period_count pairs → Fits block_count period_count (insert_entry nat_eq pairs b period)
 Fits-insert_entry block_count period_count pairs b period below within =
     AreKeyed-insert_entry nat_eq (λ k. (Decides-eqb k k).1 refl) (λ (k : ℕ). k < block_count) (λ (v : Option ℕ). IfSome v (λ t. t < period_count)) pairs b period below within
+
+-- a block that isn't there goes last
+pub Fits-further : (block_count period_count : ℕ) (pairs : List (ℕ × Option ℕ)) (b : ℕ) (period : Option ℕ) → b < block_count → IfSome period (λ t. t < period_count)
+    → at_key nat_eq pairs b ≡ None → Fits block_count period_count pairs → Fits block_count period_count (pairs ++ (b, period) ∷ [])
+Fits-further block_count period_count pairs b period below within absent fit =
+    subst (Fits block_count period_count) (insert_entry-absent nat_eq pairs b period (ap is_some absent)) (Fits-insert_entry block_count period_count pairs b period below within fit)
 
 pub Fits-with_read : (block_count period_count : ℕ) (pairs : List (ℕ × Option ℕ)) (b : ℕ) (period : Option ℕ) → b < block_count → IfSome period (λ t. t < period_count)
     → Fits block_count period_count pairs → Fits block_count period_count (with_read nat_eq pairs b period)

@@ -60,6 +60,14 @@ impl<K: Eq + Hash + Copy, V: Copy, A: Allocator + Copy + Drop> KeyedSet<K, V, A>
         &self.pairs
     }
 
+    /// The pairs, in their order. Takes no memory.
+    pub(crate) fn into_pairs(self) -> Vec<(K, V), A>
+        ensures { result.items ≡ self }
+    {
+        let KeyedSet { pairs, .. } = self;
+        pairs
+    }
+
     /// The value of a key, if it is there.
     pub(crate) fn get(&self, key: K) -> Option<V>
         ensures { result ≡ at_key K.eq self.now key }
@@ -106,7 +114,7 @@ impl<K: Eq + Hash + Copy, V: Copy, A: Allocator + Copy + Drop> KeyedSet<K, V, A>
     }
 
     /// Puts a new key last. All room is taken before a pair is added.
-    fn add(&mut self, key: K, value: V) -> Result<(), WorkError>
+    pub(crate) fn add(&mut self, key: K, value: V) -> Result<(), WorkError>
         requires { at_key K.eq self.old key ≡ None }
         ensures ok { OnOk result (self.new ≡ self.old ++ (key, value) ∷ []) }
         ensures err { OnErr result (self.new ≡ self.old) }

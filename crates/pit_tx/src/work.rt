@@ -1,5 +1,5 @@
 //! The sets of a transaction, in the order of first use.
-ghost use Rattle.std.specs.Prelude.{◌≡◌, ◌<◌, ◌≤◌, [], nat_eq, IfOk, OnOk, OnErr, IfSome, IfNone, IsErrOf};
+ghost use Rattle.std.specs.Prelude.{◌≡◌, ◌<◌, ◌≤◌, [], ◌∷◌, ◌++◌, None, nat_eq, IfOk, OnOk, OnErr, IfSome, IfNone, IsErrOf};
 ghost use Rattle.pit_num.specs.Fitting.{Fits, RevisionsFit, pair_eq};
 ghost use Rattle.pit_num.specs.Refused.{IsRefusedBy};
 ghost use Rattle.pit_tx.specs.Refusals.{refusal_of, revision_refusal_of, IsFurther};
@@ -170,6 +170,22 @@ impl<A: Allocator + Copy + Drop> Work<A> {
         self.reads.note(b, period)
     }
 
+    /// Notes what a block of the pit that isn't known was seen to have, without looking for it again. Takes memory where the read set has other
+    /// blocks.
+    pub fn note_unknown(&mut self, b: u32, period: Option<u32>) -> Result<(), NoMemory>
+        requires block { b < self.old.blocks }
+        requires period { IfSome period (λ t. t < self.old.periods) }
+        requires unknown { known_of self.old b ≡ None }
+        ensures ok { OnOk result (self.new ≡ record self.old { reads = self.old.reads ++ (b, period) ∷ [] }) }
+        ensures err { OnErr result (self.new ≡ self.old) }
+        ensures memory { OnErr result (IsFurther nat_eq self.old.reads b) }
+    {
+        match self.reads.add(b, period) {
+            Ok(()) => Ok(()),
+            Err(_) => Err(NoMemory),
+        }
+    }
+
     /// Writes that a block has a period. A block that was written before keeps its place. Takes memory where the write set has
     /// other blocks, and not this one.
     pub fn put(&mut self, b: u32, t: u32) -> Result<(), WorkError>
@@ -227,6 +243,15 @@ impl<A: Allocator + Copy + Drop> Work<A> {
         ensures fit { RevisionsFit self.now.resources self.now.periods self.now.revises }
     {
         self.revises.pairs()
+    }
+
+    /// The read set and the write set. Takes no memory.
+    pub fn into_pairs(self) -> (Vec<(u32, Option<u32>), A>, Vec<(u32, Option<u32>), A>)
+        ensures reads { result.0.items ≡ self.reads }
+        ensures writes { result.1.items ≡ self.writes }
+    {
+        let Work { reads, writes, .. } = self;
+        (reads.into_pairs(), writes.into_pairs())
     }
 
     /// Writes a block with a period or none.
