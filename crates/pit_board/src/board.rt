@@ -116,8 +116,10 @@ impl<S: Session, A: Allocator + Copy + Drop> Absorb<Operation<S, A>> for Board<S
         operation: &Operation<S, A>,
         _other: &Board<S, A>,
     ) -> Result<(), AllocError> {
-        if let Some(stamp) = operation.stamp() {
-            self.take_in(stamp);
+        if let Some(cell) = operation.stamp() {
+            if let Some(stamp) = &*cell {
+                self.take_in(stamp);
+            }
         }
         Ok(())
     }

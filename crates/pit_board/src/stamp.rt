@@ -7,7 +7,7 @@ use crate::session::Session;
 use pit_num::NoMemory;
 use std::alloc::Allocator;
 use std::marker::Model;
-use std::sync::{Arc, OnceLock};
+use std::sync::{Arc, Mutex, MutexGuard};
 
 /// A commit that stands in the list: its changes, and the fronts before it and with it. Contracts see the front with it.
 #[derive(Drop)]
@@ -44,13 +44,13 @@ impl<S: Session, A: Allocator + Copy + Drop> Stamp<S, A> {
 /// An operation of the board: a cell that has its stamp once the commit stands in the list. It is made, with all its memory, before.
 #[derive(Drop)]
 pub struct Operation<S: Session, A: Allocator + Copy + Drop> {
-    cell: Arc<OnceLock<Stamp<S, A>>, A>,
+    cell: Arc<Mutex<Option<Stamp<S, A>>>, A>,
 }
 
 impl<S: Session, A: Allocator + Copy + Drop> Operation<S, A> {
     pub(crate) fn new(alloc: A) -> Result<Operation<S, A>, NoMemory> {
         Ok(Operation {
-            cell: Arc::new(alloc, OnceLock::new())?,
+            cell: Arc::new(alloc, Mutex::new(None))?,
         })
     }
 
@@ -61,13 +61,15 @@ impl<S: Session, A: Allocator + Copy + Drop> Operation<S, A> {
         })
     }
 
-    /// Gives the cell its stamp. Of a cell that has one already it would keep that; what is published then lags, and the hall waits.
+    /// Gives the cell its stamp. Of a cell that another thread has locked it would not; what is published then lags, and the hall waits.
     pub(crate) fn fill(&self, stamp: Stamp<S, A>) {
-        let _filled = self.cell.try_set(stamp);
+        if let Some(mut cell) = self.cell.try_lock() {
+            *cell = Some(stamp);
+        }
     }
 
-    /// The stamp, once there is one.
-    pub(crate) fn stamp(&self) -> Option<&Stamp<S, A>> {
-        self.cell.get()
+    /// The cell, where no other thread has locked it, with its stamp once it has one.
+    pub(crate) fn stamp(&self) -> Option<MutexGuard<'_, Option<Stamp<S, A>>>> {
+        self.cell.try_lock()
     }
 }

@@ -6,7 +6,7 @@ use Rattle.std.proofs.lemmas.Bool.Decides.{Decides-eqb}
 use Rattle.std.proofs.lemmas.List.Elements.{All-head, All-tail}
 use Rattle.pit_model.specs.Pit.{Pit}
 use Rattle.pit_plan.specs.Schedule.{Commit}
-use Rattle.pit_tx.specs.Sets.{at_key}
+use Rattle.pit_keyed.specs.Keyed.{at_key}
 use Rattle.pit_book.specs.History.{Call, Answered, commit_of, commits_of}
 use Rattle.pit_book.specs.Replies.{IsReply}
 use Rattle.pit_book.specs.OneThread.{IsOfOneThread, held_period_after}

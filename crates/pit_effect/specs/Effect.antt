@@ -3,7 +3,7 @@ use Rattle.std.specs.Prelude.{◌≡◌, ℕ, ℤ, Bool, nat_eq, List, [], ◌�
 use Rattle.pit_num.specs.Fitting.{pair_eq}
 use Rattle.pit_model.specs.Pit.{Pit}
 use Rattle.pit_plan.specs.Schedule.{Commit}
-use Rattle.pit_tx.specs.Sets.{at_key, with_write}
+use Rattle.pit_keyed.specs.Keyed.{at_key, with_write}
 use Rattle.pit_book.specs.History.{Call, commit_of}
 use Rattle.pit_book.specs.declared.entry.Act.{Act}
 use Rattle.pit_book.specs.declared.entry.Act.TheVariants as act

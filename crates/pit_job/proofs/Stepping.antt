@@ -7,7 +7,8 @@ use Rattle.std.specs.Prelude.{is_some, if◌then◌else◌, Result, Ok}
 use Rattle.pit_model.specs.Pit.{Pit}
 use Rattle.pit_plan.specs.Schedule.{Commit}
 use Rattle.pit_num.specs.Fitting.{pair_eq}
-use Rattle.pit_tx.specs.Sets.{Sets, at_key, with_write, known_of}
+use Rattle.pit_keyed.specs.Keyed.{at_key, with_write}
+use Rattle.pit_tx.specs.Sets.{Sets, known_of}
 use Rattle.pit_share.specs.Planners.{PlannerState, TransactionState, SeesOn}
 use Rattle.pit_share.specs.Reads.{IsNoted, IsLookedUp}
 use Rattle.pit_share.specs.declared.error.ReadStop.{ReadStop}

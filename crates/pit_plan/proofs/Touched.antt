@@ -1,7 +1,8 @@
 -- What writes touch, and that nothing else changes.
-use Rattle.std.proofs.Common.{◌≡◌, ℕ, ◌+◌, ◌*◌, ◌/◌, ◌%◌, ◌<◌, ◌≤◌, ◌⊎◌, true, false, cond, ℤ, pos, ◌+ℤ◌, List, [], Option, Some, None, length, take, get_or, refl, sym, ap, subst, ◌∙◌, arith, inl, inr}
+use Rattle.std.proofs.Common.{◌≡◌, ℕ, ◌+◌, ◌*◌, ◌/◌, ◌%◌, ◌<◌, ◌≤◌, ◌⊎◌, ◌≢◌, Bool, true, false, cond, ℤ, pos, ◌+ℤ◌, List, [], ◌∷◌, Option, Some, None, length, take, get_or, refl, sym, ap, subst, ◌∙◌, arith, inl, inr}
 use Rattle.std.specs.Prelude.{nat_eq, unwrap_or, is_some}
 use Rattle.std.specs.Map.{lookup}
+use Rattle.indexmap.specs.IndexMap.{insert_entry}
 use Rattle.std.proofs.lemmas.Bool.{cond-true, cond-false, cases_Bool, true≢false}
 use Rattle.std.proofs.lemmas.Bool.Decides.{eqb_tells}
 use Rattle.std.proofs.lemmas.Option.{same_Some}
@@ -19,11 +20,42 @@ use Rattle.pit_plan.specs.declared.breach.Breach.{Breach}
 use Rattle.pit_plan.proofs.Least.{least-lesser}
 use Rattle.pit_plan.proofs.Good.{within-from_none}
 use Rattle.pit_plan.proofs.Same.{same-load}
-use Rattle.pit_plan.proofs.Named.{Once, absent-before, overlaid_item-more, named-keeps, named-own, named-before, same-eq}
+use Rattle.pit_plan.proofs.Named.{Once, absent-before, overlaid_item-more, named-keeps, named-own, named-before, same-eq, other-eq}
 use Rattle.pit_plan.proofs.Cells.{pair-known}
 use Rattle.pit_model.proofs.CallerLemmas.{cells_apart, same_resource}
 
 -- ---- a cell that is set
+
+-- ---- a cell is set by a write
+
+at-written : (cells : List (ℕ × ℤ)) (cell : ℕ) (load : ℤ) → lookup (nat_eq cell) (insert_entry nat_eq cells cell load) ≡ Some load
+at-written [] cell load = cond-true _ _ _ (same-eq cell cell refl)
+at-written (p ∷ ps) cell load = by (nat_eq cell p.0) refl (at-written ps cell load)
+  where
+    by : (t : Bool) → nat_eq cell p.0 ≡ t → lookup (nat_eq cell) (insert_entry nat_eq ps cell load) ≡ Some load
+        → lookup (nat_eq cell) (cond t ((p.0, load) ∷ ps) (p ∷ insert_entry nat_eq ps cell load)) ≡ Some load
+    by true is later = cond-true _ _ _ is
+    by false is later = cond-false _ _ _ is ∙ later
+
+others-written : (cells : List (ℕ × ℤ)) (cell : ℕ) (load : ℤ) (k : ℕ) → cell ≢ k → lookup (nat_eq k) (insert_entry nat_eq cells cell load) ≡ lookup (nat_eq k) cells
+others-written [] cell load k other = cond-false _ _ _ (other-eq k cell (λ e. other (sym e)))
+others-written (p ∷ ps) cell load k other = by (nat_eq cell p.0) refl (others-written ps cell load k other)
+  where
+    by : (t : Bool) → nat_eq cell p.0 ≡ t → lookup (nat_eq k) (insert_entry nat_eq ps cell load) ≡ lookup (nat_eq k) ps
+        → lookup (nat_eq k) (cond t ((p.0, load) ∷ ps) (p ∷ insert_entry nat_eq ps cell load)) ≡ lookup (nat_eq k) (p ∷ ps)
+    by true is later =
+        elim (eqb_tells cell p.0) [
+          | inl here ↦ cond-false _ _ _ (other-eq k p.0 (λ e. other (here.1 ∙ sym e))) ∙ sym (cond-false _ _ _ (other-eq k p.0 (λ e. other (here.1 ∙ sym e))))
+          | inr there ↦ absurd (true≢false (sym is ∙ there.0))
+        ]
+    by false is later = ap (λ (x : Option ℤ). cond (nat_eq k p.0) (Some p.1) x) later
+
+pub sets-written : (cells : List (ℕ × ℤ)) (cell : ℕ) (load : ℤ) → SetsCell cells cell load (insert_entry nat_eq cells cell load)
+sets-written cells cell load k =
+    elim (eqb_tells cell k) [
+      | inl here ↦ subst (λ (n : ℕ). lookup (nat_eq n) (insert_entry nat_eq cells cell load) ≡ Some load) here.1 (at-written cells cell load) ∙ sym (cond-true _ _ _ here.0)
+      | inr there ↦ others-written cells cell load k there.1 ∙ sym (cond-false _ _ _ there.0)
+    ]
 
 pub raises-cell : (kept : ℕ → ℤ) (cells new : List (ℕ × ℤ)) (cell : ℕ) (by : ℤ) → SetsCell cells cell (overlaid_item kept cells cell +ℤ by) new → Raises (overlaid_item kept cells) cell by (overlaid_item kept new)
 raises-cell kept cells new cell by sets k =

@@ -1,7 +1,6 @@
 //! The first breach that a schedule would have after writes and revisions, found where these touch it.
-ghost use Rattle.std.specs.Prelude.{◌≡◌, ◌≢◌, ℕ, ◌+◌, ◌*◌, ◌<◌, ◌⊎◌, true, None, pos, [], length, take, nat_eq, slice_index_or, IfNone, IfOk, IfErr, IfSome, OnOk, All, AllPairs};
+ghost use Rattle.std.specs.Prelude.{◌≡◌, ◌≢◌, ℕ, ◌+◌, ◌*◌, ◌<◌, ◌⊎◌, true, None, pos, [], ◌∷◌, length, take, nat_eq, slice_index_or, IfNone, IfOk, IfErr, IfSome, OnOk, All, AllPairs};
 ghost use Rattle.std.specs.Map.{lookup};
-ghost use Rattle.indexmap.specs.IndexMap.{index_map_len};
 ghost use Rattle.pit_num.specs.Fitting.{Fits, RevisionsFit, revisions_of};
 ghost use Rattle.pit_num.specs.Least.{ComesBefore, IsLeast};
 ghost use Rattle.pit_model.specs.Pit.{cell_of};
@@ -17,6 +16,7 @@ use crate::loads::{Loads, plus, shift};
 use crate::schedule::{Schedule, first_late, keeps_order};
 use crate::tally::Tally;
 use indexmap::IndexMap;
+use pit_keyed::KeyedSet;
 use pit_model::Instance;
 use pit_num::NoMemory;
 use std::alloc::Allocator;
@@ -43,6 +43,9 @@ impl<'a, A: Allocator + Copy + Drop> Schedule for Overlay<'a, Option<u32>, A> {
     }
 }
 
+/// So many moved loads have room from the start.
+const FIRST_ROOM: usize = 8;
+
 /// Writes up to so many are looked through for a block. More are kept in a map, which takes memory.
 const FEW: usize = 8;
 
@@ -62,6 +65,28 @@ impl<'a> Schedule for Few<'a> {
         match written_to(self.writes, b) {
             Some(period) => period,
             None => self.kept[b as usize],
+        }
+    }
+}
+
+/// Periods, over which one write is laid.
+#[derive(Clone, Copy)]
+struct One<'a> {
+    kept: &'a [Option<u32>],
+    block: u32,
+    period: Option<u32>,
+}
+
+impl<'a> Schedule for One<'a> {
+    ghost period_at = { λ s. overlaid_item (by_block s.kept.now) ((s.block, s.period) ∷ []) };
+
+    ghost count = { λ s. length s.kept.now };
+
+    fn period(&self, b: u32) -> Option<u32> {
+        if b == self.block {
+            self.period
+        } else {
+            self.kept[b as usize]
         }
     }
 }
@@ -90,20 +115,51 @@ impl<'a, A: Allocator + Copy + Drop> Limits for Overlay<'a, Option<i64>, A> {
 }
 
 /// Loads, over which those that are moved are laid, each by its cell.
-impl<'a, A: Allocator + Copy + Drop> Loads for Overlay<'a, i128, A> {
-    ghost load_in = { λ loads. overlaid_item (cell_load loads.kept.now) loads.pairs.entries };
+#[derive(Drop)]
+struct Moved<'a, A: Allocator + Copy + Drop> {
+    kept: &'a [i128],
+    pairs: KeyedSet<u32, i128, A>,
+}
+
+impl<'a, A: Allocator + Copy + Drop> Loads for Moved<'a, A> {
+    ghost load_in = { λ loads. overlaid_item (cell_load loads.kept.now) loads.pairs };
 
     ghost base = { λ loads. loads.kept.now };
 
-    ghost is_sound = { λ loads. (cell : ℕ) → IsNamed loads.pairs.entries cell → cell < length loads.kept.now };
+    ghost is_sound = { λ loads. (cell : ℕ) → IsNamed loads.pairs cell → cell < length loads.kept.now };
 
     ghost can_refuse = { true };
 
     fn add(&mut self, cell: u32, term: i128) -> Result<(), NoMemory> {
-        let load = plus(overlaid_item(self.kept, &self.pairs, cell), term);
-        self.pairs.insert(cell, load)?;
-        Ok(())
+        let load = plus(load_of(self.kept, &self.pairs, cell), term);
+        set_load(&mut self.pairs, cell, load)
     }
+}
+
+/// The load of a cell: the one that it was moved to, else the one that is kept.
+fn load_of<A: Allocator + Copy + Drop>(
+    kept: &[i128],
+    moved: &KeyedSet<u32, i128, A>,
+    cell: u32,
+) -> i128
+    requires { cell < length kept.now }
+    ensures { result ≡ overlaid_item (cell_load kept.now) moved.now cell }
+{
+    match moved.get(cell) {
+        Some(load) => load,
+        None => kept[cell as usize],
+    }
+}
+
+/// Moves the load of a cell to this one.
+fn set_load<A: Allocator + Copy + Drop>(
+    moved: &mut KeyedSet<u32, i128, A>,
+    cell: u32,
+    load: i128,
+) -> Result<(), NoMemory>
+    ensures { OnOk result (SetsCell moved.old cell load moved.new) }
+{
+    moved.write(cell, load)
 }
 
 /// What the pairs say of a number, else what is kept of it.
@@ -137,6 +193,9 @@ pub(crate) fn first_breach_after<A: Allocator + Copy + Drop>(
         (at_cell pit.now (overlaid_item (cell_limit limits.now) (by_cell pit.now (revisions_of revises.now)))) breach) }
     ensures refused { IfErr result (λ e. (writes.now ≢ []) ⊎ (revises.now ≢ [])) }
 {
+    if writes.is_empty() && revises.is_empty() {
+        return Ok(None);
+    }
     let out = first_out_after(alloc, pit, tally, writes)?;
     if let Some((block, before)) = out {
         return Ok(Some(Breach::Precedence { block, before }));
@@ -164,6 +223,15 @@ fn first_out_after<A: Allocator + Copy + Drop>(
     ensures refused { IfErr result (λ e. writes.now ≢ []) }
 {
     let kept = tally.periods.as_slice();
+    if writes.len() == 1 {
+        let (block, period) = writes[0];
+        let after = One {
+            kept,
+            block,
+            period,
+        };
+        return Ok(first_out_near(pit, &after, writes));
+    }
     if writes.len() <= FEW {
         return Ok(first_out_near(pit, &Few { kept, writes }, writes));
     }
@@ -281,15 +349,14 @@ fn moved_loads<'a, A: Allocator + Copy + Drop>(
     pit: &Instance<A>,
     tally: &'a Tally<A>,
     writes: &[(u32, Option<u32>)],
-) -> Result<Overlay<'a, i128, A>, NoMemory>
+) -> Result<Moved<'a, A>, NoMemory>
     requires tally { IsTally pit.now tally.now }
     requires fits { Fits pit.now.blocks pit.now.periods writes.now }
-    ensures moved { IfOk result (λ loads. AreMoved pit.now tally.now writes.now loads.kept.now loads.pairs.entries) }
-    ensures refused { IfErr result (λ e. writes.now ≢ []) }
+    ensures { IfOk result (λ loads. AreMoved pit.now tally.now writes.now loads.kept.now loads.pairs) }
 {
-    let mut loads = Overlay {
+    let mut loads = Moved {
         kept: &tally.loads,
-        pairs: IndexMap::new(alloc),
+        pairs: KeyedSet::new(alloc, FIRST_ROOM)?,
     };
     for k in 0..writes.len() {
         move_block(pit, tally, writes, k, &mut loads)?;
@@ -303,13 +370,13 @@ fn move_block<'a, A: Allocator + Copy + Drop>(
     tally: &Tally<A>,
     writes: &[(u32, Option<u32>)],
     k: usize,
-    loads: &mut Overlay<'a, i128, A>,
+    loads: &mut Moved<'a, A>,
 ) -> Result<(), NoMemory>
     requires tally { IsTally pit.now tally.now }
     requires fits { Fits pit.now.blocks pit.now.periods writes.now }
     requires within { k < length writes.now }
-    requires moved { AreMoved pit.now tally.now (take k writes.now) loads.old.kept.now loads.old.pairs.entries }
-    ensures { OnOk result (AreMoved pit.now tally.now (take (k + 1) writes.now) loads.new.kept.now loads.new.pairs.entries) }
+    requires moved { AreMoved pit.now tally.now (take k writes.now) loads.old.kept.now loads.old.pairs }
+    ensures { OnOk result (AreMoved pit.now tally.now (take (k + 1) writes.now) loads.new.kept.now loads.new.pairs) }
 {
     let _blocks = pit.blocks();
     let (block, period) = writes[k];
@@ -322,12 +389,12 @@ fn move_block<'a, A: Allocator + Copy + Drop>(
 fn look_at_revised<'a, A: Allocator + Copy + Drop>(
     pit: &Instance<A>,
     revises: &[(u32, u32, Option<i64>)],
-    loads: &mut Overlay<'a, i128, A>,
+    loads: &mut Moved<'a, A>,
 ) -> Result<(), NoMemory>
     requires fits { RevisionsFit pit.now.resources pit.now.periods (revisions_of revises.now) }
     requires each { length loads.old.kept.now ≡ pit.now.periods * pit.now.resources }
-    requires in_range { (cell : ℕ) → IsNamed loads.old.pairs.entries cell → cell < length loads.old.kept.now }
-    ensures looks { OnOk result (LooksAt (by_cell pit.now (revisions_of revises.now)) loads.old.kept.now loads.old.pairs.entries loads.new.kept.now loads.new.pairs.entries) }
+    requires in_range { (cell : ℕ) → IsNamed loads.old.pairs cell → cell < length loads.old.kept.now }
+    ensures looks { OnOk result (LooksAt (by_cell pit.now (revisions_of revises.now)) loads.old.kept.now loads.old.pairs loads.new.kept.now loads.new.pairs) }
     ensures refused { IfErr result (λ e. revises.now ≢ []) }
 {
     for (resource, period, _) in revises {
@@ -338,32 +405,31 @@ fn look_at_revised<'a, A: Allocator + Copy + Drop>(
 
 /// Takes a cell among those that are moved, with the load that it has.
 fn look_at<'a, A: Allocator + Copy + Drop>(
-    loads: &mut Overlay<'a, i128, A>,
+    loads: &mut Moved<'a, A>,
     cell: u32,
 ) -> Result<(), NoMemory>
     requires within { cell < length loads.old.kept.now }
     ensures stays { OnOk result (loads.new.kept.now ≡ loads.old.kept.now) }
-    ensures sets { OnOk result (SetsCell loads.old.pairs.entries cell (overlaid_item (cell_load loads.old.kept.now) loads.old.pairs.entries cell) loads.new.pairs.entries) }
+    ensures sets { OnOk result (SetsCell loads.old.pairs cell (overlaid_item (cell_load loads.old.kept.now) loads.old.pairs cell) loads.new.pairs) }
 {
-    let load = overlaid_item(loads.kept, &loads.pairs, cell);
-    loads.pairs.insert(cell, load)?;
-    Ok(())
+    let load = load_of(loads.kept, &loads.pairs, cell);
+    set_load(&mut loads.pairs, cell, load)
 }
 
 /// The load of the least period, and in it of the least resource, that is above its limit, as a breach.
 fn first_over_after<L: Limits, A: Allocator + Copy + Drop>(
     pit: &Instance<A>,
     limits: &L,
-    cells: &Pairs<i128, A>,
+    cells: &KeyedSet<u32, i128, A>,
 ) -> Option<Breach>
     requires limits { L.cells limits.now ≡ pit.now.periods * pit.now.resources }
-    requires cells { (cell : ℕ) → IsNamed cells.now.entries cell → cell < pit.now.periods * pit.now.resources }
-    ensures none { IfNone result (IsLeast ComesBefore (IsOverAt pit.now (at_cell pit.now (L.limit_in limits.now)) cells.now.entries) None) }
-    ensures some { IfSome result (IsLeastOver pit.now (at_cell pit.now (L.limit_in limits.now)) cells.now.entries) }
+    requires cells { (cell : ℕ) → IsNamed cells.now cell → cell < pit.now.periods * pit.now.resources }
+    ensures none { IfNone result (IsLeast ComesBefore (IsOverAt pit.now (at_cell pit.now (L.limit_in limits.now)) cells.now) None) }
+    ensures some { IfSome result (IsLeastOver pit.now (at_cell pit.now (L.limit_in limits.now)) cells.now) }
 {
     let (period, resource) = least_over(pit, limits, cells)?;
     let cell = pit.cell(resource, period);
-    let load = *cells.get(&cell)?;
+    let load = cells.get(cell)?;
     let limit = limits.limit(cell)?;
     Some(Breach::Over {
         resource,
@@ -377,14 +443,14 @@ fn first_over_after<L: Limits, A: Allocator + Copy + Drop>(
 fn least_over<L: Limits, A: Allocator + Copy + Drop>(
     pit: &Instance<A>,
     limits: &L,
-    cells: &Pairs<i128, A>,
+    cells: &KeyedSet<u32, i128, A>,
 ) -> Option<(u32, u32)>
     requires limits { L.cells limits.now ≡ pit.now.periods * pit.now.resources }
-    requires cells { (cell : ℕ) → IsNamed cells.now.entries cell → cell < pit.now.periods * pit.now.resources }
-    ensures { IsLeast ComesBefore (IsOverAt pit.now (at_cell pit.now (L.limit_in limits.now)) cells.now.entries) result }
+    requires cells { (cell : ℕ) → IsNamed cells.now cell → cell < pit.now.periods * pit.now.resources }
+    ensures { IsLeast ComesBefore (IsOverAt pit.now (at_cell pit.now (L.limit_in limits.now)) cells.now) result }
 {
     let mut least: Option<(u32, u32)> = None;
-    for i in 0..cells.len() {
+    for i in 0..cells.pairs().len() {
         least = lesser(least, over_at(pit, limits, cells, i));
     }
     least
@@ -394,19 +460,20 @@ fn least_over<L: Limits, A: Allocator + Copy + Drop>(
 fn over_at<L: Limits, A: Allocator + Copy + Drop>(
     pit: &Instance<A>,
     limits: &L,
-    cells: &Pairs<i128, A>,
+    cells: &KeyedSet<u32, i128, A>,
     i: usize,
 ) -> Option<(u32, u32)>
     requires limits { L.cells limits.now ≡ pit.now.periods * pit.now.resources }
-    requires within { i < index_map_len cells.now }
-    requires cells { (cell : ℕ) → IsNamed cells.now.entries cell → cell < pit.now.periods * pit.now.resources }
-    ensures { IsLeast ComesBefore (λ p. IsOverAt pit.now (at_cell pit.now (L.limit_in limits.now)) cells.now.entries p
-        × (cell_of pit.now p.1 p.0 ≡ (slice_index_or cells.now.entries i (0, pos 0)).0)) result }
+    requires within { i < length cells.now }
+    requires cells { (cell : ℕ) → IsNamed cells.now cell → cell < pit.now.periods * pit.now.resources }
+    ensures { IsLeast ComesBefore (λ p. IsOverAt pit.now (at_cell pit.now (L.limit_in limits.now)) cells.now p
+        × (cell_of pit.now p.1 p.0 ≡ (slice_index_or cells.now i (0, pos 0)).0)) result }
 {
-    let (cell, load) = cells.get_index(i)?;
-    let limit = limits.limit(*cell)?;
-    if *load <= i128::from(limit) {
+    let (cell, _) = cells.pairs()[i];
+    let load = cells.get(cell)?;
+    let limit = limits.limit(cell)?;
+    if load <= i128::from(limit) {
         return None;
     }
-    Some((*cell / pit.resources(), *cell % pit.resources()))
+    Some((cell / pit.resources(), cell % pit.resources()))
 }

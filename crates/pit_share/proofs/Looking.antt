@@ -6,7 +6,8 @@ use mathlib.Core.List.{IsPrefix}
 use Rattle.pit_model.specs.Pit.{Pit}
 use Rattle.pit_plan.specs.Schedule.{Commit, held_period, last_number}
 use Rattle.pit_plan.proofs.CallerLemmas.{one_snapshot, held_in_range}
-use Rattle.pit_tx.specs.Sets.{Sets, at_key, known_of, with_read}
+use Rattle.pit_keyed.specs.Keyed.{at_key, with_read}
+use Rattle.pit_tx.specs.Sets.{Sets, known_of}
 use Rattle.pit_tx.specs.Refusals.{refusal_of}
 use Rattle.pit_book.specs.History.{Answered}
 use Rattle.pit_board.specs.Boards.{slot_of}

@@ -3,8 +3,9 @@ ghost use Rattle.std.specs.Prelude.{◌≡◌, ℕ, ◌<◌, ◌≤◌, [], ◌�
 ghost use Rattle.pit_num.specs.Fitting.{Fits, RevisionsFit, pair_eq};
 ghost use Rattle.pit_num.specs.Refused.{IsRefusedBy};
 ghost use Rattle.pit_plan.specs.Schedule.{held_period};
-ghost use Rattle.pit_tx.specs.Refusals.{refusal_of, revision_refusal_of, IsFurther};
-ghost use Rattle.pit_tx.specs.Sets.{known_of, with_write};
+ghost use Rattle.pit_keyed.specs.Keyed.{IsFurther, with_write};
+ghost use Rattle.pit_tx.specs.Refusals.{refusal_of, revision_refusal_of};
+ghost use Rattle.pit_tx.specs.Sets.{known_of};
 ghost use Rattle.pit_book.specs.Calls.{work_call, entry_reply};
 ghost use Rattle.pit_book.specs.declared.entry.Act.TheVariants.{Commit as commit_act, Withdraw as withdraw_act};
 ghost use Rattle.pit_book.specs.declared.reply.EntryReply.TheVariants.{Withdrawn as withdrawn};

@@ -1,5 +1,5 @@
 -- What an insert leaves of a set.
-use Rattle.std.proofs.Common.{◌≡◌, ◌≢◌, ℕ, zero, suc, ◌<◌, ℤ, Bool, true, false, true≢false, cond, List, [], ◌∷◌, ◌++◌, Option, Some, None, Result, Ok, Err, OnOk, OnErr, refl, sym, ap, subst, ◌∙◌, nat_eq, arith}
+use Rattle.std.proofs.Common.{◌≡◌, ◌≢◌, ℕ, zero, suc, ◌<◌, ℤ, Bool, true, false, true≢false, cond, List, [], ◌∷◌, ◌++◌, Option, None, Result, Ok, Err, OnOk, OnErr, refl, sym, ap, subst, ◌∙◌, nat_eq, arith}
 use Rattle.std.specs.Prelude.{All, AllPairs, IfSome, is_some}
 use Rattle.std.proofs.lemmas.Bool.Decides.{Decides-eqb}
 use Rattle.std.proofs.lemmas.List.Elements.{All-cons, All-nil, All-head, All-tail}
@@ -7,7 +7,8 @@ use Rattle.std.proofs.lemmas.List.Kept.{AllPairs-cons}
 use Rattle.indexmap.specs.IndexMap.{insert_entry}
 use Rattle.pit_num.specs.Fitting.{AreKeyed, Fits, RevisionsFit, pair_eq}
 use Rattle.pit_num.proofs.CallerLemmas.{Decides-pair_eq}
-use Rattle.pit_tx.specs.Sets.{with_read, at_key}
+use Rattle.pit_keyed.proofs.CallerLemmas.{insert_entry-absent}
+use Rattle.pit_keyed.specs.Keyed.{with_read, at_key}
 
 -- ---- any keys and values
 
@@ -42,17 +43,6 @@ once-insert_entry {K} {V} eq same (p ∷ ps) key value once =
     by false is first rest later =
         AllPairs-cons (λ p q. p.0 ≢ q.0) p (insert_entry eq ps key value)
         (All-insert_entry eq (λ q. p.0 ≢ q.0) ps key value (λ q h. h) (λ e. true≢false (sym (same key) ∙ subst (λ (k : K). eq key k ≡ false) e is)) first) later
-
--- a key that isn't there goes last
-pub insert_entry-absent : {K V : Type 0} (eq : K → K → Bool) (pairs : List (K × V)) (key : K) (value : V)
-    → is_some (at_key eq pairs key) ≡ false → insert_entry eq pairs key value ≡ pairs ++ (key, value) ∷ []
-insert_entry-absent eq [] key value absent = refl
-insert_entry-absent eq (p ∷ ps) key value absent = by (eq key p.0) (λ e. insert_entry-absent eq ps key value e) absent
-  where
-    by : (x : Bool) → (is_some (at_key eq ps key) ≡ false → insert_entry eq ps key value ≡ ps ++ (key, value) ∷ [])
-        → is_some (cond x (Some p.1) (at_key eq ps key)) ≡ false → cond x ((p.0, value) ∷ ps) (p ∷ insert_entry eq ps key value) ≡ p ∷ (ps ++ (key, value) ∷ [])
-    by true later e = cc
-    by false later e = ap (λ qs. p ∷ qs) (later e)
 
 -- keyed pairs are so after an insert, if the new key and value pass their tests
 pub AreKeyed-insert_entry : {K V : Type 0} (eq : K → K → Bool) (same : (k : K) → eq k k ≡ true) (IsKey : K → Type 0) (IsValue : V → Type 0) (pairs : List (K × V)) (key : K) (value : V)

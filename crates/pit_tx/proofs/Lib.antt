@@ -1,2 +1,1 @@
 pub mod Inserted
-pub mod Placed

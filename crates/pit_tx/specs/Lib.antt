@@ -1,3 +1,2 @@
 pub mod Sets
 pub mod Refusals
-pub mod Kept

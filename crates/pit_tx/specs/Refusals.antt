@@ -1,8 +1,8 @@
--- Which refusal is due to a block with a period or none, or to a resource in a period, and when memory may be wanted.
-use Rattle.std.specs.Prelude.{◌≡◌, ◌≢◌, ℕ, Bool, false, nat_le, List, [], Option, Some, None, if◌then◌else◌}
+-- Which refusal is due to a block with a period or none, or to a resource in a period.
+use Rattle.std.specs.Prelude.{ℕ, Bool, false, nat_le, Option, Some, None, if◌then◌else◌}
 use Rattle.pit_tx.specs.declared.error.WorkError.{WorkError}
 use Rattle.pit_tx.specs.declared.error.WorkError.TheVariants.{NoBlock, NoResource, NoPeriod}
-use Rattle.pit_tx.specs.Sets.{Sets, at_key}
+use Rattle.pit_tx.specs.Sets.{Sets}
 
 -- there is a period, and it is not below the number of periods
 abbrev pub is_past : ℕ → Option ℕ → Bool
@@ -18,8 +18,3 @@ refusal_of sets b period =
 abbrev pub revision_refusal_of : Sets → ℕ → ℕ → Option WorkError
 revision_refusal_of sets r t =
     if nat_le sets.resources r then Some NoResource else if nat_le sets.periods t then Some NoPeriod else None
-
--- a further key: the set has keys, and not this one. A first key has its room
-pub record IsFurther {K V : Type 0} (eq : K → K → Bool) (pairs : List (K × V)) (key : K) : Type 0 where
-  pub others : pairs ≢ []
-  pub absent : at_key eq pairs key ≡ None

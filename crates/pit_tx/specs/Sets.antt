@@ -1,8 +1,7 @@
 -- What contracts see of a transaction's sets.
-use Rattle.std.specs.Prelude.{ℕ, ◌≤◌, ℤ, ◌++◌, List, [], ◌∷◌, Bool, Option, nat_eq, is_some, if◌then◌else◌}
-use Rattle.std.specs.Map.{lookup}
-use Rattle.indexmap.specs.IndexMap.{insert_entry}
+use Rattle.std.specs.Prelude.{ℕ, ◌≤◌, ℤ, List, Option, nat_eq, is_some, if◌then◌else◌}
 use Rattle.pit_num.specs.Fitting.{Fits, RevisionsFit}
+use Rattle.pit_keyed.specs.Keyed.{at_key}
 use Rattle.pit_num.specs.declared.limits.TheConstants.{BLOCKS_MAX, PERIODS_MAX, RESOURCES_MAX}
 
 pub record Sets : Type 0 where
@@ -19,20 +18,6 @@ pub record Sets : Type 0 where
   pub writes : List (ℕ × Option ℕ)
   -- resources in periods, each with an upper limit or none, in the order of first use
   pub revises : List ((ℕ × ℕ) × Option ℤ)
-
--- keys, each with a value, in the order of first use
-module _ {K V : Type 0} (eq : K → K → Bool) where
-  -- the value at a key, if it is there
-  abbrev pub at_key : List (K × V) → K → Option V
-  at_key pairs key = lookup (eq key) pairs
-
-  -- the pairs and what was read: a key that is there keeps its value, and another goes last
-  abbrev pub with_read : List (K × V) → K → V → List (K × V)
-  with_read pairs key value = if is_some (at_key pairs key) then pairs else pairs ++ (key, value) ∷ []
-
-  -- the pairs and what is written: a key that is there keeps its place and takes the value, and another goes last
-  abbrev pub with_write : List (K × V) → K → V → List (K × V)
-  with_write pairs key value = insert_entry eq pairs key value
 
 -- the own write, else the first noted read
 abbrev pub known_of : Sets → ℕ → Option (Option ℕ)

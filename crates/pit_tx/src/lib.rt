@@ -8,7 +8,6 @@
 #![tactic(auto)]
 
 mod error;
-mod keyed_set;
 mod work;
 
 pub use error::WorkError;

@@ -2,14 +2,18 @@
 ghost use Rattle.std.specs.Prelude.{◌≡◌, ◌<◌, ◌≤◌, [], ◌∷◌, ◌++◌, None, nat_eq, IfOk, OnOk, OnErr, IfSome, IfNone, IsErrOf};
 ghost use Rattle.pit_num.specs.Fitting.{Fits, RevisionsFit, pair_eq};
 ghost use Rattle.pit_num.specs.Refused.{IsRefusedBy};
-ghost use Rattle.pit_tx.specs.Refusals.{refusal_of, revision_refusal_of, IsFurther};
-ghost use Rattle.pit_tx.specs.Sets.{known_of, with_read, with_write, AreSound};
+ghost use Rattle.pit_keyed.specs.Keyed.{IsFurther, with_read, with_write};
+ghost use Rattle.pit_tx.specs.Refusals.{refusal_of, revision_refusal_of};
+ghost use Rattle.pit_tx.specs.Sets.{known_of, AreSound};
 
 use crate::error::WorkError;
-use crate::keyed_set::KeyedSet;
+use pit_keyed::KeyedSet;
 use pit_num::{BLOCKS_MAX, NoMemory, PERIODS_MAX, RESOURCES_MAX};
 use std::alloc::Allocator;
 use std::marker::Model;
+
+/// So many pairs of each set have room from the start.
+const FIRST_ROOM: usize = 2;
 
 /// The reads and the writes of a transaction, each a block with a period or none, and the upper limits that it revises, in the order
 /// of first use. A transaction is what one planner does for one of its jobs, after so many commits. Only `new`, `note`, `put`,
@@ -85,9 +89,9 @@ impl<A: Allocator + Copy + Drop> Work<A> {
           revises = [];
         }) }
     {
-        let reads = KeyedSet::new(alloc)?;
-        let writes = KeyedSet::new(alloc)?;
-        let revises = KeyedSet::new(alloc)?;
+        let reads = KeyedSet::new(alloc, FIRST_ROOM)?;
+        let writes = KeyedSet::new(alloc, FIRST_ROOM)?;
+        let revises = KeyedSet::new(alloc, FIRST_ROOM)?;
         Ok(Work {
             planner,
             job,
@@ -167,7 +171,10 @@ impl<A: Allocator + Copy + Drop> Work<A> {
         if let Some(error) = self.refusal(b, period) {
             return Err(error);
         }
-        self.reads.note(b, period)
+        match self.reads.note(b, period) {
+            Ok(()) => Ok(()),
+            Err(_) => Err(WorkError::NoMemory),
+        }
     }
 
     /// Notes what a block of the pit that isn't known was seen to have, without looking for it again. Takes memory where the read set has other
@@ -180,10 +187,7 @@ impl<A: Allocator + Copy + Drop> Work<A> {
         ensures err { OnErr result (self.new ≡ self.old) }
         ensures memory { OnErr result (IsFurther nat_eq self.old.reads b) }
     {
-        match self.reads.add(b, period) {
-            Ok(()) => Ok(()),
-            Err(_) => Err(NoMemory),
-        }
+        self.reads.add(b, period)
     }
 
     /// Writes that a block has a period. A block that was written before keeps its place. Takes memory where the write set has
@@ -218,7 +222,10 @@ impl<A: Allocator + Copy + Drop> Work<A> {
         if let Some(error) = self.revision_refusal(r, t) {
             return Err(error);
         }
-        self.revises.write((r, t), upper)
+        match self.revises.write((r, t), upper) {
+            Ok(()) => Ok(()),
+            Err(_) => Err(WorkError::NoMemory),
+        }
     }
 
     /// The read set: each block with what it was first seen to have.
@@ -264,7 +271,10 @@ impl<A: Allocator + Copy + Drop> Work<A> {
         if let Some(error) = self.refusal(b, period) {
             return Err(error);
         }
-        self.writes.write(b, period)
+        match self.writes.write(b, period) {
+            Ok(()) => Ok(()),
+            Err(_) => Err(WorkError::NoMemory),
+        }
     }
 
     /// Why a block with a period or none can't stand in a set, if it can't.

@@ -1,15 +1,26 @@
-use Rattle.std.proofs.Common.{ℕ, ℤ, List, Option, None, subst}
+use Rattle.std.proofs.Common.{◌≡◌, ℕ, ℤ, List, [], Option, None, sym, subst, rules}
+use Rattle.std.proofs.lemmas.List.{nil_from_length}
 use Rattle.std.specs.Prelude.{IfNone, IfSome}
 use Rattle.pit_num.specs.Least.{ComesBefore, IsLeast}
-use Rattle.pit_plan.specs.Schedule.{by_block}
+use Rattle.pit_plan.specs.Schedule.{Writes, by_block}
 use Rattle.pit_num.specs.Fitting.{revisions_of}
 use Rattle.pit_plan.specs.Totals.{at_cell}
 use Rattle.pit_plan.specs.Limits.{cell_limit, by_cell}
-use Rattle.pit_plan.specs.Breaches.{IsOutOfOrder}
+use Rattle.pit_plan.specs.Breaches.{IsGood, IsOutOfOrder}
 use Rattle.pit_plan.specs.Touched.{overlaid_item, IsOutNear, IsOverAt, IsLeastOver}
 use Rattle.pit_plan.proofs.Good.{ordered-from_none}
 use Rattle.pit_plan.proofs.Touched.{least-after, over-found, moved-looked, revised-looked}
 use Rattle.pit_plan.proofs.judging.first_breach_after.Goals as goal
+
+pub returns-then-is_empty-2-clause-breach : goal.returns-then-is_empty-2-clause-breach
+returns-then-is_empty-2-clause-breach g c = λ good.
+    let pit = c.args.pit.now in
+    let s = by_block c.args.tally.now.periods in
+    let limits = cell_limit c.args.limits.now in
+    let no_writes : c.args.writes.now ≡ [] = nil_from_length c.args.writes.now (search rules) in
+    let no_revises : c.args.revises.now ≡ [] = nil_from_length c.args.revises.now (search rules) in
+    subst (λ (writes : Writes). IsGood pit (overlaid_item s writes) (at_cell pit (overlaid_item limits (by_cell pit (revisions_of c.args.revises.now))))) (sym no_writes)
+    (subst (λ (triples : List (ℕ × ℕ × Option ℤ)). IsGood pit s (at_cell pit (overlaid_item limits (by_cell pit (revisions_of triples))))) (sym no_revises) good)
 
 pub returns-in-Some-clause-breach : goal.returns-in-Some-clause-breach
 returns-in-Some-clause-breach g c = λ good.
@@ -31,8 +42,8 @@ returns-clause-breach g c = λ good.
     let loads = c.look_at_revised.new.loads in
     let looks = c.in_ok-look_at_revised.ensures.looks in
     let lim = at_cell pit (overlaid_item limits revised) in
-    over-found pit c.args.tally.now writes loads.kept.now loads.pairs.entries (at_cell pit limits) lim c.first_over_after.result c.requires.tally
-    (moved-looked pit c.args.tally.now writes revised c.in_ok-loads.loads.kept.now loads.kept.now c.in_ok-loads.loads.pairs.entries loads.pairs.entries c.in_ok-loads.ensures.moved looks)
-    (revised-looked pit limits revised loads.pairs.entries looks.named) good.within (ordered-from_none pit (overlaid_item s writes) none)
-    (subst (λ (xs : List (ℕ × Option ℤ)). IfNone c.first_over_after.result (IsLeast ComesBefore (IsOverAt pit (at_cell pit (overlaid_item limits xs)) loads.pairs.entries) None)) c.in_ok-revised.ensures.entries c.first_over_after.ensures.none)
-    (subst (λ (xs : List (ℕ × Option ℤ)). IfSome c.first_over_after.result (IsLeastOver pit (at_cell pit (overlaid_item limits xs)) loads.pairs.entries)) c.in_ok-revised.ensures.entries c.first_over_after.ensures.some)
+    over-found pit c.args.tally.now writes loads.kept.now loads.pairs (at_cell pit limits) lim c.first_over_after.result c.requires.tally
+    (moved-looked pit c.args.tally.now writes revised c.in_ok-loads.loads.kept.now loads.kept.now c.in_ok-loads.loads.pairs loads.pairs c.in_ok-loads.ensures looks)
+    (revised-looked pit limits revised loads.pairs looks.named) good.within (ordered-from_none pit (overlaid_item s writes) none)
+    (subst (λ (xs : List (ℕ × Option ℤ)). IfNone c.first_over_after.result (IsLeast ComesBefore (IsOverAt pit (at_cell pit (overlaid_item limits xs)) loads.pairs) None)) c.in_ok-revised.ensures.entries c.first_over_after.ensures.none)
+    (subst (λ (xs : List (ℕ × Option ℤ)). IfSome c.first_over_after.result (IsLeastOver pit (at_cell pit (overlaid_item limits xs)) loads.pairs)) c.in_ok-revised.ensures.entries c.first_over_after.ensures.some)

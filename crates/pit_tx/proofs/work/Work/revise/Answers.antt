@@ -1,7 +1,6 @@
-use Rattle.std.proofs.Common.{ℕ, refl, rules}
-use Rattle.std.proofs.lemmas.Result.{on_ok_weaker}
+use Rattle.std.proofs.Common.{ℕ, rules}
 use Rattle.pit_num.specs.Fitting.{RevisionsFit, pair_eq}
-use Rattle.pit_tx.specs.Sets.{with_write}
+use Rattle.pit_keyed.specs.Keyed.{with_write}
 use Rattle.pit_tx.proofs.Inserted.{RevisionsFit-insert_entry, kept_after}
 use Rattle.pit_tx.proofs.work.Work.revise.Goals as goal
 
@@ -19,6 +18,3 @@ invariant_of-self g c =
           c.write.ensures.err c.self.invariant.revises
           (RevisionsFit-insert_entry w.resources w.periods w.revises key c.args.upper (search rules) c.self.invariant.revises);
     }
-
-pub returns-clause-ok : goal.returns-clause-ok
-returns-clause-ok g c = on_ok_weaker c.write.result (λ written. rw (← c.self.view_is, ← written) refl) c.write.ensures.ok

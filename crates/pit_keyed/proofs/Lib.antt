@@ -1,0 +1,3 @@
+pub mod Absent
+pub mod Placed
+pub mod CallerLemmas

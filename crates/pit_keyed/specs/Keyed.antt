@@ -1,0 +1,22 @@
+-- Keys, each with a value, in the order of first use, and when a further one may want memory.
+use Rattle.std.specs.Prelude.{◌≡◌, ◌≢◌, ◌++◌, List, [], ◌∷◌, Bool, Option, None, is_some, if◌then◌else◌}
+use Rattle.std.specs.Map.{lookup}
+use Rattle.indexmap.specs.IndexMap.{insert_entry}
+
+module _ {K V : Type 0} (eq : K → K → Bool) where
+  -- the value at a key, if it is there
+  abbrev pub at_key : List (K × V) → K → Option V
+  at_key pairs key = lookup (eq key) pairs
+
+  -- the pairs and what was read: a key that is there keeps its value, and another goes last
+  abbrev pub with_read : List (K × V) → K → V → List (K × V)
+  with_read pairs key value = if is_some (at_key pairs key) then pairs else pairs ++ (key, value) ∷ []
+
+  -- the pairs and what is written: a key that is there keeps its place and takes the value, and another goes last
+  abbrev pub with_write : List (K × V) → K → V → List (K × V)
+  with_write pairs key value = insert_entry eq pairs key value
+
+-- a further key: the set has keys, and not this one. A first key has its room
+pub record IsFurther {K V : Type 0} (eq : K → K → Bool) (pairs : List (K × V)) (key : K) : Type 0 where
+  pub others : pairs ≢ []
+  pub absent : at_key eq pairs key ≡ None

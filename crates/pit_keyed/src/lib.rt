@@ -1,0 +1,9 @@
+//! Sets of keys, each with a value, in the order of first use.
+//!
+//! A `KeyedSet` promises the exact list of its pairs after each call, and that no key stands twice. While it has few keys these are searched one
+//! after another; a table of their places is made, and takes memory, once there are more.
+#![tactic(auto)]
+
+mod keyed_set;
+
+pub use keyed_set::KeyedSet;
