@@ -1,9 +1,11 @@
 //! A commit that is to be published.
-ghost use Rattle.std.specs.Prelude.{◌≡◌};
+ghost use Rattle.std.specs.Prelude.{◌≡◌, IfOk};
+ghost use Rattle.pit_num.specs.Fitting.{revisions_of};
 
 use crate::changes::Changes;
 use crate::session::Session;
 use crate::stamp::Operation;
+use pit_num::NoMemory;
 use std::alloc::Allocator;
 use std::marker::Model;
 
@@ -23,10 +25,22 @@ impl<S: Session, A: Allocator + Copy + Drop> Model for Notice<S, A> {
 }
 
 impl<S: Session, A: Allocator + Copy + Drop> Notice<S, A> {
-    pub(crate) fn new(changes: Changes<A>, operation: Operation<S, A>) -> Notice<S, A>
-        ensures { result ≡ changes }
+    /// Makes what grows with one commit: a copy of what it writes and revises, and the board's operation.
+    pub fn new(
+        alloc: A,
+        writes: &[(u32, Option<u32>)],
+        revises: &[(u32, u32, Option<i64>)],
+    ) -> Result<Notice<S, A>, NoMemory>
+        ensures { IfOk result (λ notice. notice ≡ record { writes = writes.now; revises = revisions_of revises.now }) }
     {
-        Notice { changes, operation }
+        Ok(Notice {
+            changes: Changes::copied(alloc, writes, revises)?,
+            operation: Operation::new(alloc)?,
+        })
+    }
+
+    pub(crate) fn operation(&self) -> &Operation<S, A> {
+        &self.operation
     }
 
     pub(crate) fn into_parts(self) -> (Changes<A>, Operation<S, A>)
