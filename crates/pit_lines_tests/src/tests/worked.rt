@@ -1,0 +1,52 @@
+//! Worked examples, byte for byte.
+use super::rows::{GREATEST, LOADING, MEETING, REVISING, Row, history_of};
+use super::{are_same, read, written};
+
+const MEETING_TEXT: &str = "{\"format\":1}
+{\"act\":\"commit\",\"job\":0,\"planner\":0,\"reads\":[],\"reply\":{\"committed\":1},\"start\":0,\"writes\":[[3,1]]}
+{\"act\":\"commit\",\"job\":1,\"planner\":2,\"reads\":[],\"reply\":{\"committed\":2},\"start\":1,\"writes\":[[3,null]]}
+{\"act\":\"commit\",\"job\":1,\"planner\":1,\"reads\":[[3,1]],\"reply\":{\"moved\":[3,2]},\"start\":1,\"writes\":[[3,0]]}
+{\"act\":\"withdraw\",\"job\":1,\"planner\":1,\"reads\":[[3,null]],\"reply\":\"withdrawn\",\"start\":2,\"writes\":[]}
+";
+
+const LOADING_TEXT: &str = "{\"format\":1}
+{\"act\":\"commit\",\"job\":1,\"planner\":1,\"reads\":[],\"reply\":{\"committed\":1},\"start\":0,\"writes\":[[0,0],[1,0]]}
+{\"act\":\"commit\",\"job\":2,\"planner\":1,\"reads\":[],\"reply\":{\"over\":[0,0,\"5000000\",\"4000000\"]},\"start\":1,\"writes\":[[3,0]]}
+{\"act\":\"commit\",\"job\":3,\"planner\":1,\"reads\":[],\"reply\":{\"committed\":2},\"start\":1,\"writes\":[[3,1]]}
+";
+
+pub(super) const REVISING_TEXT: &str = "{\"format\":2}
+{\"act\":\"commit\",\"job\":1,\"planner\":1,\"reads\":[],\"reply\":{\"committed\":1},\"revises\":[],\"start\":0,\"writes\":[[0,0],[1,0]]}
+{\"act\":\"commit\",\"job\":2,\"planner\":1,\"reads\":[],\"reply\":{\"committed\":2},\"revises\":[[0,0,\"5000000\"]],\"start\":1,\"writes\":[[3,0]]}
+{\"act\":\"commit\",\"job\":3,\"planner\":1,\"reads\":[],\"reply\":{\"over\":[0,0,\"5000000\",\"4000000\"]},\"revises\":[[0,0,\"4000000\"]],\"start\":2,\"writes\":[]}
+";
+
+const GREATEST_TEXT: &str = "{\"format\":2}
+{\"act\":\"commit\",\"job\":4294967295,\"planner\":0,\"reads\":[[0,4294967295],[4294967295,null]],\"reply\":{\"ahead\":[4294967295,0]},\"revises\":[[4294967295,0,null],[0,4294967295,\"9223372036854775807\"],[0,0,\"-9223372036854775808\"]],\"start\":4294967295,\"writes\":[]}
+{\"act\":\"commit\",\"job\":0,\"planner\":4294967295,\"reads\":[],\"reply\":{\"misread\":10},\"revises\":[],\"start\":0,\"writes\":[]}
+{\"act\":\"withdraw\",\"job\":0,\"planner\":0,\"reads\":[],\"reply\":{\"precedence\":[1,100]},\"revises\":[[9,99,\"0\"],[9,99,\"-1\"]],\"start\":0,\"writes\":[]}
+{\"act\":\"commit\",\"job\":0,\"planner\":0,\"reads\":[],\"reply\":{\"over\":[0,1,\"170141183460469231731687303715884105727\",\"-9223372036854775808\"]},\"revises\":[],\"start\":0,\"writes\":[]}
+{\"act\":\"commit\",\"job\":0,\"planner\":0,\"reads\":[],\"reply\":{\"over\":[1,0,\"-170141183460469231731687303715884105728\",\"0\"]},\"revises\":[],\"start\":0,\"writes\":[]}
+{\"act\":\"commit\",\"job\":0,\"planner\":0,\"reads\":[],\"reply\":\"withdrawn\",\"revises\":[],\"start\":0,\"writes\":[]}
+";
+
+/// The entries of a history, and its text.
+const EXAMPLES: &[(&[Row], &str)] = &[
+    (&[], "{\"format\":1}\n"),
+    (MEETING, MEETING_TEXT),
+    (LOADING, LOADING_TEXT),
+    (REVISING, REVISING_TEXT),
+    (GREATEST, GREATEST_TEXT),
+];
+
+#[test]
+fn are_written_and_read(rt: HostRuntime) {
+    for (rows, text) in EXAMPLES {
+        let history = history_of(rt.alloc(), rows).ok().expect(&rt, "memory");
+        assert!(rt; written(&rt, rt.alloc(), &history).as_slice() == text.as_bytes());
+        let answer = read(rt.alloc(), text.as_bytes())
+            .ok()
+            .expect(&rt, "no fault");
+        assert!(rt; are_same(&answer, &history));
+    }
+}
