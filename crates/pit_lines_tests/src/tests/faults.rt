@@ -2,7 +2,7 @@
 use super::{fault, read};
 use LinesCause::{NotFormat, NotJson, Shape};
 use pit_lines::{LinesCause, LinesError};
-use std::alloc::{AllocError, Global};
+use std::alloc::{AllocError, AllocFailed, Global};
 use std::process::Abort;
 
 /// A text, and the line and the cause of its first fault.
@@ -296,24 +296,40 @@ const DEPTHS: &[(u32, LinesCause, LinesCause)] = &[
     (1_000, NotJson, NotJson),
 ];
 
-/// So many brackets that open, and as many that close, behind some text.
-fn nested(alloc: Global, front: &[u8], depth: u32) -> Result<Vec<u8>, AllocError> {
-    let mut text = Vec::from_slice(alloc, front)?;
+/// Adds so many brackets that open, and as many that close.
+fn nest(text: &mut Vec<u8>, depth: u32) -> Result<(), AllocFailed<u8>> {
     for _ in 0..depth {
         text.push(b'[')?;
     }
     for _ in 0..depth {
         text.push(b']')?;
     }
-    Ok(text)
+    Ok(())
+}
+
+/// Such brackets behind some text.
+fn nested(rt: &impl Abort, alloc: Global, front: &[u8], depth: u32) -> Vec<u8> {
+    let mut text = Vec::from_slice(alloc, front).expect(rt, "memory");
+    assert!(rt; nest(&mut text, depth).is_ok());
+    text
 }
 
 #[test]
 fn of_each_depth(rt: HostRuntime) {
     for (depth, first, later) in DEPTHS {
-        let text = nested(rt.alloc(), b"", *depth).expect(&rt, "memory");
+        let text = nested(&rt, rt.alloc(), b"", *depth);
         assert_eq!(rt; read(rt.alloc(), &text).err(), Some(fault(1, *first)));
-        let text = nested(rt.alloc(), b"{\"format\":1}\n", *depth).expect(&rt, "memory");
+        let text = nested(&rt, rt.alloc(), b"{\"format\":1}\n", *depth);
         assert_eq!(rt; read(rt.alloc(), &text).err(), Some(fault(2, *later)));
     }
+}
+
+/// What stands side by side doesn't nest.
+#[test]
+fn side_by_side(rt: HostRuntime) {
+    let mut text = nested(&rt, rt.alloc(), b"[", 126);
+    assert!(rt; text.push(b',').is_ok());
+    assert!(rt; nest(&mut text, 126).is_ok());
+    assert!(rt; text.push(b']').is_ok());
+    assert_eq!(rt; read(rt.alloc(), &text).err(), Some(fault(1, NotFormat)));
 }

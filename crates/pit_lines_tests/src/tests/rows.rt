@@ -160,6 +160,24 @@ pub(super) const REVISING: &[Row] = &[
     },
 ];
 
+/// A job that is given up, the only one that revises a limit.
+pub(super) const GIVEN_UP: &[Row] = &[
+    Row {
+        job: 1,
+        planner: 1,
+        reply: Committed { number: 1 },
+        ..NONE
+    },
+    Row {
+        act: Act::Withdraw,
+        job: 2,
+        planner: 1,
+        revises: &[(0, 1, None)],
+        start: 1,
+        ..NONE
+    },
+];
+
 /// Each other reply, the least and the greatest numbers, and acts with the other's reply.
 pub(super) const GREATEST: &[Row] = &[
     Row {

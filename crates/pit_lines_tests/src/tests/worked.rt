@@ -1,5 +1,5 @@
 //! Worked examples, byte for byte.
-use super::rows::{GREATEST, LOADING, MEETING, REVISING, Row, history_of};
+use super::rows::{GIVEN_UP, GREATEST, LOADING, MEETING, REVISING, Row, history_of};
 use super::{are_same, read, written};
 
 const MEETING_TEXT: &str = "{\"format\":1}
@@ -21,6 +21,11 @@ pub(super) const REVISING_TEXT: &str = "{\"format\":2}
 {\"act\":\"commit\",\"job\":3,\"planner\":1,\"reads\":[],\"reply\":{\"over\":[0,0,\"5000000\",\"4000000\"]},\"revises\":[[0,0,\"4000000\"]],\"start\":2,\"writes\":[]}
 ";
 
+const GIVEN_UP_TEXT: &str = "{\"format\":2}
+{\"act\":\"commit\",\"job\":1,\"planner\":1,\"reads\":[],\"reply\":{\"committed\":1},\"revises\":[],\"start\":0,\"writes\":[]}
+{\"act\":\"withdraw\",\"job\":2,\"planner\":1,\"reads\":[],\"reply\":\"withdrawn\",\"revises\":[[0,1,null]],\"start\":1,\"writes\":[]}
+";
+
 const GREATEST_TEXT: &str = "{\"format\":2}
 {\"act\":\"commit\",\"job\":4294967295,\"planner\":0,\"reads\":[[0,4294967295],[4294967295,null]],\"reply\":{\"ahead\":[4294967295,0]},\"revises\":[[4294967295,0,null],[0,4294967295,\"9223372036854775807\"],[0,0,\"-9223372036854775808\"]],\"start\":4294967295,\"writes\":[]}
 {\"act\":\"commit\",\"job\":0,\"planner\":4294967295,\"reads\":[],\"reply\":{\"misread\":10},\"revises\":[],\"start\":0,\"writes\":[]}
@@ -36,6 +41,7 @@ const EXAMPLES: &[(&[Row], &str)] = &[
     (MEETING, MEETING_TEXT),
     (LOADING, LOADING_TEXT),
     (REVISING, REVISING_TEXT),
+    (GIVEN_UP, GIVEN_UP_TEXT),
     (GREATEST, GREATEST_TEXT),
 ];
 
