@@ -1,177 +1,24 @@
 //! The first breach that a schedule would have after writes and revisions, found where these touch it.
-ghost use Rattle.std.specs.Prelude.{◌≡◌, ◌≢◌, ℕ, ◌+◌, ◌*◌, ◌<◌, ◌⊎◌, true, None, pos, [], ◌∷◌, length, take, nat_eq, slice_index_or, IfNone, IfOk, IfErr, IfSome, OnOk, All, AllPairs};
-ghost use Rattle.std.specs.Map.{lookup};
+ghost use Rattle.std.specs.Prelude.{◌≡◌, ◌≢◌, ℕ, ◌+◌, ◌*◌, ◌<◌, ◌⊎◌, None, pos, [], length, slice_index_or, IfNone, IfOk, IfErr, IfSome, All};
 ghost use Rattle.pit_num.specs.Fitting.{Fits, RevisionsFit, revisions_of};
 ghost use Rattle.pit_num.specs.Least.{ComesBefore, IsLeast};
 ghost use Rattle.pit_model.specs.Pit.{cell_of};
 ghost use Rattle.pit_plan.specs.Schedule.{by_block};
 ghost use Rattle.pit_plan.specs.Breaches.{IsFirstBreach, IsGood, IsOutOfOrder};
-ghost use Rattle.pit_plan.specs.Totals.{cell_load, at_cell, IsTally};
+ghost use Rattle.pit_plan.specs.Totals.{at_cell, IsTally};
 ghost use Rattle.pit_plan.specs.Limits.{cell_limit, by_cell};
-ghost use Rattle.pit_plan.specs.Touched.{overlaid_item, lesser_of, IsOutNear, IsOverAt, IsLeastOver, IsNamed, AreMoved, SetsCell, LooksAt};
+ghost use Rattle.pit_plan.specs.Touched.{overlaid_item, lesser_of, IsOutNear, IsOverAt, IsLeastOver, IsNamed};
 
 use crate::breach::Breach;
 use crate::limits::Limits;
-use crate::loads::{Loads, plus, shift};
+use crate::moving::{look_at_revised, moved_loads};
+use crate::overlay::{FEW, Few, One, Overlay, revised, written};
 use crate::schedule::{Schedule, first_late, keeps_order};
 use crate::tally::Tally;
-use indexmap::IndexMap;
 use pit_keyed::KeyedSet;
 use pit_model::Instance;
 use pit_num::NoMemory;
 use std::alloc::Allocator;
-use std::hash::{BuildHasherDefault, FoldHasher};
-
-/// Pairs, each of a number and what is said of it.
-type Pairs<X, A> = IndexMap<u32, X, BuildHasherDefault<FoldHasher>, A>;
-
-/// What is kept of each number, with pairs laid over it.
-#[derive(Drop)]
-struct Overlay<'a, X: Copy, A: Allocator + Copy + Drop> {
-    kept: &'a [X],
-    pairs: Pairs<X, A>,
-}
-
-/// Periods, over which writes are laid.
-impl<'a, A: Allocator + Copy + Drop> Schedule for Overlay<'a, Option<u32>, A> {
-    ghost period_at = { λ s. overlaid_item (by_block s.kept.now) s.pairs.entries };
-
-    ghost count = { λ s. length s.kept.now };
-
-    fn period(&self, b: u32) -> Option<u32> {
-        overlaid_item(self.kept, &self.pairs, b)
-    }
-}
-
-/// So many moved loads have room from the start.
-const FIRST_ROOM: usize = 8;
-
-/// Writes up to so many are looked through for a block. More are kept in a map, which takes memory.
-const FEW: usize = 8;
-
-/// Periods, over which a few writes are laid.
-#[derive(Clone, Copy)]
-struct Few<'a> {
-    kept: &'a [Option<u32>],
-    writes: &'a [(u32, Option<u32>)],
-}
-
-impl<'a> Schedule for Few<'a> {
-    ghost period_at = { λ s. overlaid_item (by_block s.kept.now) s.writes.now };
-
-    ghost count = { λ s. length s.kept.now };
-
-    fn period(&self, b: u32) -> Option<u32> {
-        match written_to(self.writes, b) {
-            Some(period) => period,
-            None => self.kept[b as usize],
-        }
-    }
-}
-
-/// Periods, over which one write is laid.
-#[derive(Clone, Copy)]
-struct One<'a> {
-    kept: &'a [Option<u32>],
-    block: u32,
-    period: Option<u32>,
-}
-
-impl<'a> Schedule for One<'a> {
-    ghost period_at = { λ s. overlaid_item (by_block s.kept.now) ((s.block, s.period) ∷ []) };
-
-    ghost count = { λ s. length s.kept.now };
-
-    fn period(&self, b: u32) -> Option<u32> {
-        if b == self.block {
-            self.period
-        } else {
-            self.kept[b as usize]
-        }
-    }
-}
-
-/// What the writes give a block, if one of them names it.
-fn written_to(writes: &[(u32, Option<u32>)], b: u32) -> Option<Option<u32>>
-    ensures { result ≡ lookup (nat_eq b) writes.now }
-{
-    for (block, period) in writes {
-        if *block == b {
-            return Some(*period);
-        }
-    }
-    None
-}
-
-/// Limits, over which those that are revised are laid, each by its cell.
-impl<'a, A: Allocator + Copy + Drop> Limits for Overlay<'a, Option<i64>, A> {
-    ghost limit_in = { λ limits. overlaid_item (cell_limit limits.kept.now) limits.pairs.entries };
-
-    ghost cells = { λ limits. length limits.kept.now };
-
-    fn limit(&self, cell: u32) -> Option<i64> {
-        overlaid_item(self.kept, &self.pairs, cell)
-    }
-}
-
-/// Loads, over which those that are moved are laid, each by its cell.
-#[derive(Drop)]
-struct Moved<'a, A: Allocator + Copy + Drop> {
-    kept: &'a [i128],
-    pairs: KeyedSet<u32, i128, A>,
-}
-
-impl<'a, A: Allocator + Copy + Drop> Loads for Moved<'a, A> {
-    ghost load_in = { λ loads. overlaid_item (cell_load loads.kept.now) loads.pairs };
-
-    ghost base = { λ loads. loads.kept.now };
-
-    ghost is_sound = { λ loads. (cell : ℕ) → IsNamed loads.pairs cell → cell < length loads.kept.now };
-
-    ghost can_refuse = { true };
-
-    fn add(&mut self, cell: u32, term: i128) -> Result<(), NoMemory> {
-        let load = plus(load_of(self.kept, &self.pairs, cell), term);
-        set_load(&mut self.pairs, cell, load)
-    }
-}
-
-/// The load of a cell: the one that it was moved to, else the one that is kept.
-fn load_of<A: Allocator + Copy + Drop>(
-    kept: &[i128],
-    moved: &KeyedSet<u32, i128, A>,
-    cell: u32,
-) -> i128
-    requires { cell < length kept.now }
-    ensures { result ≡ overlaid_item (cell_load kept.now) moved.now cell }
-{
-    match moved.get(cell) {
-        Some(load) => load,
-        None => kept[cell as usize],
-    }
-}
-
-/// Moves the load of a cell to this one.
-fn set_load<A: Allocator + Copy + Drop>(
-    moved: &mut KeyedSet<u32, i128, A>,
-    cell: u32,
-    load: i128,
-) -> Result<(), NoMemory>
-    ensures { OnOk result (SetsCell moved.old cell load moved.new) }
-{
-    moved.write(cell, load)
-}
-
-/// What the pairs say of a number, else what is kept of it.
-fn overlaid_item<X: Copy, A: Allocator + Copy + Drop>(kept: &[X], pairs: &Pairs<X, A>, k: u32) -> X
-    requires { k < length kept.now }
-    ensures { (absent : X) → result ≡ overlaid_item (λ n. slice_index_or kept.now n absent) pairs.now.entries k }
-{
-    match pairs.get(&k) {
-        Some(value) => *value,
-        None => kept[k as usize],
-    }
-}
 
 /// The first breach that the schedule would have after the writes and the revisions, where it has none before them. Looks at the written
 /// blocks, at their predecessors and successors, and at the loads that are moved or revised; takes the memory of the revisions, of these
@@ -242,39 +89,6 @@ fn first_out_after<A: Allocator + Copy + Drop>(
     Ok(first_out_near(pit, &after, writes))
 }
 
-/// The writes, by block.
-fn written<A: Allocator + Copy + Drop>(
-    alloc: A,
-    writes: &[(u32, Option<u32>)],
-) -> Result<Pairs<Option<u32>, A>, NoMemory>
-    requires { AllPairs (λ v w. v.0 ≢ w.0) writes.now }
-    ensures entries { IfOk result (λ map. map.entries ≡ writes.now) }
-    ensures refused { IfErr result (λ e. writes.now ≢ []) }
-{
-    let mut map = IndexMap::with_capacity(alloc, writes.len())?;
-    for (block, period) in writes {
-        map.insert(*block, *period)?;
-    }
-    Ok(map)
-}
-
-/// The revised limits, by cell.
-fn revised<A: Allocator + Copy + Drop>(
-    alloc: A,
-    pit: &Instance<A>,
-    revises: &[(u32, u32, Option<i64>)],
-) -> Result<Pairs<Option<i64>, A>, NoMemory>
-    requires { RevisionsFit pit.now.resources pit.now.periods (revisions_of revises.now) }
-    ensures entries { IfOk result (λ map. map.entries ≡ by_cell pit.now (revisions_of revises.now)) }
-    ensures refused { IfErr result (λ e. revises.now ≢ []) }
-{
-    let mut map = IndexMap::with_capacity(alloc, revises.len())?;
-    for (resource, period, limit) in revises {
-        map.insert(pit.cell(*resource, *period), *limit)?;
-    }
-    Ok(map)
-}
-
 /// The least pair of a block and its predecessor that is out of order and of which one is written.
 fn first_out_near<S: Schedule, A: Allocator + Copy + Drop>(
     pit: &Instance<A>,
@@ -341,79 +155,6 @@ fn lesser(one: Option<(u32, u32)>, other: Option<(u32, u32)>) -> Option<(u32, u3
             }
         }
     }
-}
-
-/// The loads as the writes leave them.
-fn moved_loads<'a, A: Allocator + Copy + Drop>(
-    alloc: A,
-    pit: &Instance<A>,
-    tally: &'a Tally<A>,
-    writes: &[(u32, Option<u32>)],
-) -> Result<Moved<'a, A>, NoMemory>
-    requires tally { IsTally pit.now tally.now }
-    requires fits { Fits pit.now.blocks pit.now.periods writes.now }
-    ensures { IfOk result (λ loads. AreMoved pit.now tally.now writes.now loads.kept.now loads.pairs) }
-{
-    let mut loads = Moved {
-        kept: &tally.loads,
-        pairs: KeyedSet::new(alloc, FIRST_ROOM)?,
-    };
-    for k in 0..writes.len() {
-        move_block(pit, tally, writes, k, &mut loads)?;
-    }
-    Ok(loads)
-}
-
-/// Moves the loads by one more write.
-fn move_block<'a, A: Allocator + Copy + Drop>(
-    pit: &Instance<A>,
-    tally: &Tally<A>,
-    writes: &[(u32, Option<u32>)],
-    k: usize,
-    loads: &mut Moved<'a, A>,
-) -> Result<(), NoMemory>
-    requires tally { IsTally pit.now tally.now }
-    requires fits { Fits pit.now.blocks pit.now.periods writes.now }
-    requires within { k < length writes.now }
-    requires moved { AreMoved pit.now tally.now (take k writes.now) loads.old.kept.now loads.old.pairs }
-    ensures { OnOk result (AreMoved pit.now tally.now (take (k + 1) writes.now) loads.new.kept.now loads.new.pairs) }
-{
-    let _blocks = pit.blocks();
-    let (block, period) = writes[k];
-    shift(pit, loads, block, tally.period(block), false)?;
-    shift(pit, loads, block, period, true)?;
-    Ok(())
-}
-
-/// Takes each revised cell among those that are moved, with the load that it has.
-fn look_at_revised<'a, A: Allocator + Copy + Drop>(
-    pit: &Instance<A>,
-    revises: &[(u32, u32, Option<i64>)],
-    loads: &mut Moved<'a, A>,
-) -> Result<(), NoMemory>
-    requires fits { RevisionsFit pit.now.resources pit.now.periods (revisions_of revises.now) }
-    requires each { length loads.old.kept.now ≡ pit.now.periods * pit.now.resources }
-    requires in_range { (cell : ℕ) → IsNamed loads.old.pairs cell → cell < length loads.old.kept.now }
-    ensures looks { OnOk result (LooksAt (by_cell pit.now (revisions_of revises.now)) loads.old.kept.now loads.old.pairs loads.new.kept.now loads.new.pairs) }
-    ensures refused { IfErr result (λ e. revises.now ≢ []) }
-{
-    for (resource, period, _) in revises {
-        look_at(loads, pit.cell(*resource, *period))?;
-    }
-    Ok(())
-}
-
-/// Takes a cell among those that are moved, with the load that it has.
-fn look_at<'a, A: Allocator + Copy + Drop>(
-    loads: &mut Moved<'a, A>,
-    cell: u32,
-) -> Result<(), NoMemory>
-    requires within { cell < length loads.old.kept.now }
-    ensures stays { OnOk result (loads.new.kept.now ≡ loads.old.kept.now) }
-    ensures sets { OnOk result (SetsCell loads.old.pairs cell (overlaid_item (cell_load loads.old.kept.now) loads.old.pairs cell) loads.new.pairs) }
-{
-    let load = load_of(loads.kept, &loads.pairs, cell);
-    set_load(&mut loads.pairs, cell, load)
 }
 
 /// The load of the least period, and in it of the least resource, that is above its limit, as a breach.

@@ -10,6 +10,8 @@ mod judging;
 mod laws;
 mod limits;
 mod loads;
+mod moving;
+mod overlay;
 mod plan;
 mod schedule;
 mod short;

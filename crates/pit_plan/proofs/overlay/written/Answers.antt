@@ -5,7 +5,7 @@ use Rattle.std.proofs.lemmas.List.{take_more}
 use Rattle.indexmap.proofs.CallerLemmas.{insert_entry-new}
 use Rattle.pit_plan.specs.Schedule.{Writes}
 use Rattle.pit_plan.proofs.Named.{absent-before}
-use Rattle.pit_plan.proofs.judging.written.Goals as goal
+use Rattle.pit_plan.proofs.overlay.written.Goals as goal
 
 pub loop-block-preserved : goal.loop-block-preserved
 loop-block-preserved g c =

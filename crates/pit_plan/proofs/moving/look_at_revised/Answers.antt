@@ -6,7 +6,7 @@ use Rattle.pit_plan.specs.Totals.{cell_load}
 use Rattle.pit_plan.specs.Touched.{LooksAt, SetsCell, overlaid_item}
 use Rattle.pit_plan.proofs.ByCell.{length-cells, cell-at, cell-known, cell-below}
 use Rattle.pit_plan.proofs.Touched.{looks-none, looks-more}
-use Rattle.pit_plan.proofs.judging.look_at_revised.Goals as goal
+use Rattle.pit_plan.proofs.moving.look_at_revised.Goals as goal
 
 pub loop-resource-init : goal.loop-resource-init
 loop-resource-init g c = looks-none c.args.loads.now.kept.now c.args.loads.now.pairs c.requires.in_range

@@ -2,7 +2,7 @@ use Rattle.std.proofs.Common.{take}
 use Rattle.pit_num.specs.Fitting.{revisions_of}
 use Rattle.pit_plan.specs.Limits.{by_cell}
 use Rattle.pit_plan.specs.Touched.{LooksAt}
-use Rattle.pit_plan.proofs.judging.look_at_revised.Given as goal
+use Rattle.pit_plan.proofs.moving.look_at_revised.Given as goal
 
 abbrev pub invariant-loop-resource : goal.invariant-loop-resource
 invariant-loop-resource g l =

@@ -1,7 +1,7 @@
 use Rattle.std.proofs.Common.{◌≡◌, take}
 use Rattle.pit_num.specs.Fitting.{revisions_of}
 use Rattle.pit_plan.specs.Limits.{by_cell}
-use Rattle.pit_plan.proofs.judging.revised.Given as goal
+use Rattle.pit_plan.proofs.overlay.revised.Given as goal
 
 abbrev pub invariant-loop-resource : goal.invariant-loop-resource
 invariant-loop-resource g l = l.map.entries ≡ take l.resource-index (by_cell l.pit (revisions_of l.revises))

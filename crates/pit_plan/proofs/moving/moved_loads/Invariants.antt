@@ -1,6 +1,6 @@
 use Rattle.std.proofs.Common.{take}
 use Rattle.pit_plan.specs.Touched.{AreMoved}
-use Rattle.pit_plan.proofs.judging.moved_loads.Given as goal
+use Rattle.pit_plan.proofs.moving.moved_loads.Given as goal
 
 abbrev pub invariant-loop-k : goal.invariant-loop-k
 invariant-loop-k g l = AreMoved l.pit l.tally (take l.k l.writes) l.loads.kept.now l.loads.pairs

@@ -9,7 +9,7 @@ use Rattle.pit_model.specs.Pit.{cell_of}
 use Rattle.pit_plan.specs.Limits.{by_cell}
 use Rattle.pit_plan.proofs.Named.{absent-before}
 use Rattle.pit_plan.proofs.ByCell.{once-cells, length-cells, cell-at, cell-known}
-use Rattle.pit_plan.proofs.judging.revised.Goals as goal
+use Rattle.pit_plan.proofs.overlay.revised.Goals as goal
 
 pub loop-resource-preserved : goal.loop-resource-preserved
 loop-resource-preserved g c =

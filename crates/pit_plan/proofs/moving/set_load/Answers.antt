@@ -6,7 +6,7 @@ use Rattle.std.proofs.lemmas.Result.{on_ok_weaker}
 use Rattle.indexmap.specs.IndexMap.{insert_entry}
 use Rattle.pit_plan.specs.Touched.{SetsCell}
 use Rattle.pit_plan.proofs.Touched.{sets-written}
-use Rattle.pit_plan.proofs.judging.set_load.Goals as goal
+use Rattle.pit_plan.proofs.moving.set_load.Goals as goal
 
 pub returns : goal.returns
 returns g c =

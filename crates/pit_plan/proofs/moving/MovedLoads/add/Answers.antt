@@ -5,7 +5,7 @@ use Rattle.std.proofs.lemmas.Result.{on_ok_weaker}
 use Rattle.pit_plan.specs.Totals.{cell_load}
 use Rattle.pit_plan.specs.Touched.{overlaid_item, SetsCell}
 use Rattle.pit_plan.proofs.Touched.{raises-cell, named-set}
-use Rattle.pit_plan.proofs.judging.MovedLoads.add.Goals as goal
+use Rattle.pit_plan.proofs.moving.MovedLoads.add.Goals as goal
 
 pub returns-clause-sound : goal.returns-clause-sound
 returns-clause-sound g c =

@@ -1,7 +1,7 @@
 use Rattle.std.proofs.Common.{◌≡◌, drop}
 use Rattle.std.specs.Prelude.{nat_eq}
 use Rattle.std.specs.Map.{lookup}
-use Rattle.pit_plan.proofs.judging.written_to.Given as goal
+use Rattle.pit_plan.proofs.overlay.written_to.Given as goal
 
 abbrev pub invariant-loop-block : goal.invariant-loop-block
 invariant-loop-block l = lookup (nat_eq l.b) (drop l.block-index l.writes) ≡ lookup (nat_eq l.b) l.writes

@@ -4,7 +4,7 @@ use Rattle.pit_plan.specs.Totals.{cell_load, at_cell, with_period}
 use Rattle.pit_plan.specs.Touched.{overlaid_item}
 use Rattle.pit_plan.proofs.Moved.{shifted, room-for, with_period-here, period-in_range}
 use Rattle.pit_plan.proofs.Touched.{overlaid_item-next, loads-next}
-use Rattle.pit_plan.proofs.judging.move_block.Goals as goal
+use Rattle.pit_plan.proofs.moving.move_block.Goals as goal
 
 -- the loads of a value
 abbrev of-loads : List ℤ → List (ℕ × ℤ) → ℕ → ℤ

@@ -1,0 +1,138 @@
+//! Loads as writes leave them.
+ghost use Rattle.std.specs.Prelude.{◌≡◌, ◌≢◌, ℕ, ◌+◌, ◌*◌, ◌<◌, true, None, [], length, take, IfOk, IfErr, OnOk};
+ghost use Rattle.pit_num.specs.Fitting.{Fits, RevisionsFit, revisions_of};
+ghost use Rattle.pit_plan.specs.Totals.{cell_load, IsTally};
+ghost use Rattle.pit_plan.specs.Limits.{by_cell};
+ghost use Rattle.pit_plan.specs.Touched.{overlaid_item, IsNamed, AreMoved, SetsCell, LooksAt};
+
+use crate::loads::{Loads, plus, shift};
+use crate::schedule::Schedule;
+use crate::tally::Tally;
+use pit_keyed::KeyedSet;
+use pit_model::Instance;
+use pit_num::NoMemory;
+use std::alloc::Allocator;
+
+/// So many moved loads have room from the start.
+const FIRST_ROOM: usize = 8;
+
+/// Loads, over which those that are moved are laid, each by its cell.
+#[derive(Drop)]
+pub(crate) struct Moved<'a, A: Allocator + Copy + Drop> {
+    pub(crate) kept: &'a [i128],
+    pub(crate) pairs: KeyedSet<u32, i128, A>,
+}
+
+impl<'a, A: Allocator + Copy + Drop> Loads for Moved<'a, A> {
+    ghost load_in = { λ loads. overlaid_item (cell_load loads.kept.now) loads.pairs };
+
+    ghost base = { λ loads. loads.kept.now };
+
+    ghost is_sound = { λ loads. (cell : ℕ) → IsNamed loads.pairs cell → cell < length loads.kept.now };
+
+    ghost can_refuse = { true };
+
+    fn add(&mut self, cell: u32, term: i128) -> Result<(), NoMemory> {
+        let load = plus(load_of(self.kept, &self.pairs, cell), term);
+        set_load(&mut self.pairs, cell, load)
+    }
+}
+
+/// The load of a cell: the one that it was moved to, else the one that is kept.
+fn load_of<A: Allocator + Copy + Drop>(
+    kept: &[i128],
+    moved: &KeyedSet<u32, i128, A>,
+    cell: u32,
+) -> i128
+    requires { cell < length kept.now }
+    ensures { result ≡ overlaid_item (cell_load kept.now) moved.now cell }
+{
+    match moved.get(cell) {
+        Some(load) => load,
+        None => kept[cell as usize],
+    }
+}
+
+/// Moves the load of a cell to this one.
+fn set_load<A: Allocator + Copy + Drop>(
+    moved: &mut KeyedSet<u32, i128, A>,
+    cell: u32,
+    load: i128,
+) -> Result<(), NoMemory>
+    ensures { OnOk result (SetsCell moved.old cell load moved.new) }
+{
+    moved.write(cell, load)
+}
+
+/// The loads as the writes leave them.
+pub(crate) fn moved_loads<'a, A: Allocator + Copy + Drop>(
+    alloc: A,
+    pit: &Instance<A>,
+    tally: &'a Tally<A>,
+    writes: &[(u32, Option<u32>)],
+) -> Result<Moved<'a, A>, NoMemory>
+    requires tally { IsTally pit.now tally.now }
+    requires fits { Fits pit.now.blocks pit.now.periods writes.now }
+    ensures { IfOk result (λ loads. AreMoved pit.now tally.now writes.now loads.kept.now loads.pairs) }
+{
+    let mut loads = Moved {
+        kept: &tally.loads,
+        pairs: KeyedSet::new(alloc, FIRST_ROOM)?,
+    };
+    for k in 0..writes.len() {
+        move_block(pit, tally, writes, k, &mut loads)?;
+    }
+    Ok(loads)
+}
+
+/// Moves the loads by one more write.
+fn move_block<'a, A: Allocator + Copy + Drop>(
+    pit: &Instance<A>,
+    tally: &Tally<A>,
+    writes: &[(u32, Option<u32>)],
+    k: usize,
+    loads: &mut Moved<'a, A>,
+) -> Result<(), NoMemory>
+    requires tally { IsTally pit.now tally.now }
+    requires fits { Fits pit.now.blocks pit.now.periods writes.now }
+    requires within { k < length writes.now }
+    requires moved { AreMoved pit.now tally.now (take k writes.now) loads.old.kept.now loads.old.pairs }
+    ensures { OnOk result (AreMoved pit.now tally.now (take (k + 1) writes.now) loads.new.kept.now loads.new.pairs) }
+{
+    let _blocks = pit.blocks();
+    let (block, period) = writes[k];
+    shift(pit, loads, block, tally.period(block), false)?;
+    shift(pit, loads, block, period, true)?;
+    Ok(())
+}
+
+/// Takes each revised cell among those that are moved, with the load that it has.
+pub(crate) fn look_at_revised<'a, A: Allocator + Copy + Drop>(
+    pit: &Instance<A>,
+    revises: &[(u32, u32, Option<i64>)],
+    loads: &mut Moved<'a, A>,
+) -> Result<(), NoMemory>
+    requires fits { RevisionsFit pit.now.resources pit.now.periods (revisions_of revises.now) }
+    requires each { length loads.old.kept.now ≡ pit.now.periods * pit.now.resources }
+    requires in_range { (cell : ℕ) → IsNamed loads.old.pairs cell → cell < length loads.old.kept.now }
+    ensures looks { OnOk result (LooksAt (by_cell pit.now (revisions_of revises.now)) loads.old.kept.now loads.old.pairs loads.new.kept.now loads.new.pairs) }
+    ensures refused { IfErr result (λ e. revises.now ≢ []) }
+{
+    for (resource, period, _) in revises {
+        look_at(loads, pit.cell(*resource, *period))?;
+    }
+    Ok(())
+}
+
+/// Takes a cell among those that are moved, with the load that it has.
+fn look_at<'a, A: Allocator + Copy + Drop>(
+    loads: &mut Moved<'a, A>,
+    cell: u32,
+) -> Result<(), NoMemory>
+    requires within { cell < length loads.old.kept.now }
+    ensures stays { OnOk result (loads.new.kept.now ≡ loads.old.kept.now) }
+    ensures sets { OnOk result (SetsCell loads.old.pairs cell (overlaid_item (cell_load loads.old.kept.now) loads.old.pairs cell) loads.new.pairs) }
+{
+    let load = load_of(loads.kept, &loads.pairs, cell);
+    set_load(&mut loads.pairs, cell, load)
+}

@@ -1,0 +1,148 @@
+//! Periods and limits, over which writes and revisions are laid.
+ghost use Rattle.std.specs.Prelude.{◌≡◌, ◌≢◌, ◌+◌, ◌*◌, ◌<◌, None, [], ◌∷◌, length, nat_eq, slice_index_or, IfOk, IfErr, AllPairs};
+ghost use Rattle.std.specs.Map.{lookup};
+ghost use Rattle.pit_num.specs.Fitting.{RevisionsFit, revisions_of};
+ghost use Rattle.pit_plan.specs.Schedule.{by_block};
+ghost use Rattle.pit_plan.specs.Limits.{cell_limit, by_cell};
+ghost use Rattle.pit_plan.specs.Touched.{overlaid_item};
+
+use crate::limits::Limits;
+use crate::schedule::Schedule;
+use indexmap::IndexMap;
+use pit_model::Instance;
+use pit_num::NoMemory;
+use std::alloc::Allocator;
+use std::hash::{BuildHasherDefault, FoldHasher};
+
+/// Pairs, each of a number and what is said of it.
+type Pairs<X, A> = IndexMap<u32, X, BuildHasherDefault<FoldHasher>, A>;
+
+/// What is kept of each number, with pairs laid over it.
+#[derive(Drop)]
+pub(crate) struct Overlay<'a, X: Copy, A: Allocator + Copy + Drop> {
+    pub(crate) kept: &'a [X],
+    pub(crate) pairs: Pairs<X, A>,
+}
+
+/// Periods, over which writes are laid.
+impl<'a, A: Allocator + Copy + Drop> Schedule for Overlay<'a, Option<u32>, A> {
+    ghost period_at = { λ s. overlaid_item (by_block s.kept.now) s.pairs.entries };
+
+    ghost count = { λ s. length s.kept.now };
+
+    fn period(&self, b: u32) -> Option<u32> {
+        overlaid_item(self.kept, &self.pairs, b)
+    }
+}
+
+/// What the pairs say of a number, else what is kept of it.
+fn overlaid_item<X: Copy, A: Allocator + Copy + Drop>(kept: &[X], pairs: &Pairs<X, A>, k: u32) -> X
+    requires { k < length kept.now }
+    ensures { (absent : X) → result ≡ overlaid_item (λ n. slice_index_or kept.now n absent) pairs.now.entries k }
+{
+    match pairs.get(&k) {
+        Some(value) => *value,
+        None => kept[k as usize],
+    }
+}
+
+/// Writes up to so many are looked through for a block. More are kept in a map, which takes memory.
+pub(crate) const FEW: usize = 8;
+
+/// Periods, over which a few writes are laid.
+#[derive(Clone, Copy)]
+pub(crate) struct Few<'a> {
+    pub(crate) kept: &'a [Option<u32>],
+    pub(crate) writes: &'a [(u32, Option<u32>)],
+}
+
+impl<'a> Schedule for Few<'a> {
+    ghost period_at = { λ s. overlaid_item (by_block s.kept.now) s.writes.now };
+
+    ghost count = { λ s. length s.kept.now };
+
+    fn period(&self, b: u32) -> Option<u32> {
+        match written_to(self.writes, b) {
+            Some(period) => period,
+            None => self.kept[b as usize],
+        }
+    }
+}
+
+/// Periods, over which one write is laid.
+#[derive(Clone, Copy)]
+pub(crate) struct One<'a> {
+    pub(crate) kept: &'a [Option<u32>],
+    pub(crate) block: u32,
+    pub(crate) period: Option<u32>,
+}
+
+impl<'a> Schedule for One<'a> {
+    ghost period_at = { λ s. overlaid_item (by_block s.kept.now) ((s.block, s.period) ∷ []) };
+
+    ghost count = { λ s. length s.kept.now };
+
+    fn period(&self, b: u32) -> Option<u32> {
+        if b == self.block {
+            self.period
+        } else {
+            self.kept[b as usize]
+        }
+    }
+}
+
+/// What the writes give a block, if one of them names it.
+fn written_to(writes: &[(u32, Option<u32>)], b: u32) -> Option<Option<u32>>
+    ensures { result ≡ lookup (nat_eq b) writes.now }
+{
+    for (block, period) in writes {
+        if *block == b {
+            return Some(*period);
+        }
+    }
+    None
+}
+
+/// Limits, over which those that are revised are laid, each by its cell.
+impl<'a, A: Allocator + Copy + Drop> Limits for Overlay<'a, Option<i64>, A> {
+    ghost limit_in = { λ limits. overlaid_item (cell_limit limits.kept.now) limits.pairs.entries };
+
+    ghost cells = { λ limits. length limits.kept.now };
+
+    fn limit(&self, cell: u32) -> Option<i64> {
+        overlaid_item(self.kept, &self.pairs, cell)
+    }
+}
+
+/// The writes, by block.
+pub(crate) fn written<A: Allocator + Copy + Drop>(
+    alloc: A,
+    writes: &[(u32, Option<u32>)],
+) -> Result<Pairs<Option<u32>, A>, NoMemory>
+    requires { AllPairs (λ v w. v.0 ≢ w.0) writes.now }
+    ensures entries { IfOk result (λ map. map.entries ≡ writes.now) }
+    ensures refused { IfErr result (λ e. writes.now ≢ []) }
+{
+    let mut map = IndexMap::with_capacity(alloc, writes.len())?;
+    for (block, period) in writes {
+        map.insert(*block, *period)?;
+    }
+    Ok(map)
+}
+
+/// The revised limits, by cell.
+pub(crate) fn revised<A: Allocator + Copy + Drop>(
+    alloc: A,
+    pit: &Instance<A>,
+    revises: &[(u32, u32, Option<i64>)],
+) -> Result<Pairs<Option<i64>, A>, NoMemory>
+    requires { RevisionsFit pit.now.resources pit.now.periods (revisions_of revises.now) }
+    ensures entries { IfOk result (λ map. map.entries ≡ by_cell pit.now (revisions_of revises.now)) }
+    ensures refused { IfErr result (λ e. revises.now ≢ []) }
+{
+    let mut map = IndexMap::with_capacity(alloc, revises.len())?;
+    for (resource, period, limit) in revises {
+        map.insert(pit.cell(*resource, *period), *limit)?;
+    }
+    Ok(map)
+}
