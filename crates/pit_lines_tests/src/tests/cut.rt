@@ -2,8 +2,8 @@
 use super::rows::{REVISING, history_of};
 use super::worked::REVISING_TEXT;
 use super::{are_same, fault, read};
-use LinesCause::{NotFormat, NotJson};
-use pit_lines::{LinesCause, LinesError};
+use pit_lines::LinesCause::{NotFormat, NotJson};
+use pit_lines::LinesError;
 use std::alloc::Global;
 use std::process::Abort;
 
