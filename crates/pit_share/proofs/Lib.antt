@@ -7,3 +7,4 @@ pub mod Joins
 pub mod Stands
 pub mod Entries
 pub mod Firsts
+pub mod Places

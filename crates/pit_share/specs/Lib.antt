@@ -8,3 +8,4 @@ pub mod Closing
 pub mod Opening
 pub mod Floors
 pub mod Accounts
+pub mod Places
