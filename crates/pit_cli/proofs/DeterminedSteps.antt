@@ -42,7 +42,7 @@ same_bytes (Some xs) None bytes other told end p q = absurd p
 same_bytes (Some xs) (Some ys) bytes other told end p q =
     sym (append-nil bytes) ∙ ap (λ (zs : List ℕ). bytes ++ zs) (sym end) ∙ sym p ∙ q ∙ ap (λ (zs : List ℕ). other ++ zs) end ∙ append-nil other
 
-whole_once : (source : Reading) (bytes other : List ℕ) → IsSome source.before → IsWhole source bytes → IsWhole source other → bytes ≡ other
+pub whole_once : (source : Reading) (bytes other : List ℕ) → IsSome source.before → IsWhole source bytes → IsWhole source other → bytes ≡ other
 whole_once source bytes other told p q = same_bytes source.before source.after bytes other told p.end p.taken q.taken
 
 not_too_long : (source : Reading) (bytes : List ℕ) → IsSome source.before → IsWhole source bytes → IsTooLong source → ⊥
@@ -69,14 +69,14 @@ text_fault file IsBad IsStop (CannotRead f) some p = absurd p
 text_fault file IsBad IsStop CannotWrite some p = absurd p
 
 -- what was read whole has no fault of reading
-unread : (source : Reading) (file : Input) (bytes : List ℕ) (fault : CliFault) → IsSome source.before → fault ≢ NoMemory → IsWhole source bytes → IsInputFault source file fault → ⊥
+pub unread : (source : Reading) (file : Input) (bytes : List ℕ) (fault : CliFault) → IsSome source.before → fault ≢ NoMemory → IsWhole source bytes → IsInputFault source file fault → ⊥
 unread source file bytes fault told some whole p =
     elim (reading_fault source file fault some p) [
       | inl failed ↦ true≢false (sym failed.1 ∙ whole.sound)
       | inr long ↦ not_too_long source bytes told whole long.1
     ]
 
-one_reading_fault : (source : Reading) (file : Input) (fault other : CliFault) → fault ≢ NoMemory → other ≢ NoMemory → IsInputFault source file fault → IsInputFault source file other → fault ≡ other
+pub one_reading_fault : (source : Reading) (file : Input) (fault other : CliFault) → fault ≢ NoMemory → other ≢ NoMemory → IsInputFault source file fault → IsInputFault source file other → fault ≡ other
 one_reading_fault source file fault other some also p q =
     elim (reading_fault source file fault some p) [
       | inl failed ↦
@@ -111,7 +111,7 @@ module _ {A B : Type 0} (file : Input) (source : Reading) (Stands : A → List �
       let same : IsBad given q.0 bad.0 = subst (λ (bytes : List ℕ). IsBad given bytes bad.0) (whole_once source p.0 q.0 told p.1 q.1) bad.2 in
       bad.1 ∙ ap (λ (error : TextError). Text file error) ((one q.0).errors bad.0 also_bad.0 same also_bad.2) ∙ sym also_bad.1
 
-  pub input-determined : IsSome source.before → ((bytes : List ℕ) → IsOneText (Stands given bytes) (IsBad given bytes)) → IsDetermined (input_step file source Stands IsBad IsStop) given
+  pub input-determined : IsSome source.before → ((bytes : List ℕ) → IsOneText (Stands given bytes) (IsBad given bytes)) → IsDetermined NoMemory (input_step file source Stands IsBad IsStop) given
   input-determined told one = record {
     values = λ value other p q.
         (one q.0).values value other (subst (λ (bytes : List ℕ). Stands given bytes value) (whole_once source p.0 q.0 told p.1 q.1) p.2) q.2;
@@ -130,7 +130,7 @@ grown (Some xs) (Some ys) text told some p q =
     omega arith
 
 module _ {A B : Type 0} (out : Writing) (text_of : A → List ℕ) (value_of : A → B) (given : A) where
-  pub write-determined : IsDetermined (write_step out text_of value_of) given
+  pub write-determined : IsDetermined NoMemory (write_step out text_of value_of) given
   write-determined = record {
     values = λ value other p q. p.0 ∙ sym q.0;
     apart = λ value fault some p q. true≢false (sym q.2 ∙ p.2);

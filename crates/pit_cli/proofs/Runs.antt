@@ -14,6 +14,7 @@ use Rattle.pit_text.specs.Precedence.{precedence_line, pit_with_preds}
 use Rattle.pit_text.specs.Solution.{solution_line, period_in, schedule_of}
 use Rattle.pit_text.proofs.CallerLemmas.{one_result, one_whole_result}
 use Rattle.pit_cli.specs.declared.input.Input.TheVariants.{Model, Precedence, Solution}
+use Rattle.pit_cli.specs.declared.fault.CliFault.TheVariants.{NoMemory}
 use Rattle.pit_cli.specs.declared.status.Status.{Status}
 use Rattle.pit_cli.specs.declared.status.Status.TheVariants.{Fine}
 use Rattle.pit_cli.specs.CheckText.{value_text, check_text, check_status}
@@ -32,7 +33,7 @@ model_text bytes =
     one_text (StandsWhole model_line model_end (cut_of bytes)) (FailsWhole model_line model_end (cut_of bytes) (end_line bytes)) pit_of
     (one_whole_result model_line model_end (cut_of bytes) (end_line bytes))
 
-model-determined : (model : Reading) → IsSome model.before → IsDetermined (model_step model) tt
+model-determined : (model : Reading) → IsSome model.before → IsDetermined NoMemory (model_step model) tt
 model-determined model told = input-determined Model model (λ _. IsModel) (λ _. IsBadModel) (λ _. IsModelStop) tt told model_text
 
 order_text : (given : Pit) (bytes : List ℕ) → IsOneText (IsOrder given bytes) (IsBadOrder given bytes)
@@ -40,7 +41,7 @@ order_text given bytes =
     one_text (StandsFor (precedence_line given) (cut_of bytes)) (FailsFirst (precedence_line given) (cut_of bytes)) (pit_with_preds given)
     (one_result (precedence_line given) (cut_of bytes))
 
-order-determined : (precedence : Reading) (given : Pit) → IsSome precedence.before → IsDetermined (order_step precedence) given
+order-determined : (precedence : Reading) (given : Pit) → IsSome precedence.before → IsDetermined NoMemory (order_step precedence) given
 order-determined precedence given told = input-determined Precedence precedence IsOrder IsBadOrder IsOrderStop given told (order_text given)
 
 solution_text : (pit : Pit) (bytes : List ℕ) → IsOneText (IsSolutionOf pit bytes) (IsBadSolution pit bytes)
@@ -59,7 +60,7 @@ valued_text pit bytes =
       errors = one.errors;
     }
 
-value-determined : (solution : Reading) (pit : Pit) → IsSome solution.before → IsDetermined (value_step solution) pit
+value-determined : (solution : Reading) (pit : Pit) → IsSome solution.before → IsDetermined NoMemory (value_step solution) pit
 value-determined solution pit told = input-determined Solution solution IsValued IsBadSolution IsSolutionStop pit told (valued_text pit)
 
 -- a value's text has its line feed at least
@@ -69,9 +70,9 @@ value_some z = omega (arith, length-append (fixed_text 18 z) (10 ∷ []))
 same_length : (xs ys : List ℕ) → xs ≡ ys → 0 < length ys → 0 < length xs
 same_length xs ys same some = let long : length xs ≡ length ys = ap length same in omega arith
 
-pub value_outcome : (model solution : Reading) (out : Writing) → IsSome model.before → IsSome solution.before → IsSome out.before → HasOneOutcome (value_run model solution out)
+pub value_outcome : (model solution : Reading) (out : Writing) → IsSome model.before → IsSome solution.before → IsSome out.before → HasOneOutcome NoMemory (value_run model solution out)
 value_outcome model solution out told_model told_solution told_out =
-    shown_run (model_step model) (value_step solution) (fine_step out) (model-determined model told_model) (λ pit. value-determined solution pit told_solution)
+    shown_run NoMemory (model_step model) (value_step solution) (fine_step out) (model-determined model told_model) (λ pit. value-determined solution pit told_solution)
     (λ text. write-determined out (λ (given : List ℕ). given) (λ given. Fine) text)
     (λ pit text p. write-shown out (λ (given : List ℕ). given) (λ given. Fine) text told_out (same_length text (value_text (value_of pit (held_period (commit_of_schedule p.2.schedule ∷ [])))) p.2.says (value_some (value_of pit (held_period (commit_of_schedule p.2.schedule ∷ []))))))
     (λ text. write-never_both out (λ (given : List ℕ). given) (λ given. Fine) text)
@@ -99,21 +100,21 @@ checked_text pit bytes =
       errors = one.errors;
     }
 
-check-determined : (solution : Reading) (pit : Pit) → IsSome solution.before → IsDetermined (check_step solution) pit
+check-determined : (solution : Reading) (pit : Pit) → IsSome solution.before → IsDetermined NoMemory (check_step solution) pit
 check-determined solution pit told = input-determined Solution solution IsChecked IsBadSolution IsSolutionStop pit told (checked_text pit)
 
-ordered_pit-determined : (model precedence : Reading) → IsSome model.before → IsSome precedence.before → IsDetermined (ordered_pit_step model precedence) tt
+pub ordered_pit-determined : (model precedence : Reading) → IsSome model.before → IsSome precedence.before → IsDetermined NoMemory (ordered_pit_step model precedence) tt
 ordered_pit-determined model precedence told also =
-    in_turn-determined (model_step model) (order_step precedence) tt (model-determined model told) (λ given. order-determined precedence given also)
+    in_turn-determined NoMemory (model_step model) (order_step precedence) tt (model-determined model told) (λ given. order-determined precedence given also)
 
 -- a check's text has the word `value` at least
 check_some : (value : ℤ) (breach : Option Breach) (shorts : List Short) → 0 < length (check_text value breach shorts)
 check_some value breach shorts = omega arith
 
 pub check_outcome : (model precedence solution : Reading) (out : Writing) → IsSome model.before → IsSome precedence.before → IsSome solution.before → IsSome out.before
-    → HasOneOutcome (check_run model precedence solution out)
+    → HasOneOutcome NoMemory (check_run model precedence solution out)
 check_outcome model precedence solution out told_model told_precedence told_solution told_out =
-    shown_run (ordered_pit_step model precedence) (check_step solution) (answer_step out) (ordered_pit-determined model precedence told_model told_precedence)
+    shown_run NoMemory (ordered_pit_step model precedence) (check_step solution) (answer_step out) (ordered_pit-determined model precedence told_model told_precedence)
     (λ pit. check-determined solution pit told_solution)
     (λ answer. write-determined out (λ (given : List ℕ × Status). given.0) (λ given. given.1) answer)
     (λ pit answer p. write-shown out (λ (given : List ℕ × Status). given.0) (λ given. given.1) answer told_out

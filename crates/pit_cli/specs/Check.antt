@@ -5,6 +5,7 @@ use Rattle.pit_plan.specs.Schedule.{Commit, commit_of_schedule, held_period, val
 use Rattle.pit_plan.specs.Breaches.{IsBreachOf}
 use Rattle.pit_plan.specs.Shortfalls.{shortfalls_of}
 use Rattle.pit_plan.specs.declared.breach.Breach.{Breach}
+use Rattle.pit_cli.specs.declared.fault.CliFault.{CliFault}
 use Rattle.pit_cli.specs.declared.input.Input.TheVariants.{Solution}
 use Rattle.pit_cli.specs.declared.status.Status.{Status}
 use Rattle.pit_cli.specs.CheckText.{check_text, check_status}
@@ -26,16 +27,16 @@ pub record IsChecked (pit : Pit) (bytes : List ℕ) (answer : List ℕ × Status
   pub checks : Checks pit (commit_of_schedule schedule ∷ []) answer.0 answer.1
 
 -- the model, and then the precedences
-abbrev pub ordered_pit_step : Reading → Reading → Step (Unit {0}) Pit
+abbrev pub ordered_pit_step : Reading → Reading → Step CliFault (Unit {0}) Pit
 ordered_pit_step model precedence = in_turn (model_step model) (order_step precedence)
 
-abbrev pub check_step : Reading → Step Pit (List ℕ × Status)
+abbrev pub check_step : Reading → Step CliFault Pit (List ℕ × Status)
 check_step solution = input_step Solution solution IsChecked IsBadSolution IsSolutionStop
 
 -- a text is written, and the status is the one beside it
-abbrev pub answer_step : Writing → Step (List ℕ × Status) Status
+abbrev pub answer_step : Writing → Step CliFault (List ℕ × Status) Status
 answer_step out = write_step out (λ answer. answer.0) (λ answer. answer.1)
 
 -- the model, the precedences, the solution, and then what was found is written
-abbrev pub check_run : Reading → Reading → Reading → Writing → Step (Unit {0}) Status
+abbrev pub check_run : Reading → Reading → Reading → Writing → Step CliFault (Unit {0}) Status
 check_run model precedence solution out = in_turn (ordered_pit_step model precedence) (in_turn (check_step solution) (answer_step out))

@@ -60,7 +60,7 @@ IsTextFault file IsBad IsStop (CannotRead f) = ⊥
 IsTextFault file IsBad IsStop CannotWrite = ⊥
 
 -- an input is read whole, and its text stands for a value; or it can't be read, or its text is bad, or memory is wanted for what it says
-abbrev pub input_step : {A B : Type 0} → Input → Reading → (A → List ℕ → B → Type 0) → (A → List ℕ → TextError → Type 0) → (A → List ℕ → Type 0) → Step A B
+abbrev pub input_step : {A B : Type 0} → Input → Reading → (A → List ℕ → B → Type 0) → (A → List ℕ → TextError → Type 0) → (A → List ℕ → Type 0) → Step CliFault A B
 input_step file source Stands IsBad IsStop = record {
   Gives = λ given value. (bytes : List ℕ) × IsWhole source bytes × Stands given bytes value;
   Fails = λ given fault.
@@ -71,7 +71,7 @@ input_step file source Stands IsBad IsStop = record {
 -- ---- an output
 
 -- the text of what is given is written, or a front of it before the device fails
-abbrev pub write_step : {A B : Type 0} → Writing → (A → List ℕ) → (A → B) → Step A B
+abbrev pub write_step : {A B : Type 0} → Writing → (A → List ℕ) → (A → B) → Step CliFault A B
 write_step out text_of value_of = record {
   Gives = λ given value. (value ≡ value_of given) × Appends out.before out.after (text_of given) × (out.failed ≡ false);
   Fails = λ given fault. (fault ≡ CannotWrite) × AppendsFront out.before out.after (text_of given) × (out.failed ≡ true);

@@ -10,7 +10,8 @@ use Rattle.pit_text.specs.Blocks.{block_line, pit_with_places}
 use Rattle.pit_num.specs.Fitting.{IsSchedule}
 use Rattle.pit_text.specs.Solution.{solution_line, period_in, schedule_of, SolutionStops}
 use Rattle.pit_cli.specs.declared.input.Input.{Input}
-use Rattle.pit_cli.specs.declared.input.Input.TheVariants.{Model, Precedence, Blocks, Start, Solution, Script}
+use Rattle.pit_cli.specs.declared.input.Input.TheVariants.{Model, Precedence, Blocks, Start, Solution, Script, History}
+use Rattle.pit_cli.specs.declared.fault.CliFault.{CliFault}
 use Rattle.pit_cli.specs.Steps.{Step}
 use Rattle.pit_cli.specs.Devices.{Reading, input_step}
 
@@ -21,6 +22,7 @@ input_name Blocks = codes "blocks"
 input_name Start = codes "start"
 input_name Solution = codes "solution"
 input_name (Script number) = codes "script " ++ decimal number
+input_name History = codes "history"
 
 -- a text stands for facts, and these say a value
 pub record StandsAs {F B : Type 0} (Stands : List F → Type 0) (value_of : List F → B) (value : B) : Type 0 where
@@ -82,11 +84,11 @@ IsScheduleOf pit schedule = IsSchedule pit.blocks pit.periods schedule
 
 -- ---- the steps
 
-abbrev pub model_step : Reading → Step (Unit {0}) Pit
+abbrev pub model_step : Reading → Step CliFault (Unit {0}) Pit
 model_step model = input_step Model model (λ _. IsModel) (λ _. IsBadModel) (λ _. IsModelStop)
 
-abbrev pub order_step : Reading → Step Pit Pit
+abbrev pub order_step : Reading → Step CliFault Pit Pit
 order_step precedence = input_step Precedence precedence IsOrder IsBadOrder IsOrderStop
 
-abbrev pub schedule_step : Reading → Step Pit (List (ℕ × ℕ))
+abbrev pub schedule_step : Reading → Step CliFault Pit (List (ℕ × ℕ))
 schedule_step solution = input_step Solution solution IsSolutionOf IsBadSolution IsSolutionStop

@@ -11,7 +11,7 @@ use super::status::Status;
 use pit_num::{Sink, write_text};
 
 /// Writes a text that was gathered, and answers the status that goes with it.
-fn write_answer<W: Sink>(out: &mut W, text: &[u8], status: Status) -> Result<Status, CliFault>
+pub fn write_answer<W: Sink>(out: &mut W, text: &[u8], status: Status) -> Result<Status, CliFault>
     requires { 0 < length text.now }
     ensures { let written = writing_of (W.contents out.old) (W.contents out.new) (W.has_failed out.new) in
         IsResultOf (write_step written (λ (given : Unit {0}). text.now) (λ given. status)) tt result }

@@ -10,6 +10,7 @@ pub enum Input {
     Solution,
     /// By its number, counted from 1.
     Script(u64),
+    History,
 }
 
 impl fmt::Display for Input {
@@ -26,6 +27,7 @@ impl fmt::Display for Input {
             Input::Start => write!(f, "start"),
             Input::Solution => write!(f, "solution"),
             Input::Script(number) => write!(f, "script {number}"),
+            Input::History => write!(f, "history"),
         }
     }
 }
