@@ -7,7 +7,7 @@ use Rattle.std.specs.Str.Parse.{ParsesUnsigned}
 use Rattle.clap.specs.declared.parser.matches.ArgMatches.{ArgMatches}
 use Rattle.pit_job.specs.declared.planner_run.TheConstants.{RETRIES_MAX}
 use Rattle.pit_cli.specs.declared.input.Input.{Input}
-use Rattle.pit_cli.specs.declared.input.Input.TheVariants.{Model, Precedence, Blocks, Start, Solution, Script}
+use Rattle.pit_cli.specs.declared.input.Input.TheVariants.{Model, Precedence, Blocks, Start, Solution, Script, History}
 use Rattle.pit.specs.declared.engine.Engine.{Engine}
 use Rattle.pit.specs.declared.engine.Engine.TheVariants.{Value, Check, Plan}
 
@@ -26,6 +26,7 @@ argument_of Blocks = codes "blocks"
 argument_of Start = codes "start"
 argument_of Solution = codes "SOLUTION"
 argument_of (Script number) = codes "SCRIPT"
+argument_of History = codes "HISTORY"
 
 -- the paths that the words give for scripts
 unfoldable pub scripts_of : ArgMatches → List (List ℕ)
@@ -43,6 +44,7 @@ path_of given Precedence = first_path given Precedence
 path_of given Blocks = first_path given Blocks
 path_of given Start = first_path given Start
 path_of given Solution = first_path given Solution
+path_of given History = first_path given History
 
 -- the number of retries by the number that the words give, no more than there may be; 3 where what they give is no number
 abbrev pub retries_in : Option ℕ → ℕ

@@ -24,6 +24,7 @@ pub fn argument_of<'a>(input: Input) -> &'a str
         Input::Start => "start",
         Input::Solution => "SOLUTION",
         Input::Script(_) => "SCRIPT",
+        Input::History => "HISTORY",
     }
 }
 

@@ -222,6 +222,7 @@ fn help_of<'a>(input: Input) -> &'a str {
         }
         Input::Start => "A solution that the schedule begins with; without it no block is mined",
         Input::Script(_) => "A script of jobs for each planner, 1 to 64 of them",
+        Input::History => "The history: a line of JSON for its format, and one for each entry",
         Input::Solution => {
             "The solution: `BLOCK PERIOD` or `BLOCK DESTINATION PERIOD PART` for a mined block"
         }
