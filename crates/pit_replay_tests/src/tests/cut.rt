@@ -1,0 +1,62 @@
+//! A history that is cut behind each byte.
+use super::histories::{LOADING, LOADING_FRONTS};
+use super::is_replayed;
+use LinesCause::{NotFormat, NotJson};
+use pit_cli::Status;
+use pit_lines::{LinesCause, LinesError};
+use pit_replay::ReplayFault;
+use std::alloc::Global;
+use std::process::Abort;
+
+/// How many line feeds a text has.
+fn feeds(text: &[u8]) -> usize {
+    let mut count = 0usize;
+    for b in text {
+        if *b == b'\n' {
+            count = count.wrapping_add(1);
+        }
+    }
+    count
+}
+
+/// What is written of a part whose last line is whole.
+fn written_of(part: &[u8]) -> Option<&'static str> {
+    let whole = match part.last() {
+        Some(b'\n') => feeds(part),
+        _ => feeds(part).wrapping_add(1),
+    };
+    LOADING_FRONTS.get(whole.wrapping_sub(1)).copied()
+}
+
+/// The cause of the fault of a part whose last line isn't whole.
+fn cause_of(part: &[u8]) -> Option<LinesCause> {
+    match part.last() {
+        None => Some(NotFormat),
+        Some(b'\n') => None,
+        Some(b'}') if LOADING.as_bytes().get(part.len()) == Some(&b'\n') => None,
+        Some(_) => Some(NotJson),
+    }
+}
+
+fn assert_part(rt: &impl Abort, alloc: Global, part: &[u8]) {
+    let is_right = match cause_of(part) {
+        Some(cause) => {
+            let line = (feeds(part) as u64).wrapping_add(1);
+            let fault = ReplayFault::History(LinesError { line, cause });
+            is_replayed(alloc, part, Err(fault), b"")
+        }
+        None => {
+            let written = written_of(part).expect(rt, "a row");
+            is_replayed(alloc, part, Ok(Status::Fine), written.as_bytes())
+        }
+    };
+    assert!(rt; is_right, "at {}", part.len());
+}
+
+#[test]
+fn is_replayed_up_to_there(rt: HostRuntime) {
+    let text = LOADING.as_bytes();
+    for end in 0..text.len() + 1 {
+        assert_part(&rt, rt.alloc(), &text[..end]);
+    }
+}
