@@ -130,8 +130,8 @@ fn write_load<W: Sink>(
     write_amount(w, limit, b"\n")
 }
 
-/// Writes a whole number, and the byte behind it.
-pub fn write_field<W: Sink>(w: &mut W, n: u32, end: &[u8; 1]) -> Result<(), WriteFault>
+/// A whole number, and the byte behind it.
+fn write_field<W: Sink>(w: &mut W, n: u32, end: &[u8; 1]) -> Result<(), WriteFault>
     ensures { OnOk result (Appends (W.contents w.old) (W.contents w.new) (decimal n ++ end.now)) }
 {
     write_whole(w, n)?;

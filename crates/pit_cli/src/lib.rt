@@ -18,7 +18,6 @@ mod read;
 mod status;
 mod value_text;
 
-pub use check_text::write_field;
 pub use engines::check::{check, read_ordered_pit};
 pub use engines::value::value;
 pub use engines::write_answer;
