@@ -3,15 +3,16 @@ use Rattle.std.specs.Prelude.{◌≡◌, ℕ, ◌+◌, ◌<◌, List, length, dr
 use Rattle.pit_num.specs.Least.{IsLeastOf}
 use Rattle.pit_model.specs.Pit.{Pit}
 use Rattle.pit_book.specs.History.{Answered}
-use Rattle.pit_book.specs.State.{State}
+use Rattle.pit_book.specs.State.{State, IsDeskKept}
 use Rattle.pit_share.specs.Planners.{PlannerState}
 use Rattle.pit_share.specs.Logs.{entries_in, HasEachLog, IsMissing, AreLogged, IsDiffering}
 use Rattle.pit_share.specs.GoingOn.{GoesOn}
 use Rattle.pit_share.specs.declared.error.CloseError.{CloseError}
 use Rattle.pit_share.specs.declared.error.CloseError.TheVariants as error
 
--- the desk's history goes on from the opening one, by as many entries as the logs have, and of each planner by those of its log
+-- the desk keeps what each does, so its history is legal; it goes on from the opening one, by as many entries as the logs have, and of each planner by those of its log
 pub record IsClosed (pit : Pit) (opening : List Answered) (planners : ℕ) (logs : List PlannerState) (desk : State) : Type 0 where
+  pub kept : IsDeskKept desk
   pub goes_on : GoesOn pit opening desk
   pub count : length desk.history ≡ length opening + entries_in logs
   pub whole : HasEachLog planners logs
