@@ -17,9 +17,10 @@ use Rattle.pit_share.specs.Planners.{PlannerState}
 use Rattle.pit_share.specs.declared.error.CloseError.{CloseError}
 use Rattle.pit_run.specs.Reports.{RunState, IsReport, IsUnclosed}
 
--- the start breaks no rule, and after it, in the opening history, planners did their scripts
+-- the start breaks no rule, there are as many scripts as there may be planners, and after the start, in the opening history, planners did their scripts
 pub record IsRunFrom (pit : Pit) (start : List (ℕ × ℕ)) (retries : ℕ) (scripts : List (List Job)) (closed : State) (runs : List RunState) : Type 0 where
   pub good : IsGoodStart pit start
+  pub count : IsPlannerCount (length scripts)
   pub report : IsReport pit (opening_history start) retries scripts closed runs
 
 -- the fault that tells why a desk isn't opened

@@ -1,5 +1,5 @@
 -- What `plan` writes of a run, and how it ends.
-use Rattle.std.specs.Prelude.{◌≡◌, ℕ, ◌<◌, Bool, true, false, if◌then◌else◌, List, [], ◌∷◌, ◌++◌, length, Result, Ok, Err, codes}
+use Rattle.std.specs.Prelude.{◌≡◌, ℕ, ◌<◌, Bool, true, false, if◌then◌else◌, List, [], ◌∷◌, ◌++◌, length, Option, Some, None, Result, Ok, Err, codes, ⊤}
 use Rattle.std.specs.List.{list_all}
 use Rattle.std.specs.Io.KnownBytes.{Appends, Keeps}
 use Rattle.pit_num.specs.Printed.{AppendsFront}
@@ -18,6 +18,7 @@ use Rattle.pit_run.specs.Reports.{RunState}
 use Rattle.pit_report.specs.ReportText.{runs_text}
 use Rattle.pit_cli.specs.CheckText.{value_text, shorts_text}
 use Rattle.pit_cli.specs.Devices.{Writing}
+use Rattle.pit_lines.specs.Texts.{history_text}
 use Rattle.pit_cli.specs.declared.fault.CliFault.TheVariants.{NoMemory, CannotWrite}
 use Rattle.pit_cli.specs.declared.status.Status.{Status}
 use Rattle.pit_cli.specs.declared.status.Status.TheVariants.{Fine, Failed}
@@ -53,14 +54,41 @@ report_text pit commits runs =
 abbrev pub left_text : Pit → List Commit → List ℕ
 left_text pit commits = solution_text (schedule_of pit.blocks (held_period commits))
 
--- both texts are written, and it ends so; or a device failed, the first one before anything was given to the other
-pub data IsWritten (out lines : Writing) (solution report : List ℕ) (ended result : Result Status PlanFault) : Type 0 where
-  whole : Appends out.before out.after solution → (0 < length solution → out.failed ≡ false) → Appends lines.before lines.after report → lines.failed ≡ false
-      → result ≡ ended → IsWritten out lines solution report ended result
-  no_solution : AppendsFront out.before out.after solution → out.failed ≡ true → Keeps lines.before lines.after → result ≡ Err (Cli CannotWrite)
-      → IsWritten out lines solution report ended result
-  no_report : Appends out.before out.after solution → (0 < length solution → out.failed ≡ false) → AppendsFront lines.before lines.after report → lines.failed ≡ true
-      → result ≡ Err (Cli CannotWrite) → IsWritten out lines solution report ended result
+-- what is known of a device that may be left out, by what is known of it before and after
+abbrev pub writing_if : {S : Type 0} → (S → S → Writing) → Option S → Option S → Option Writing
+writing_if {S} of (Some old) (Some new) = Some (of old new)
+writing_if {S} of (Some old) None = None
+writing_if {S} of None new = None
+
+-- the device, if there is one, has the whole text; it was left alone; or it failed behind a front of the text
+abbrev pub HasWhole : Option Writing → List ℕ → Type 0
+HasWhole None text = ⊤
+HasWhole (Some kept) text = Appends kept.before kept.after text × (0 < length text → kept.failed ≡ false)
+
+abbrev pub IsLeft : Option Writing → Type 0
+IsLeft None = ⊤
+IsLeft (Some kept) = Keeps kept.before kept.after
+
+abbrev pub HasFront : Option Writing → List ℕ → Type 0
+HasFront None text = ⊥
+HasFront (Some kept) text = AppendsFront kept.before kept.after text × (kept.failed ≡ true)
+
+-- The texts that are to be written, in this order.
+pub record Told : Type 0 where
+  pub solution : List ℕ
+  pub report : List ℕ
+  pub history : List ℕ
+
+-- each text is written, and it ends so; or a device failed, before anything was given to those behind it
+pub data IsWritten (out lines : Writing) (kept : Option Writing) (told : Told) (ended result : Result Status PlanFault) : Type 0 where
+  whole : Appends out.before out.after told.solution → (0 < length told.solution → out.failed ≡ false) → Appends lines.before lines.after told.report → lines.failed ≡ false
+      → HasWhole kept told.history → result ≡ ended → IsWritten out lines kept told ended result
+  no_solution : AppendsFront out.before out.after told.solution → out.failed ≡ true → Keeps lines.before lines.after → IsLeft kept → result ≡ Err (Cli CannotWrite)
+      → IsWritten out lines kept told ended result
+  no_report : Appends out.before out.after told.solution → (0 < length told.solution → out.failed ≡ false) → AppendsFront lines.before lines.after told.report → lines.failed ≡ true
+      → IsLeft kept → result ≡ Err (Cli CannotWrite) → IsWritten out lines kept told ended result
+  no_history : Appends out.before out.after told.solution → (0 < length told.solution → out.failed ≡ false) → Appends lines.before lines.after told.report → lines.failed ≡ false
+      → HasFront kept told.history → result ≡ Err (Cli CannotWrite) → IsWritten out lines kept told ended result
 
 -- the texts stand for a pit, a start and scripts, and planners did these from it
 pub record IsRunOf (texts : Texts) (retries : ℕ) (closed : State) (runs : List RunState) : Type 0 where
@@ -76,14 +104,21 @@ pub data IsNoRun (texts : Texts) (retries : ℕ) (fault : PlanFault) : Type 0 wh
   of_plan : (pit : Pit) (start : List (ℕ × ℕ)) (scripts : List (List Job)) → AreTextsOf texts pit start scripts → IsPlanFault pit start retries scripts fault
       → IsNoRun texts retries fault
 
--- What `plan` does. Where there is a run, the solution that it left and its report are written, unless memory is wanting for the report; else nothing is
--- written.
-pub data IsPlanned (texts : Texts) (retries : ℕ) (out lines : Writing) (result : Result Status PlanFault) : Type 0 where
+-- what is told of the history and the runs of a workspace that was closed
+abbrev pub told_of : State → List RunState → Told
+told_of closed runs = record {
+  solution = left_text closed.plan.pit (commits_of closed.history);
+  report = report_text closed.plan.pit (commits_of closed.history) runs;
+  history = history_text closed.history;
+}
+
+-- What `plan` does. Where there is a run, the solution that it left, its report and its history are written, unless memory is wanting for them; else
+-- nothing is written.
+pub data IsPlanned (texts : Texts) (retries : ℕ) (out lines : Writing) (kept : Option Writing) (result : Result Status PlanFault) : Type 0 where
   ran : (closed : State) (runs : List RunState) → IsRunOf texts retries closed runs
-      → IsWritten out lines (left_text closed.plan.pit (commits_of closed.history)) (report_text closed.plan.pit (commits_of closed.history) runs)
-      (ended_of runs (shortfalls_of closed.plan.pit (held_period (commits_of closed.history)))) result
-      → IsPlanned texts retries out lines result
-  untold : (closed : State) (runs : List RunState) → IsRunOf texts retries closed runs → Keeps out.before out.after → Keeps lines.before lines.after
-      → result ≡ Err (Cli NoMemory) → IsPlanned texts retries out lines result
-  refused : (fault : PlanFault) → IsNoRun texts retries fault → Keeps out.before out.after → Keeps lines.before lines.after → result ≡ Err fault
-      → IsPlanned texts retries out lines result
+      → IsWritten out lines kept (told_of closed runs) (ended_of runs (shortfalls_of closed.plan.pit (held_period (commits_of closed.history)))) result
+      → IsPlanned texts retries out lines kept result
+  untold : (closed : State) (runs : List RunState) → IsRunOf texts retries closed runs → Keeps out.before out.after → Keeps lines.before lines.after → IsLeft kept
+      → result ≡ Err (Cli NoMemory) → IsPlanned texts retries out lines kept result
+  refused : (fault : PlanFault) → IsNoRun texts retries fault → Keeps out.before out.after → Keeps lines.before lines.after → IsLeft kept → result ≡ Err fault
+      → IsPlanned texts retries out lines kept result

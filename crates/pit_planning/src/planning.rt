@@ -1,12 +1,12 @@
 //! From a pit, a start and scripts to the report of their run.
-ghost use Rattle.std.specs.Prelude.{◌≡◌, ◌≤◌, ℕ, List, All, length, IfOk, IfErr};
+ghost use Rattle.std.specs.Prelude.{◌≡◌, ◌≤◌, ℕ, List, All, length, IfOk, OnOk, IfErr};
 ghost use Rattle.pit_model.specs.Pit.{Pit};
 ghost use Rattle.pit_book.specs.History.{Answered};
 ghost use Rattle.pit_script.specs.Jobs.{Job};
 ghost use Rattle.pit_num.specs.Fitting.{IsSchedule};
 ghost use Rattle.pit_script.specs.Benches.{AreBenchesOf};
 ghost use Rattle.pit_script.specs.Ranges.{AreJobsIn};
-ghost use Rattle.pit_share.specs.Opening.{IsOpenError};
+ghost use Rattle.pit_share.specs.Opening.{IsPlannerCount, IsOpenError};
 ghost use Rattle.pit_share.specs.declared.blank.TheConstants.{PLANNERS_MAX};
 ghost use Rattle.pit_job.specs.declared.planner_run.TheConstants.{RETRIES_MAX};
 ghost use Rattle.pit_run.specs.Reports.{IsReport};
@@ -95,6 +95,7 @@ fn run_on<R: Threads + Wait + Sync, A: Allocator + Copy + Drop + Send + Sync>(
     requires periods { periods ≡ desk.plan.pit.periods }
     requires in_range { All (AreJobsIn desk.plan.pit) scripts.now }
     requires few { retries ≤ RETRIES_MAX }
+    ensures count { OnOk result (IsPlannerCount (length scripts.now)) }
     ensures ok { IfOk result (λ report. IsReport desk.plan.pit desk.history retries scripts.now report.closed report.runs.items) }
     ensures err { IfErr result (IsRunFault desk.plan.pit desk.history retries scripts.now) }
 {
@@ -143,6 +144,7 @@ fn run_in<
     requires periods { periods ≡ S.instance.periods }
     requires in_range { All (AreJobsIn S.instance) scripts.now }
     requires few { retries ≤ RETRIES_MAX }
+    ensures count { OnOk result (IsPlannerCount (length scripts.now)) }
     ensures ok { IfOk result (λ report. IsReport S.instance S.opening retries scripts.now report.closed report.runs.items) }
     ensures err { IfErr result (IsRunFault S.instance S.opening retries scripts.now) }
 {

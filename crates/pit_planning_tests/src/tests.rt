@@ -38,10 +38,34 @@ struct Ended {
     answer: Result<Status, PlanFault>,
     solution: Narrow,
     report: Narrow,
+    history: Option<Narrow>,
+}
+
+/// For how many bytes its outputs have room.
+#[derive(Clone, Copy)]
+struct Rooms {
+    solution: usize,
+    report: usize,
+    /// Where a history is wanted.
+    history: Option<usize>,
 }
 
 /// Room for all that a plan on the small pit writes.
 const ROOM: usize = 10_000;
+
+const ROOMS: Rooms = Rooms {
+    solution: ROOM,
+    report: ROOM,
+    history: None,
+};
+
+/// A device for a history, where one is wanted.
+fn device_if(alloc: Global, room: Option<usize>) -> Option<Narrow> {
+    match room {
+        Some(room) => Some(Narrow::new(alloc, 7, room)),
+        None => None,
+    }
+}
 
 fn bytes_of<A: Allocator + Copy + Drop>(rt: &impl Abort, alloc: A, text: &[u8]) -> Vec<u8, A> {
     let mut bytes = Vec::new(alloc);
@@ -86,22 +110,31 @@ fn planned_in<R: Threads + Wait + Abort + Sync>(
     rt: &R,
     alloc: Global,
     given: Given<'_>,
-    room: usize,
-    report_room: usize,
+    rooms: Rooms,
 ) -> Ended {
-    let mut solution = Narrow::new(alloc, 7, room);
-    let mut report = Narrow::new(alloc, 7, report_room);
+    let mut solution = Narrow::new(alloc, 7, rooms.solution);
+    let mut report = Narrow::new(alloc, 7, rooms.report);
+    let mut history = device_if(alloc, rooms.history);
     let input = input_of(rt, alloc, given);
-    let answer = plan(alloc, rt, input, 3, &mut solution, &mut report);
+    let answer = plan(
+        alloc,
+        rt,
+        input,
+        3,
+        &mut solution,
+        &mut report,
+        &mut history,
+    );
     Ended {
         answer,
         solution,
         report,
+        history,
     }
 }
 
 fn planned<R: Threads + Wait + Abort + Sync>(rt: &R, alloc: Global, given: Given<'_>) -> Ended {
-    planned_in(rt, alloc, given, ROOM, ROOM)
+    planned_in(rt, alloc, given, ROOMS)
 }
 
 /// It answers so, and writes these texts.
@@ -115,6 +148,14 @@ fn assert_ended(
     assert!(rt; ended.answer == answer);
     assert!(rt; ended.solution.held() == solution);
     assert!(rt; ended.report.held() == report);
+}
+
+/// What it wrote for a history.
+fn history_of(ended: &Ended) -> &[u8] {
+    match &ended.history {
+        Some(device) => device.held(),
+        None => &[],
+    }
 }
 
 /// It answers this fault, and writes nothing.

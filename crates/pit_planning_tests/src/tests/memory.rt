@@ -28,6 +28,14 @@ value 10.500000000000000000
 short 0 1 0.000000 1.000000
 ";
 
+/// And the history.
+const HISTORY: &[u8] = br#"{"format":1}
+{"act":"commit","job":0,"planner":0,"reads":[],"reply":{"committed":1},"start":0,"writes":[[0,0]]}
+{"act":"commit","job":1,"planner":1,"reads":[],"reply":{"committed":2},"start":1,"writes":[[1,0]]}
+{"act":"commit","job":2,"planner":1,"reads":[],"reply":{"precedence":[1,0]},"start":2,"writes":[[0,1],[3,1]]}
+{"act":"withdraw","job":3,"planner":1,"reads":[[3,null]],"reply":"withdrawn","start":2,"writes":[]}
+"#;
+
 /// The count of requests before the plan, and behind it.
 fn planned<'a, R: Threads + Wait + Abort + Sync>(
     rt: &R,
@@ -36,32 +44,40 @@ fn planned<'a, R: Threads + Wait + Abort + Sync>(
 ) -> (Count, Count) {
     let mut solution = Narrow::new(alloc, 100, ROOM);
     let mut report = Narrow::new(alloc, 100, ROOM);
+    let mut history = Some(Narrow::new(alloc, 100, ROOM));
     let input = input_of(rt, heap, GIVEN);
     let before = heap.count();
-    let answer = plan(heap, rt, input, 3, &mut solution, &mut report);
+    let answer = plan(heap, rt, input, 3, &mut solution, &mut report, &mut history);
     let after = heap.count();
+    let kept = match &history {
+        Some(device) => device.held(),
+        None => &[],
+    };
     match answer {
         Ok(status) => {
             assert!(rt; status == Status::Failed);
             assert!(rt; solution.held() == SOLUTION);
             assert!(rt; report.held() == REPORT);
+            assert!(rt; kept == HISTORY);
         }
-        Err(PlanFault::Stopped) => assert_stopped(rt, heap, report.held()),
+        Err(PlanFault::Stopped) => assert_stopped(rt, heap, report.held(), kept),
         Err(fault) => {
             assert!(rt; fault == PlanFault::Cli(CliFault::NoMemory));
             assert!(rt; heap.count().has_refused());
             assert!(rt; solution.held().is_empty());
             assert!(rt; report.held().is_empty());
+            assert!(rt; kept.is_empty());
         }
     }
     (before, after)
 }
 
-/// A planner stopped for want of memory, and its jobs before that are told as ever.
-fn assert_stopped<'a>(rt: &impl Abort, heap: Heap<'a>, report: &[u8]) {
+/// A planner stopped for want of memory, and its jobs before that are told as ever, as are their entries.
+fn assert_stopped<'a>(rt: &impl Abort, heap: Heap<'a>, report: &[u8], history: &[u8]) {
     assert!(rt; heap.count().has_refused());
     let told = TOLD.iter().any(|lines| report.starts_with(lines));
     assert!(rt; told);
+    assert!(rt; !history.is_empty() && history.ends_with(b"\n") && HISTORY.starts_with(history));
 }
 
 /// What is told of a planner who stops at each of the jobs.

@@ -1,5 +1,7 @@
 //! Worked plans.
-use super::{BARE, CANNOT_WRITE, Given, ROOM, assert_ended, planned, planned_in};
+use super::{
+    BARE, CANNOT_WRITE, Given, ROOM, ROOMS, Rooms, assert_ended, history_of, planned, planned_in,
+};
 use pit_cli::Status;
 use pit_sample::{TINY_BLOCKS, TINY_SOLUTION};
 
@@ -63,14 +65,61 @@ value 37.772727272730000000
     assert_ended(&rt, &found, Ok(Status::Fine), TINY_SOLUTION, report);
 }
 
+/// And the history.
+const HISTORY: &[u8] = br#"{"format":1}
+{"act":"commit","job":1,"planner":1,"reads":[],"reply":{"committed":1},"start":0,"writes":[[0,0],[1,0]]}
+{"act":"commit","job":2,"planner":1,"reads":[],"reply":{"over":[0,0,"5000000","4000000"]},"start":1,"writes":[[3,0]]}
+{"act":"commit","job":3,"planner":1,"reads":[],"reply":{"committed":2},"start":1,"writes":[[3,1]]}
+"#;
+
+#[test]
+fn a_history(rt: HostRuntime) {
+    let rooms = Rooms {
+        history: Some(ROOM),
+        ..ROOMS
+    };
+    let found = planned_in(&rt, rt.alloc(), ONE, rooms);
+    assert_ended(&rt, &found, Ok(Status::Fine), SOLUTION, REPORT);
+    assert!(rt; history_of(&found) == HISTORY);
+}
+
 #[test]
 fn a_full_output(rt: HostRuntime) {
-    let found = planned_in(&rt, rt.alloc(), ONE, 5, ROOM);
-    assert_ended(&rt, &found, Err(CANNOT_WRITE), &SOLUTION[..5], b"");
+    for room in 0..SOLUTION.len() {
+        let rooms = Rooms {
+            solution: room,
+            history: Some(ROOM),
+            ..ROOMS
+        };
+        let found = planned_in(&rt, rt.alloc(), ONE, rooms);
+        assert_ended(&rt, &found, Err(CANNOT_WRITE), &SOLUTION[..room], b"");
+        assert!(rt; history_of(&found).is_empty());
+    }
 }
 
 #[test]
 fn a_full_report(rt: HostRuntime) {
-    let found = planned_in(&rt, rt.alloc(), ONE, ROOM, 20);
-    assert_ended(&rt, &found, Err(CANNOT_WRITE), SOLUTION, &REPORT[..20]);
+    for room in 0..REPORT.len() {
+        let rooms = Rooms {
+            report: room,
+            history: Some(ROOM),
+            ..ROOMS
+        };
+        let found = planned_in(&rt, rt.alloc(), ONE, rooms);
+        assert_ended(&rt, &found, Err(CANNOT_WRITE), SOLUTION, &REPORT[..room]);
+        assert!(rt; history_of(&found).is_empty());
+    }
+}
+
+#[test]
+fn a_full_history(rt: HostRuntime) {
+    for room in 0..HISTORY.len() {
+        let rooms = Rooms {
+            history: Some(room),
+            ..ROOMS
+        };
+        let found = planned_in(&rt, rt.alloc(), ONE, rooms);
+        assert_ended(&rt, &found, Err(CANNOT_WRITE), SOLUTION, REPORT);
+        assert!(rt; history_of(&found) == &HISTORY[..room]);
+    }
 }
