@@ -3,7 +3,7 @@ use Rattle.std.proofs.Common.{◌≡◌, ◌∷◌, ◌||◌, if◌then◌else�
 use Rattle.std.specs.Option.{option_map_or}
 use Rattle.std.proofs.lemmas.List.Elements.{All-from_recursion}
 use Rattle.pit_cli.specs.declared.input.Input.{Input}
-use Rattle.pit_cli.specs.declared.input.Input.TheVariants.{Model, Precedence, Solution, Script}
+use Rattle.pit_cli.specs.declared.input.Input.TheVariants.{Model, Precedence, Solution, Script, History}
 use Rattle.pit.specs.Asked.{argument_of}
 use Rattle.clap.specs.Walk.{Row, Text, nothing_held, walk, walk_from, settled, finished, rows_after}
 use Rattle.clap.specs.Takes.{is_given}
@@ -11,7 +11,7 @@ use Rattle.clap.specs.Kinds.{Kinds, or_else, check_kinds}
 use Rattle.clap.specs.Simple.{App, Shape, argument_words, built, built_leaf, entered, inherited, label_of, names_of, rows_at, subcommand_of}
 use Rattle.clap.specs.Faults.{check_fault, defaults_fault, entered_fault, fault_of, level_fault, settle_fault, walk_fault}
 use Rattle.clap.specs.Walk.{answers_to}
-use Rattle.pit.specs.Command.{AsksAll, check_shape, pit_app, plan_shape, value_shape}
+use Rattle.pit.specs.Command.{AsksAll, check_shape, pit_app, plan_shape, replay_shape, value_shape}
 use Rattle.clap.specs.Simple.{HasMatchesOf, help_shape, subcommand_rows_of}
 use Rattle.clap.specs.Kinds.{FailsBy}
 use Rattle.clap.specs.Faults.{is_simple_and_free}
@@ -30,11 +30,14 @@ check_built = built_leaf (inherited pit_app.top check_shape)
 abbrev plan_built : Shape
 plan_built = built_leaf (inherited pit_app.top plan_shape)
 
+abbrev replay_built : Shape
+replay_built = built_leaf (inherited pit_app.top replay_shape)
+
 abbrev help_built : Shape
 help_built = built_leaf help_shape
 
 -- the subs are these
-subs_are : pit.subs ≡ value_built ∷ check_built ∷ plan_built ∷ help_built ∷ []
+subs_are : pit.subs ≡ value_built ∷ check_built ∷ plan_built ∷ replay_built ∷ help_built ∷ []
 subs_are = refl
 
 first_empty : (a b : Kinds) → or_else a b ≡ [] → a ≡ []
@@ -75,9 +78,9 @@ met rows true h = refl
 met rows false h = cc
 
 -- which of the subcommands a word names, by what the tests of their names say
-abbrev pick : Bool → Bool → Bool → Bool → Option Shape
-pick v c p k =
-    if v then Some value_built else (if c then Some check_built else (if p then Some plan_built else (if k then Some help_built else None)))
+abbrev pick : Bool → Bool → Bool → Bool → Bool → Option Shape
+pick v c p r k =
+    if v then Some value_built else (if c then Some check_built else (if p then Some plan_built else (if r then Some replay_built else (if k then Some help_built else None))))
 
 abbrev Gives : List Row → Input → Type 0
 Gives rows input = is_given (argument_of input) rows ≡ true
@@ -85,27 +88,31 @@ Gives rows input = is_given (argument_of input) rows ≡ true
 no_asks : false ≡ true → ⊥
 no_asks h = cc
 
-picked : (v c p k : Bool) (words : List Text) → is_some (option_map (λ s. rows_at s words) (pick v c p k)) ≡ true
-    → option_map_or (λ s. level_fault s [] nothing_held words false []) (pick v c p k) [] ≡ []
-    → AsksAll (option_map (λ s. rows_at s words) (pick v c p k))
-picked true c p k words has h =
+picked : (v c p r k : Bool) (words : List Text) → is_some (option_map (λ s. rows_at s words) (pick v c p r k)) ≡ true
+    → option_map_or (λ s. level_fault s [] nothing_held words false []) (pick v c p r k) [] ≡ []
+    → AsksAll (option_map (λ s. rows_at s words) (pick v c p r k))
+picked true c p r k words has h =
     let rows = rows_after value_built.rules [] words in
     let g = both_given (is_given (codes "MODEL") rows) (is_given (codes "SOLUTION") rows) (level_checked value_built [] words false [] h).1 in
     (rows_at value_built words, refl, inl (refl, All-from_recursion (Gives rows) (Model ∷ Solution ∷ []) (g.0, (g.1, tt))))
-picked false true p k words has h =
+picked false true p r k words has h =
     let rows = rows_after check_built.rules [] words in
     let g = all_given (is_given (codes "MODEL") rows) (is_given (codes "PREC") rows) (is_given (codes "SOLUTION") rows) (level_checked check_built [] words false [] h).1 in
     (rows_at check_built words, refl, inr (inl (refl, All-from_recursion (Gives rows) (Model ∷ Precedence ∷ Solution ∷ []) (g.0, (g.1, (g.2, tt))))))
-picked false false true k words has h =
+picked false false true r k words has h =
     let rows = rows_after plan_built.rules [] words in
     let g = all_given (is_given (codes "MODEL") rows) (is_given (codes "PREC") rows) (is_given (codes "SCRIPT") rows) (level_checked plan_built [] words false [] h).1 in
     (rows_at plan_built words, refl, inr (inr (inl (refl, All-from_recursion (Gives rows) (Model ∷ Precedence ∷ Script 1 ∷ []) (g.0, (g.1, (g.2, tt)))))))
-picked false false false true words has h = (rows_at help_built words, refl, inr (inr (inr refl)))
-picked false false false false words has h = absurd (no_asks has)
+picked false false false true k words has h =
+    let rows = rows_after replay_built.rules [] words in
+    let g = all_given (is_given (codes "MODEL") rows) (is_given (codes "PREC") rows) (is_given (codes "HISTORY") rows) (level_checked replay_built [] words false [] h).1 in
+    (rows_at replay_built words, refl, inr (inr (inr (inl (refl, All-from_recursion (Gives rows) (Model ∷ Precedence ∷ History ∷ []) (g.0, (g.1, (g.2, tt))))))))
+picked false false false false true words has h = (rows_at help_built words, refl, inr (inr (inr (inr refl))))
+picked false false false false false words has h = absurd (no_asks has)
 
 entered_asks : (stop : Option (Text × List Text)) → is_some (entered pit stop) ≡ true → entered_fault pit stop ≡ [] → AsksAll (entered pit stop)
 entered_asks None has h = absurd (no_asks has)
-entered_asks (Some p) has h = picked (answers_to p.0 (label_of value_built)) (answers_to p.0 (label_of check_built)) (answers_to p.0 (label_of plan_built)) (answers_to p.0 (label_of help_built)) p.1 has h
+entered_asks (Some p) has h = picked (answers_to p.0 (label_of value_built)) (answers_to p.0 (label_of check_built)) (answers_to p.0 (label_of plan_built)) (answers_to p.0 (label_of replay_built)) (answers_to p.0 (label_of help_built)) p.1 has h
 
 -- a line by which nothing fails asks for a subcommand, with all that it requires
 pub asks_all : (words : List Text) → fault_of pit_app words ≡ [] → AsksAll (subcommand_of pit_app words)

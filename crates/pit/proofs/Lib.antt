@@ -1,3 +1,4 @@
 pub mod CommandLemmas
 pub mod PlanFiles
+pub mod History
 pub mod Retries

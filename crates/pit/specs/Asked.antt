@@ -9,11 +9,11 @@ use Rattle.pit_job.specs.declared.planner_run.TheConstants.{RETRIES_MAX}
 use Rattle.pit_cli.specs.declared.input.Input.{Input}
 use Rattle.pit_cli.specs.declared.input.Input.TheVariants.{Model, Precedence, Blocks, Start, Solution, Script, History}
 use Rattle.pit.specs.declared.engine.Engine.{Engine}
-use Rattle.pit.specs.declared.engine.Engine.TheVariants.{Value, Check, Plan}
+use Rattle.pit.specs.declared.engine.Engine.TheVariants.{Value, Check, Plan, Replay}
 
 -- the subcommands, each with the engine that it asks for
 abbrev pub engines : List (List ℕ × Engine)
-engines = (codes "value", Value) ∷ (codes "check", Check) ∷ (codes "plan", Plan) ∷ []
+engines = (codes "value", Value) ∷ (codes "check", Check) ∷ (codes "plan", Plan) ∷ (codes "replay", Replay) ∷ []
 
 unfoldable pub engine_of : List ℕ → Option Engine
 engine_of name = lookup (bytes_eq name) engines
@@ -45,6 +45,10 @@ path_of given Blocks = first_path given Blocks
 path_of given Start = first_path given Start
 path_of given Solution = first_path given Solution
 path_of given History = first_path given History
+
+-- the path that the words give for the history that is written
+abbrev pub history_path : ArgMatches → Option (List ℕ)
+history_path given = first_value (found_of given) (codes "history")
 
 -- the number of retries by the number that the words give, no more than there may be; 3 where what they give is no number
 abbrev pub retries_in : Option ℕ → ℕ

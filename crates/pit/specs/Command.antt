@@ -11,7 +11,7 @@ use Rattle.clap.specs.declared.builder.action.ArgAction.TheVariants.{Append}
 use Rattle.clap.specs.declared.builder.value_parser.ValueParser.TheVariants.{Signed}
 use Rattle.pit_cli.specs.declared.input.Input.{Input}
 use Rattle.pit_cli.specs.declared.input.Input.TheVariants.{Model, Precedence, Blocks, Start, Script}
-use Rattle.pit.specs.declared.engine.Engine.TheVariants.{Value, Check}
+use Rattle.pit.specs.declared.engine.Engine.TheVariants.{Value, Check, Replay}
 use Rattle.pit.specs.Asked.{argument_of}
 use Rattle.pit.specs.Runs.{inputs_of}
 
@@ -29,9 +29,16 @@ value_shape = engine_shape (codes "value") (inputs_of Value)
 abbrev pub check_shape : Shape
 check_shape = engine_shape (codes "check") (inputs_of Check)
 
+abbrev pub replay_shape : Shape
+replay_shape = engine_shape (codes "replay") (inputs_of Replay)
+
 -- the option for an input: `--name FILE`
 abbrev pub option_rule : Input → Rule
 option_rule input = record (new_rule (argument_of input)) { long = Some (argument_of input); value_names = 1 }
+
+-- `--history FILE`
+abbrev pub history_rule : Rule
+history_rule = record (new_rule (codes "history")) { long = Some (codes "history"); value_names = 1 }
 
 -- `--retries N`, a whole number up to 1,000, and 3 where it isn't given
 abbrev pub retries_rule : Rule
@@ -56,7 +63,7 @@ plan_files_shape = record (new_shape (codes "plan")) { rules = file_rule Model �
 
 abbrev pub plan_shape : Shape
 plan_shape = record (new_shape (codes "plan")) {
-  rules = file_rule Model ∷ file_rule Precedence ∷ option_rule Blocks ∷ option_rule Start ∷ retries_rule ∷ scripts_rule ∷ [];
+  rules = file_rule Model ∷ file_rule Precedence ∷ option_rule Blocks ∷ option_rule Start ∷ history_rule ∷ retries_rule ∷ scripts_rule ∷ [];
 }
 
 -- a subcommand, of which no argument is global
@@ -75,7 +82,7 @@ app_with shapes = record {
 }
 
 abbrev pub pit_app : App
-pit_app = app_with (value_shape ∷ check_shape ∷ plan_shape ∷ [])
+pit_app = app_with (value_shape ∷ check_shape ∷ plan_shape ∷ replay_shape ∷ [])
 
 -- the words gave the argument of each input
 abbrev pub GivesEach : List Input → List Row → Type 0
@@ -86,7 +93,8 @@ abbrev pub IsAsked : List ℕ × List Row → Type 0
 IsAsked asked = ((asked.0 ≡ codes "value") × GivesEach (inputs_of Value) asked.1)
     ⊎ (((asked.0 ≡ codes "check") × GivesEach (inputs_of Check) asked.1)
     ⊎ (((asked.0 ≡ codes "plan") × GivesEach (Model ∷ Precedence ∷ Script 1 ∷ []) asked.1)
-    ⊎ (asked.0 ≡ codes "help")))
+    ⊎ (((asked.0 ≡ codes "replay") × GivesEach (inputs_of Replay) asked.1)
+    ⊎ (asked.0 ≡ codes "help"))))
 
 -- the words name a subcommand, and give all that it requires
 abbrev pub AsksAll : Option (List ℕ × List Row) → Type 0

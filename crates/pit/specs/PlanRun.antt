@@ -1,5 +1,5 @@
 -- What a run of `plan` gives, by what is told of the files that its words name.
-use Rattle.std.specs.Prelude.{◌≡◌, ◌≢◌, ◌⊎◌, ℕ, Bool, true, false, if◌then◌else◌, List, [], ◌∷◌, ◌++◌, All, map, length, Option, Some, is_some, option_to_list, Result, Err}
+use Rattle.std.specs.Prelude.{◌≡◌, ◌≢◌, ◌⊎◌, ℕ, Bool, true, false, if◌then◌else◌, List, [], ◌∷◌, ◌++◌, All, map, length, Option, Some, is_some, option_to_list, IfSome, Result, Err}
 use Rattle.std.specs.List.{range_with_len}
 use Rattle.std.specs.Io.KnownBytes.{Keeps}
 use Rattle.clap.specs.declared.parser.matches.ArgMatches.{ArgMatches}
@@ -7,13 +7,13 @@ use Rattle.pit_cli.specs.declared.input.Input.{Input}
 use Rattle.pit_cli.specs.declared.input.Input.TheVariants.{Model, Precedence, Blocks, Start, Script}
 use Rattle.pit_cli.specs.declared.status.Status.{Status}
 use Rattle.pit_cli.specs.declared.fault.CliFault.{CliFault}
-use Rattle.pit_cli.specs.declared.fault.CliFault.TheVariants.{CannotRead, NoMemory}
+use Rattle.pit_cli.specs.declared.fault.CliFault.TheVariants.{CannotRead, CannotWrite, NoMemory}
 use Rattle.pit_cli.specs.Devices.{Reading, Writing, IsWhole, IsInputFault}
 use Rattle.pit_planning.specs.declared.plan_fault.PlanFault.{PlanFault}
 use Rattle.pit_planning.specs.declared.plan_fault.PlanFault.TheVariants.{Cli}
 use Rattle.pit_planning.specs.Texts.{Texts}
 use Rattle.pit_planning.specs.Telling.{IsPlanned}
-use Rattle.pit.specs.Asked.{path_of, scripts_of}
+use Rattle.pit.specs.Asked.{path_of, scripts_of, history_path}
 
 -- an input that the words may leave out
 abbrev pub input_if : ArgMatches → Input → List Input
@@ -88,8 +88,17 @@ pub data IsNoInput (opens : Input → Option Bool) (told : Input → Option (Lis
   unopened : IsUnopened opens (plan_inputs given) fault → IsNoInput opens told given fault
   unread : All (IsOpen opens) (plan_inputs given) → IsUnreadOf told (plan_inputs given) fault → IsNoInput opens told given fault
 
--- what `plan` does on the texts that the files gave; or nothing is written
-pub data IsPlanRun (opens : Input → Option Bool) (told : Input → Option (List ℕ)) (given : ArgMatches) (retries : ℕ) (out lines : Writing) (result : Result Status PlanFault) : Type 0 where
-  planned : (texts : Texts) → IsInput opens told given texts → IsPlanned texts retries out lines result → IsPlanRun opens told given retries out lines result
+-- a history has a device where its file is named, which holds nothing yet, if it tells what it holds
+pub record IsNewHistory (given : ArgMatches) (kept : Option Writing) : Type 0 where
+  pub named : is_some kept ≡ is_some (history_path given)
+  pub empty : IfSome kept (λ device. IfSome device.before (λ bytes. bytes ≡ []))
+
+-- What `plan` does on the texts that the files gave, where the file of its history opens, if one is named. It is opened once all inputs are read. Else
+-- nothing is written.
+pub data IsPlanRun (opens : Input → Option Bool) (told : Input → Option (List ℕ)) (keeps : Option Bool) (given : ArgMatches) (retries : ℕ) (out lines : Writing) (result : Result Status PlanFault) : Type 0 where
+  planned : (texts : Texts) (kept : Option Writing) → IsInput opens told given texts → keeps ≢ Some false → IsNewHistory given kept
+      → IsPlanned texts retries out lines kept result → IsPlanRun opens told keeps given retries out lines result
   refused : (fault : CliFault) → IsNoInput opens told given fault → Keeps out.before out.after → Keeps lines.before lines.after → result ≡ Err (Cli fault)
-      → IsPlanRun opens told given retries out lines result
+      → IsPlanRun opens told keeps given retries out lines result
+  unkept : (texts : Texts) → IsInput opens told given texts → keeps ≢ Some true → is_some (history_path given) ≡ true → Keeps out.before out.after
+      → Keeps lines.before lines.after → result ≡ Err (Cli CannotWrite) → IsPlanRun opens told keeps given retries out lines result

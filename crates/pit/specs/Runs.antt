@@ -2,7 +2,7 @@
 use Rattle.std.specs.Prelude.{◌≡◌, ◌≢◌, ◌⊎◌, ℕ, Bool, true, false, List, [], ◌∷◌, Option, Some, option_and_then, Result, Ok, Err}
 use Rattle.clap.specs.declared.parser.matches.ArgMatches.{ArgMatches}
 use Rattle.pit_cli.specs.declared.input.Input.{Input}
-use Rattle.pit_cli.specs.declared.input.Input.TheVariants.{Model, Precedence, Solution, Script}
+use Rattle.pit_cli.specs.declared.input.Input.TheVariants.{Model, Precedence, Solution, Script, History}
 use Rattle.pit_cli.specs.declared.status.Status.{Status}
 use Rattle.pit_cli.specs.declared.fault.CliFault.{CliFault}
 use Rattle.pit_cli.specs.declared.fault.CliFault.TheVariants.{CannotRead}
@@ -11,10 +11,14 @@ use Rattle.pit_cli.specs.Devices.{Reading, Writing}
 use Rattle.pit_cli.specs.Value.{value_run}
 use Rattle.pit_cli.specs.Check.{check_run}
 use Rattle.pit_planning.specs.declared.plan_fault.PlanFault.{PlanFault}
-use Rattle.pit_planning.specs.declared.plan_fault.PlanFault.TheVariants.{Cli}
+use Rattle.pit_replay.specs.declared.replay_fault.ReplayFault.{ReplayFault}
+use Rattle.pit_replay.specs.declared.replay_fault.ReplayFault.TheVariants as replay
+use Rattle.pit_replay.specs.Replay.{replay_run}
+use Rattle.pit.specs.declared.fault.EngineFault.{EngineFault}
+use Rattle.pit.specs.declared.fault.EngineFault.TheVariants as engine
 use Rattle.pit.specs.declared.engine.Engine.{Engine}
-use Rattle.pit.specs.declared.engine.Engine.TheVariants.{Value, Check, Plan}
-use Rattle.pit.specs.Asked.{path_of, IsRetries}
+use Rattle.pit.specs.declared.engine.Engine.TheVariants.{Value, Check, Plan, Replay}
+use Rattle.pit.specs.Asked.{path_of, history_path, IsRetries}
 use Rattle.pit.specs.PlanRun.{IsPlanRun}
 
 -- the bytes of an input's file, where it is named and they are told
@@ -25,11 +29,16 @@ file_bytes bytes_at given input = option_and_then bytes_at (path_of given input)
 abbrev pub file_opens : (List ℕ → Option Bool) → ArgMatches → Input → Option Bool
 file_opens opens_at given input = option_and_then opens_at (path_of given input)
 
+-- whether the file of the history opens to be written, where it is named and that is told
+abbrev pub history_opens : (List ℕ → Option Bool) → ArgMatches → Option Bool
+history_opens keeps_at given = option_and_then keeps_at (history_path given)
+
 -- the inputs that an engine always has, in the order of the words
 abbrev pub inputs_of : Engine → List Input
 inputs_of Value = Model ∷ Solution ∷ []
 inputs_of Check = Model ∷ Precedence ∷ Solution ∷ []
 inputs_of Plan = Model ∷ Precedence ∷ Script 1 ∷ []
+inputs_of Replay = Model ∷ Precedence ∷ History ∷ []
 
 -- inputs are opened one by one: what is answered where one can't be, and what where all are open
 abbrev pub OpensEach : (Input → Option Bool) → List Input → (Input → Type 0) → Type 0 → Type 0
@@ -52,25 +61,51 @@ pub record IsCheckRun (told : Input → Option (List ℕ)) (out : Writing) (resu
   pub solution_is : solution.before ≡ told Solution
   pub gives : IsResultOf (check_run model precedence solution out) tt result
 
--- the faults of engines that read files one by one
-abbrev pub of_cli : Result Status CliFault → Result Status PlanFault
-of_cli (Ok status) = Ok status
-of_cli (Err fault) = Err (Cli fault)
+pub record IsReplayRun (told : Input → Option (List ℕ)) (out : Writing) (result : Result Status ReplayFault) : Type 0 where
+  pub model : Reading
+  pub precedence : Reading
+  pub history : Reading
+  pub model_is : model.before ≡ told Model
+  pub precedence_is : precedence.before ≡ told Precedence
+  pub history_is : history.before ≡ told History
+  pub gives : IsResultOf (replay_run model precedence history out) tt result
 
--- `value` or `check`: the first file that doesn't open is the fault, and then the output is left alone; nothing is reported
-pub record IsFileRun (Run : Result Status CliFault → Type 0) (opens : Input → Option Bool) (inputs : List Input) (IsUntouched IsQuiet : Type 0) (result : Result Status PlanFault) : Type 0 where
-  pub answer : Result Status CliFault
-  pub runs : OpensEach opens inputs (λ input. (answer ≡ Err (CannotRead input)) × IsUntouched) (Run answer)
-  pub is : result ≡ of_cli answer
+-- ---- the faults of the engines
+
+abbrev pub of_cli : Result Status CliFault → Result Status EngineFault
+of_cli (Ok status) = Ok status
+of_cli (Err fault) = Err (engine.Cli fault)
+
+abbrev pub of_plan : Result Status PlanFault → Result Status EngineFault
+of_plan (Ok status) = Ok status
+of_plan (Err fault) = Err (engine.Plan fault)
+
+abbrev pub of_replay : Result Status ReplayFault → Result Status EngineFault
+of_replay (Ok status) = Ok status
+of_replay (Err fault) = Err (engine.Replay fault)
+
+-- ---- runs
+
+-- `value`, `check` or `replay`: the first file that doesn't open is the fault, and then the output is left alone; nothing is reported
+pub record IsFileRun {F : Type 0} (at : CliFault → F) (up : Result Status F → Result Status EngineFault) (Run : Result Status F → Type 0) (opens : Input → Option Bool) (inputs : List Input) (IsUntouched IsQuiet : Type 0) (result : Result Status EngineFault) : Type 0 where
+  pub answer : Result Status F
+  pub runs : OpensEach opens inputs (λ input. (answer ≡ Err (at (CannotRead input))) × IsUntouched) (Run answer)
+  pub is : result ≡ up answer
   pub quiet : IsQuiet
 
-pub record IsPlanOf (opens : Input → Option Bool) (told : Input → Option (List ℕ)) (given : ArgMatches) (out lines : Writing) (result : Result Status PlanFault) : Type 0 where
+pub record IsPlanOf (opens : Input → Option Bool) (told : Input → Option (List ℕ)) (keeps : Option Bool) (given : ArgMatches) (out lines : Writing) (result : Result Status PlanFault) : Type 0 where
   pub retries : ℕ
   pub retries_are : IsRetries given retries
-  pub runs : IsPlanRun opens told given retries out lines result
+  pub runs : IsPlanRun opens told keeps given retries out lines result
+
+pub record IsPlanning (opens : Input → Option Bool) (told : Input → Option (List ℕ)) (keeps : Option Bool) (given : ArgMatches) (out lines : Writing) (result : Result Status EngineFault) : Type 0 where
+  pub answer : Result Status PlanFault
+  pub runs : IsPlanOf opens told keeps given out lines answer
+  pub is : result ≡ of_plan answer
 
 -- the result is that of an engine on the files of its inputs
-abbrev pub IsRunOf : Engine → (Input → Option Bool) → (Input → Option (List ℕ)) → ArgMatches → Type 0 → Type 0 → Writing → Writing → Result Status PlanFault → Type 0
-IsRunOf Value opens told given IsUntouched IsQuiet out lines = IsFileRun (IsValueRun told out) opens (inputs_of Value) IsUntouched IsQuiet
-IsRunOf Check opens told given IsUntouched IsQuiet out lines = IsFileRun (IsCheckRun told out) opens (inputs_of Check) IsUntouched IsQuiet
-IsRunOf Plan opens told given IsUntouched IsQuiet out lines = IsPlanOf opens told given out lines
+abbrev pub IsRunOf : Engine → (Input → Option Bool) → (Input → Option (List ℕ)) → Option Bool → ArgMatches → Type 0 → Type 0 → Writing → Writing → Result Status EngineFault → Type 0
+IsRunOf Value opens told keeps given IsUntouched IsQuiet out lines = IsFileRun (λ fault. fault) of_cli (IsValueRun told out) opens (inputs_of Value) IsUntouched IsQuiet
+IsRunOf Check opens told keeps given IsUntouched IsQuiet out lines = IsFileRun (λ fault. fault) of_cli (IsCheckRun told out) opens (inputs_of Check) IsUntouched IsQuiet
+IsRunOf Plan opens told keeps given IsUntouched IsQuiet out lines = IsPlanning opens told keeps given out lines
+IsRunOf Replay opens told keeps given IsUntouched IsQuiet out lines = IsFileRun replay.Cli of_replay (IsReplayRun told out) opens (inputs_of Replay) IsUntouched IsQuiet

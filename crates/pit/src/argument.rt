@@ -1,7 +1,7 @@
-//! The arguments of the command line, by the inputs whose paths they are.
+//! The arguments of the command line, by the inputs and the output whose paths they are.
 ghost use Rattle.std.specs.Prelude.{◌≡◌, ◌≤◌, length, option_map, slice_get};
 ghost use Rattle.pit_job.specs.declared.planner_run.TheConstants.{RETRIES_MAX};
-ghost use Rattle.pit.specs.Asked.{argument_of, path_of, scripts_of, retries_in, IsRetries};
+ghost use Rattle.pit.specs.Asked.{argument_of, path_of, scripts_of, history_path, retries_in, IsRetries};
 
 use clap::ArgMatches;
 use pit_cli::Input;
@@ -9,6 +9,9 @@ use pit_job::RETRIES_MAX;
 
 /// The name of the option for the number of retries.
 pub const RETRIES: &str = "retries";
+
+/// The name of the option for the file of the history.
+pub const HISTORY: &str = "history";
 
 /// The number of retries where the words give none.
 const RETRIES_UNSAID: u32 = 3;
@@ -60,6 +63,13 @@ pub fn script_count(given: &ArgMatches<'_>) -> usize
         Some(paths) => paths.len(),
         None => 0,
     }
+}
+
+/// The path that the words give for the history that is written.
+pub fn history_path<'a>(given: &ArgMatches<'a>) -> Option<&'a str>
+    ensures { option_map (λ path. path.now) result ≡ history_path given.now }
+{
+    given.get_str(HISTORY)
 }
 
 /// The number of retries that the words give, no more than there may be; or 3.

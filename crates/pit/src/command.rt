@@ -6,12 +6,12 @@ ghost use Rattle.clap.specs.Matches.{found_of};
 ghost use Rattle.clap.specs.Kinds.{FailsBy};
 ghost use Rattle.clap.specs.Faults.{fault_of};
 ghost use Rattle.clap.specs.declared.builder.command.Command.TheViews.{out-Command as fields_of};
-ghost use Rattle.pit.specs.Command.{AsksAll, app_with, pit_app, value_shape, check_shape, plan_files_shape, plan_shape, file_rule, option_rule, retries_rule, scripts_rule, IsSubcommand};
+ghost use Rattle.pit.specs.Command.{AsksAll, app_with, pit_app, value_shape, check_shape, plan_files_shape, plan_shape, replay_shape, file_rule, option_rule, history_rule, retries_rule, scripts_rule, IsSubcommand};
 ghost use Rattle.clap.specs.Values.{kind_of};
 ghost use Rattle.clap.specs.declared.error.kind.ErrorKind.TheVariants.{OutOfMemory};
 
-use crate::argument::{RETRIES, argument_of};
-use crate::engine::{CHECK, PLAN, VALUE};
+use crate::argument::{HISTORY, RETRIES, argument_of};
+use crate::engine::{CHECK, PLAN, REPLAY, VALUE};
 use crate::fault::Fault;
 use clap::error::ErrorKind;
 use clap::{Arg, ArgAction, ArgMatches, Command, Error, value_parser};
@@ -28,9 +28,9 @@ Blocks, periods and resources are numbered from 0. The model's discount rate is 
 10 % a period. A section of the model whose name is misspelt may be skipped with its lines.
 docs/FORMATS.md has every form and fault line.
 
-Status: 0 where all is well, 1 where a breach or a shortfall was printed, 2 where an input or the
-command line is refused, 3 where memory, a device or a thread is wanting, or a planner stopped. Of
-2 and 3 standard error says why.";
+Status: 0 where all is well, 1 where a breach, a shortfall or `illegal` was printed, 2 where an
+input or the command line is refused, 3 where memory, a device or a thread is wanting, or a planner
+stopped. Of 2 and 3 standard error says why.";
 
 const VALUE_NOTES: &str = "\
 Prints the sum of the profits, each times the factor of its period, with 18 digits. Blocks and
@@ -66,14 +66,27 @@ between `begin` and `commit` or `abort`:
 A job is committed as a whole, where it read what the schedule then held and breaks no precedence
 and no upper limit; else it is refused, and one that met a change of another planner is repeated.
 Standard output is the solution that is left. Standard error tells of each job, the value, and
-`short RESOURCE PERIOD LOAD LIMIT` for each load below its lower limit. Blocks, periods and
-resources are numbered from 0, planners and jobs from 1. docs/FORMATS.md has every form.
+`short RESOURCE PERIOD LOAD LIMIT` for each load below its lower limit. Behind them the history
+is written, if a file is named for it. Blocks, periods and resources are numbered from 0, planners
+and jobs from 1. docs/FORMATS.md has every form.
 
 Status: 0 where all is well, 1 where a load falls short, 2 where an input or the command line is
 refused, 3 where memory, a device or a thread is wanting, or a planner stopped.
 
 Example:
   pit plan tiny.cpit tiny.prec --blocks tiny.blocks one.script two.script";
+
+const REPLAY_NOTES: &str = "\
+Goes over a history that `plan` wrote, entry by entry, from an empty schedule. Prints
+`legal ENTRIES COMMITS` and `value V` where each entry has the reply that was due; or else
+`illegal PLACE`, the place of the first that hasn't, counted from 1, the format's line not among
+them. docs/FORMATS.md has every form and fault line.
+
+Status: 0 where it printed `legal`, 1 where it printed `illegal`, 2 where an input or the command
+line is refused, 3 where memory or a device is wanting. Of 2 and 3 a line on standard error says why.
+
+Example:
+  pit replay tiny.cpit tiny.prec tiny.history";
 
 /// The words of the command line, the program's name first.
 pub fn words(rt: &HostRuntime) -> Result<Vec<String>, Fault> {
@@ -92,10 +105,18 @@ pub fn command<'a>(alloc: Global) -> Result<Command<'a>, AllocError>
     ensures app { IfOk result (λ c. app_of c ≡ pit_app) }
     ensures local { IfOk result (λ c. (fields_of c).has_globals ≡ false) }
 {
+    with_plan(alloc)?.subcommand(replay_command(alloc)?)
+}
+
+/// `pit`, with all subcommands but the last.
+fn with_plan<'a>(alloc: Global) -> Result<Command<'a>, AllocError>
+    ensures app { IfOk result (λ c. app_of c ≡ app_with (value_shape ∷ check_shape ∷ plan_shape ∷ [])) }
+    ensures local { IfOk result (λ c. (fields_of c).has_globals ≡ false) }
+{
     of_files(alloc)?.subcommand(plan_command(alloc)?)
 }
 
-/// `pit`, with the subcommands that read files alone.
+/// `pit`, with the subcommands that look at one solution.
 fn of_files<'a>(alloc: Global) -> Result<Command<'a>, AllocError>
     ensures app { IfOk result (λ c. app_of c ≡ app_with (value_shape ∷ check_shape ∷ [])) }
     ensures local { IfOk result (λ c. (fields_of c).has_globals ≡ false) }
@@ -158,8 +179,20 @@ fn plan_command<'a>(alloc: Global) -> Result<Command<'a>, AllocError>
 {
     plan_files(alloc)?
         .arg(option(alloc, Input::Start))?
+        .arg(history(alloc))?
         .arg(retries(alloc))?
         .arg(scripts(alloc))
+}
+
+fn replay_command<'a>(alloc: Global) -> Result<Command<'a>, AllocError>
+    ensures { IfOk result (IsSubcommand replay_shape) }
+{
+    Command::new(alloc, REPLAY)
+        .about("Audits a history, and prints what the schedule is worth that it leaves")
+        .after_help(REPLAY_NOTES)
+        .arg(file(alloc, Input::Model))?
+        .arg(file(alloc, Input::Precedence))?
+        .arg(file(alloc, Input::History))
 }
 
 /// The argument for an input.
@@ -181,6 +214,17 @@ fn option<'a>(alloc: Global, input: Input) -> Arg<'a>
         .long(argument_of(input))
         .value_name("FILE")
         .help(help_of(input))
+}
+
+/// The option for the file of the history.
+fn history<'a>(alloc: Global) -> Arg<'a>
+    ensures rule { rule_of result ≡ history_rule }
+    ensures local { result.global ≡ false }
+{
+    Arg::new(alloc, HISTORY)
+        .long(HISTORY)
+        .value_name("FILE")
+        .help("Where the history is written, a line of JSON for each ending; `replay` reads it")
 }
 
 /// The option for the number of retries.
@@ -222,7 +266,7 @@ fn help_of<'a>(input: Input) -> &'a str {
         }
         Input::Start => "A solution that the schedule begins with; without it no block is mined",
         Input::Script(_) => "A script of jobs for each planner, 1 to 64 of them",
-        Input::History => "The history: a line of JSON for its format, and one for each entry",
+        Input::History => "The history: the lines of JSON that `plan --history` wrote",
         Input::Solution => {
             "The solution: `BLOCK PERIOD` or `BLOCK DESTINATION PERIOD PART` for a mined block"
         }

@@ -1,10 +1,9 @@
 //! How the program ends.
 ghost use Rattle.std.specs.Prelude.{◌≡◌, ◌≤◌};
 ghost use Rattle.std.specs.Process.{exit_status};
-ghost use Rattle.pit_planning.specs.Statuses.{plan_fault_status};
-ghost use Rattle.pit.specs.Ending.{IsCommandStatus, IsStatusOf};
+ghost use Rattle.pit.specs.Ending.{engine_fault_status, IsCommandStatus, IsStatusOf};
 
-use crate::fault::Fault;
+use crate::fault::{EngineFault, Fault};
 use pit_cli::{CliFault, Status};
 use pit_planning::PlanFault;
 use std::process::ExitCode;
@@ -24,11 +23,11 @@ pub fn ended(rt: &HostRuntime, answer: Result<Status, Fault>) -> ExitCode
 }
 
 /// Prints the line of a fault, which a planner that stopped has in the report. The status is the fault's, whether or not the line could be written.
-fn with_fault(rt: &HostRuntime, fault: &PlanFault) -> u8
-    ensures is { result ≡ plan_fault_status fault.now }
+fn with_fault(rt: &HostRuntime, fault: &EngineFault) -> u8
+    ensures is { result ≡ engine_fault_status fault.now }
     ensures range { (2 ≤ result) × (result ≤ 3) }
 {
-    if *fault != PlanFault::Stopped {
+    if *fault != EngineFault::Plan(PlanFault::Stopped) {
         let _ = rt.eprintln(fault);
     }
     fault.status()
@@ -43,7 +42,7 @@ fn with_command(rt: &HostRuntime, error: &clap::Error) -> u8
         return REFUSED;
     }
     if rt.print(error).is_err() {
-        return with_fault(rt, &PlanFault::Cli(CliFault::CannotWrite));
+        return with_fault(rt, &EngineFault::Cli(CliFault::CannotWrite));
     }
     0
 }

@@ -15,6 +15,8 @@ pub enum Engine {
     Check,
     /// Has planners do their scripts on one schedule, and prints the solution that is left.
     Plan,
+    /// Audits a history, and prints what it leaves is worth.
+    Replay,
 }
 
 /// The subcommand that asks for `Engine::Value`.
@@ -26,6 +28,9 @@ pub const CHECK: &str = "check";
 /// The subcommand that asks for `Engine::Plan`.
 pub const PLAN: &str = "plan";
 
+/// The subcommand that asks for `Engine::Replay`.
+pub const REPLAY: &str = "replay";
+
 /// The engine that a subcommand asks for.
 #[tactic(auto, unfolding(crate::specs::Asked::engine_of))]
 fn engine_of(name: &str) -> Option<Engine>
@@ -35,6 +40,7 @@ fn engine_of(name: &str) -> Option<Engine>
         VALUE => Some(Engine::Value),
         CHECK => Some(Engine::Check),
         PLAN => Some(Engine::Plan),
+        REPLAY => Some(Engine::Replay),
         _ => None,
     }
 }

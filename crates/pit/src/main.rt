@@ -7,8 +7,10 @@ mod ending;
 mod engine;
 mod fault;
 mod files;
+mod kept;
 mod plan_files;
 mod runs;
+mod streams;
 
 use clap::error::ErrorKind;
 use engine::asked;
@@ -21,6 +23,7 @@ use std::sync::Wait;
 use std::thread::Threads;
 
 fn main(rt: HostRuntime) -> ExitCode {
+    let _held = streams::hold(&rt);
     let answer = answer(&rt, &rt);
     ending::ended(&rt, answer)
 }

@@ -1,22 +1,24 @@
 //! The runs of the engines on the files that the words name. Files are opened in the order of the words, and each before one is read.
 ghost use Rattle.std.specs.Prelude.{◌≡◌};
 ghost use Rattle.pit_cli.specs.Devices.{writing_of};
-ghost use Rattle.pit.specs.declared.engine.Engine.TheVariants.{Value as value_engine, Check as check_engine};
-ghost use Rattle.pit.specs.Runs.{file_bytes, file_opens, inputs_of, of_cli, OpensEach, IsRunOf, IsValueRun, IsCheckRun, IsPlanOf};
+ghost use Rattle.pit.specs.declared.engine.Engine.TheVariants.{Value as value_engine, Check as check_engine, Replay as replay_engine};
+ghost use Rattle.pit.specs.Runs.{file_bytes, file_opens, history_opens, inputs_of, of_cli, of_plan, of_replay, OpensEach, IsRunOf, IsValueRun, IsCheckRun, IsPlanOf, IsReplayRun};
 
 use crate::argument::retries_of;
 use crate::engine::Engine;
-use crate::files::{Disk, opened};
+use crate::fault::EngineFault;
+use crate::files::{Disk, history_file, opened};
 use crate::plan_files::plan_input;
 use clap::ArgMatches;
 use pit_cli::{CliFault, Input, Status, check, value};
 use pit_num::Sink;
 use pit_planning::{PlanFault, plan};
+use pit_replay::{ReplayFault, replay};
 use std::alloc::Global;
 use std::sync::Wait;
 use std::thread::Threads;
 
-/// Runs an engine. Only `plan` writes a report. The first input whose file can't be opened is answered, and then nothing is written.
+/// Runs an engine. Only `plan` writes a report, and a history. The first input whose file can't be opened is answered, and then nothing is written.
 pub fn run<D: Disk, R: Threads + Wait + Sync, W: Sink, L: Sink>(
     alloc: Global,
     disk: &D,
@@ -25,27 +27,47 @@ pub fn run<D: Disk, R: Threads + Wait + Sync, W: Sink, L: Sink>(
     given: &ArgMatches<'_>,
     out: &mut W,
     report: &mut L,
-) -> Result<Status, PlanFault>
+) -> Result<Status, EngineFault>
     ensures { let opens = file_opens (D.opens_at disk.now) given.now in
         let told = file_bytes (D.bytes_at disk.now) given.now in
         let written = writing_of (W.contents out.old) (W.contents out.new) (W.has_failed out.new) in
         let lines = writing_of (L.contents report.old) (L.contents report.new) (L.has_failed report.new) in
-        IsRunOf engine opens told given.now (out.new ≡ out.old) (report.new ≡ report.old) written lines result }
+        let keeps = history_opens (D.keeps_at disk.now) given.now in
+        IsRunOf engine opens told keeps given.now (out.new ≡ out.old) (report.new ≡ report.old) written lines result }
 {
     match engine {
         Engine::Value => of_cli(run_value(alloc, disk, given, out)),
         Engine::Check => of_cli(run_check(alloc, disk, given, out)),
-        Engine::Plan => run_plan(alloc, disk, rt, given, out, report),
+        Engine::Plan => of_plan(run_plan(alloc, disk, rt, given, out, report)),
+        Engine::Replay => of_replay(run_replay(alloc, disk, given, out)),
     }
 }
 
 /// The answer of an engine whose faults are those of inputs and outputs.
-fn of_cli(answer: Result<Status, CliFault>) -> Result<Status, PlanFault>
+fn of_cli(answer: Result<Status, CliFault>) -> Result<Status, EngineFault>
     ensures { result ≡ of_cli answer }
 {
     match answer {
         Ok(status) => Ok(status),
-        Err(fault) => Err(PlanFault::Cli(fault)),
+        Err(fault) => Err(EngineFault::Cli(fault)),
+    }
+}
+
+fn of_plan(answer: Result<Status, PlanFault>) -> Result<Status, EngineFault>
+    ensures { result ≡ of_plan answer }
+{
+    match answer {
+        Ok(status) => Ok(status),
+        Err(fault) => Err(EngineFault::Plan(fault)),
+    }
+}
+
+fn of_replay(answer: Result<Status, ReplayFault>) -> Result<Status, EngineFault>
+    ensures { result ≡ of_replay answer }
+{
+    match answer {
+        Ok(status) => Ok(status),
+        Err(fault) => Err(EngineFault::Replay(fault)),
     }
 }
 
@@ -84,6 +106,33 @@ fn run_check<D: Disk, W: Sink>(
     check(alloc, &mut model, &mut precedence, &mut solution, out)
 }
 
+fn run_replay<D: Disk, W: Sink>(
+    alloc: Global,
+    disk: &D,
+    given: &ArgMatches<'_>,
+    out: &mut W,
+) -> Result<Status, ReplayFault>
+    ensures { let told = file_bytes (D.bytes_at disk.now) given.now in
+        let written = writing_of (W.contents out.old) (W.contents out.new) (W.has_failed out.new) in
+        OpensEach (file_opens (D.opens_at disk.now) given.now) (inputs_of replay_engine)
+        (λ input. (result ≡ Err (ReplayFault.Cli (CliFault.CannotRead input))) × (out.new ≡ out.old))
+        (IsReplayRun told written result) }
+{
+    let mut model = match opened(disk, given, Input::Model) {
+        Ok(file) => file,
+        Err(fault) => return Err(ReplayFault::Cli(fault)),
+    };
+    let mut precedence = match opened(disk, given, Input::Precedence) {
+        Ok(file) => file,
+        Err(fault) => return Err(ReplayFault::Cli(fault)),
+    };
+    let mut history = match opened(disk, given, Input::History) {
+        Ok(file) => file,
+        Err(fault) => return Err(ReplayFault::Cli(fault)),
+    };
+    replay(alloc, alloc, &mut model, &mut precedence, &mut history, out)
+}
+
 fn run_plan<D: Disk, R: Threads + Wait + Sync, W: Sink, L: Sink>(
     alloc: Global,
     disk: &D,
@@ -96,11 +145,17 @@ fn run_plan<D: Disk, R: Threads + Wait + Sync, W: Sink, L: Sink>(
         let told = file_bytes (D.bytes_at disk.now) given.now in
         let written = writing_of (W.contents out.old) (W.contents out.new) (W.has_failed out.new) in
         let lines = writing_of (L.contents report.old) (L.contents report.new) (L.has_failed report.new) in
-        IsPlanOf opens told given.now written lines result }
+        let keeps = history_opens (D.keeps_at disk.now) given.now in
+        IsPlanOf opens told keeps given.now written lines result }
 {
     let retries = retries_of(given);
-    match plan_input(alloc, disk, given) {
-        Ok(input) => plan(alloc, rt, input, retries, out, report),
-        Err(fault) => Err(PlanFault::Cli(fault)),
-    }
+    let input = match plan_input(alloc, disk, given) {
+        Ok(input) => input,
+        Err(fault) => return Err(PlanFault::Cli(fault)),
+    };
+    let mut history = match history_file(disk, given) {
+        Ok(history) => history,
+        Err(fault) => return Err(PlanFault::Cli(fault)),
+    };
+    plan(alloc, rt, input, retries, out, report, &mut history)
 }
