@@ -15,7 +15,8 @@ SOURCES := crates.txt $(shell find crates -name out -prune -o -type f '(' -name 
 demo: pit
 	./pit value $(EXAMPLE)/tiny.cpit $(EXAMPLE)/tiny.sol
 	./pit check $(EXAMPLE)/tiny.cpit $(EXAMPLE)/tiny.prec $(EXAMPLE)/tiny.sol
-	./pit plan $(EXAMPLE)/tiny.cpit $(EXAMPLE)/tiny.prec $(EXAMPLE)/first.script $(EXAMPLE)/second.script
+	./pit plan $(EXAMPLE)/tiny.cpit $(EXAMPLE)/tiny.prec --history demo.history $(EXAMPLE)/first.script $(EXAMPLE)/second.script
+	./pit replay $(EXAMPLE)/tiny.cpit $(EXAMPLE)/tiny.prec demo.history
 
 # Only a proved program is built: the command checks every crate below it, and then runs what it built.
 pit: $(SOURCES)
@@ -29,10 +30,11 @@ test:
 	rt ci
 	tests/cli.sh $(PROVED)
 	tests/no_memory.sh $(PROVED) $(EXAMPLE)
+	tests/replay.sh $(PROVED)
 	tests/misuse.sh
 
 audit:
 	audit/run.sh
 
 clean:
-	rm -rf pit crates/*/out
+	rm -rf pit demo.history crates/*/out

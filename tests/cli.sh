@@ -192,6 +192,79 @@ else
     check 'no permission to read the model' 3 '' 'pit: cannot read model' value secret solution
 fi
 
+# Histories. That of a plan is written behind its report.
+readonly HISTORY='{"format":1}
+{"act":"commit","job":1,"planner":1,"reads":[],"reply":{"committed":1},"start":0,"writes":[[0,0],[1,0]]}
+{"act":"commit","job":2,"planner":1,"reads":[],"reply":{"over":[0,0,"5000000","4000000"]},"start":1,"writes":[[3,0]]}
+{"act":"commit","job":3,"planner":1,"reads":[],"reply":{"committed":2},"start":1,"writes":[[3,1]]}'
+readonly LEGAL='legal 3 2
+value 15.045454545455000000'
+
+# kept NAME FILE TEXT: compares what a file holds.
+kept() {
+    status=0
+    fits "$2" "$3" || status=other
+    : >out
+    : >err
+    compare "$1" 0 '' ''
+}
+check 'plan with a history' 0 "$PLANNED" "$REPORT" plan --history kept model precedence script
+kept 'the history' kept "$HISTORY"
+head -c 10000 /dev/zero | tr '\0' x >longer
+check 'plan with a history over a longer file' 0 "$PLANNED" "$REPORT" plan model precedence script --history=longer
+kept 'the longer file is cut' longer "$HISTORY"
+check 'plan, a history with revised limits' 1 '0 0
+1 0
+3 0' 'planner 1 job 1 committed 2 tries 1
+planner 1 job 2 committed 3 tries 1
+value 15.500000000000000000
+short 0 1 0.000000 1.000000' plan --start solution model precedence revised --history second_format
+check 'replay' 0 "$LEGAL" '' replay model precedence kept
+check 'replay, revised limits' 0 'legal 3 3
+value 15.500000000000000000' '' replay model precedence second_format
+head -c -1 kept >cut
+check 'replay, no last line feed' 0 "$LEGAL" '' replay model precedence cut
+head -1 kept >first
+check 'replay, no entry' 0 'legal 0 0
+value 0.000000000000000000' '' replay model precedence first
+sed 's/{"committed":2}/{"committed":3}/' kept >other
+check 'replay, another reply' 1 'illegal 3' '' replay model precedence other
+sed 's/\[3,0\]/[4,0]/' kept >other
+check 'replay, a block that is not there' 1 'illegal 2' '' replay model precedence other
+sed 's/,/ , /g; s/:/\t:/g; s/$/\r/' kept >spaced
+check 'replay, white space' 0 "$LEGAL" '' replay model precedence spaced
+check 'replay, an empty history' 2 '' 'pit: history line 1: not format 1 or 2' replay model precedence empty
+printf '{"format":3}\n' >other
+check 'replay, no such format' 2 '' 'pit: history line 1: not format 1 or 2' replay model precedence other
+check 'replay, a history that is no JSON' 2 '' 'pit: history line 1: not json' replay model precedence refused
+sed '3s/.*/{}/; 4s/.*/{/' kept >other
+check 'replay, an entry that is none' 2 '' 'pit: history line 3: bad entry' replay model precedence other
+head -c -9 kept >other
+check 'replay, a history that is cut' 2 '' 'pit: history line 4: not json' replay model precedence other
+check 'replay, a limit below zero, behind the history' 2 '' 'pit: history line 3: bad entry' replay unmeetable precedence <(sed '3s/.*/{}/' kept)
+check 'replay, a limit below zero' 2 '' 'pit: model: upper limit below zero 0 0' replay unmeetable precedence kept
+check 'replay, a bad model' 2 '' 'pit: model line 2: missing TYPE' replay refused refused refused
+check 'replay, bad precedences' 2 '' 'pit: precedence line 1: bad number' replay model refused refused
+check 'replay, no file at all' 3 '' 'pit: cannot read model' replay missing missing missing
+check 'replay, no precedences' 3 '' 'pit: cannot read precedence' replay refused missing missing
+check 'replay, no history' 3 '' 'pit: cannot read history' replay refused refused missing
+check 'replay, the history is a folder' 3 '' 'pit: cannot read history' replay model precedence folder
+# The history's file is opened once all inputs are read, and before one is parsed; until it is written it stays as it was.
+cp kept before
+check 'plan, a fault behind the opening' 2 '' 'pit: script 1 line 1: unknown word' plan --history before model precedence refused
+kept 'the old history' before "$HISTORY"
+check 'plan, a history that does not open' 3 '' 'pit: cannot write' plan --history folder refused refused refused
+check 'plan, an input that does not open goes first' 3 '' 'pit: cannot read script 1' plan --history folder refused refused missing
+check 'plan, an input that cannot be read goes first' 3 '' 'pit: cannot read script 1' plan --history folder refused refused folder
+check 'plan, no folder for the history' 3 '' 'pit: cannot write' plan --history missing/kept model precedence script
+check 'plan, a full history' 3 "$PLANNED" "$REPORT
+pit: cannot write" plan --history /dev/full model precedence script
+"$pit" plan --history >(cat >piped) model precedence script >out 2>err
+status=$?
+for i in {1..100}; do [ "$(wc -l <piped)" -ge 4 ] && break; sleep 0.05; done
+compare 'plan, a history to a pipe' 0 "$PLANNED" "$REPORT"
+kept 'the history that went through it' piped "$HISTORY"
+
 # Outputs that take nothing.
 : >out
 "$pit" value model solution 2>err >/dev/full
@@ -219,6 +292,29 @@ compare 'plan with a closed standard error' 3 "$PLANNED" ''
 "$pit" plan model precedence script >out 2>/dev/full
 status=$?
 compare 'plan with a full standard error' 3 "$PLANNED" ''
+# No file takes the place of a stream that is closed.
+"$pit" plan --history low model precedence script >out 2>&-
+status=$?
+: >err
+compare 'plan with a history and a closed standard error' 3 "$PLANNED" ''
+kept 'the history holds no report' low ''
+"$pit" plan --history low model precedence script 2>err >&-
+status=$?
+: >out
+compare 'plan with a history and a closed output' 3 '' 'pit: cannot write'
+kept 'the history holds no solution' low ''
+"$pit" plan --history low model precedence script <&- >&- 2>&-
+status=$?
+: >out
+: >err
+compare 'plan with a history and no stream' 3 '' ''
+kept 'the history holds nothing' low ''
+"$pit" replay model precedence kept 2>err >/dev/full
+status=$?
+compare 'replay to a full output' 3 '' 'pit: cannot write'
+"$pit" replay model precedence kept 2>err >&-
+status=$?
+compare 'replay to a closed output' 3 '' 'pit: cannot write'
 : >out
 # The reader is gone before the program starts.
 mkfifo nobody
@@ -258,6 +354,10 @@ check 'plan, retries below zero' 2 '' "$SOME" plan --retries=-1 model precedence
 check 'plan, retries that are no number' 2 '' "$SOME" plan --retries few model precedence script
 check 'plan, retries twice' 2 '' "$SOME" plan --retries 1 --retries 2 model precedence script
 check 'plan, an option without its file' 2 '' "$SOME" plan model precedence script --start
+check 'plan, a history without its file' 2 '' "$SOME" plan model precedence script --history
+check 'plan, two histories' 2 '' "$SOME" plan --history one --history two model precedence script
+check 'replay, two files' 2 '' "$SOME" replay model precedence
+check 'replay, four files' 2 '' "$SOME" replay model precedence kept kept
 check 'no such option' 2 '' "$SOME" value --fast model solution
 check 'help on no such subcommand' 2 '' "$SOME" help valu
 check 'a word that is not UTF-8' 2 '' "$SOME" value $'\xff' solution
@@ -294,9 +394,14 @@ grep -q 'over RESOURCE PERIOD LOAD LIMIT' out && grep -q 'numbered' out && grep 
 compare 'help on check tells what is printed, and the statuses' 0 '' ''
 check 'help on plan' 0 "$SOME" '' plan --help
 status=0
-grep -q 'begin' out && grep -q 'revise R T V' out && grep -q -- '--retries' out && grep -q '^Status: 0 ' out || status=lacking
+grep -q 'begin' out && grep -q 'revise R T V' out && grep -q -- '--retries' out && grep -q -- '--history' out && grep -q '^Status: 0 ' out || status=lacking
 : >out
 compare 'help on plan tells of scripts, options and statuses' 0 '' ''
+check 'help on replay' 0 "$SOME" '' replay --help
+status=0
+grep -q 'legal ENTRIES COMMITS' out && grep -q 'illegal PLACE' out && grep -q '^Status: 0 ' out || status=lacking
+: >out
+compare 'help on replay tells what is printed, and the statuses' 0 '' ''
 check 'version' 0 'pit 0.1.0' '' --version
 check 'version, short' 0 'pit 0.1.0' '' -V
 check 'version of a subcommand' 2 '' "$SOME" value --version
@@ -321,6 +426,12 @@ compare 'no memory for the solution' 3 '' 'pit: no memory'
 ) >out 2>err
 status=$?
 compare 'no memory for a script' 3 '' 'pit: no memory'
+(
+    ulimit -v 200000
+    exec "$pit" replay model precedence large
+) >out 2>err
+status=$?
+compare 'no memory for a history' 3 '' 'pit: no memory'
 
 
 # Too little memory for the threads of 64 planners: the report says who wasn't started, the others do their scripts, and the solution is printed.
@@ -329,7 +440,7 @@ scripts=()
 for i in {1..64}; do scripts+=(late); done
 (
     ulimit -v 60000
-    exec "$pit" plan model precedence "${scripts[@]}"
+    exec "$pit" plan --history stopped model precedence "${scripts[@]}"
 ) >out 2>err
 status=$?
 awk '
@@ -340,6 +451,11 @@ awk '
     END { exit !(refused && done && value && !other) }' err || status=lacking
 : >err
 compare 'plan, threads that cannot be started' 3 '3 1' ''
+
+"$pit" replay model precedence stopped >out 2>err
+status=$?
+compare 'replay of planners who were not all started' 0 "legal $(($(wc -l <stopped) - 1)) $(($(wc -l <stopped) - 1))
+value 4.545454545455000000" ''
 
 if [ "$failures" -ne 0 ]; then
     echo "$failures failed"
