@@ -1,3 +1,4 @@
 pub mod Scripts
 pub mod Wanting
 pub mod Left
+pub mod Closed

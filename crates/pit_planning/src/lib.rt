@@ -6,6 +6,7 @@
 #![tactic(auto)]
 
 mod engine;
+pub mod laws;
 mod micro;
 mod plan_fault;
 mod plan_input;

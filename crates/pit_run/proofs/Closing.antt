@@ -1,16 +1,20 @@
 -- A closed history after a run.
 use Rattle.std.proofs.lemmas.List.Elements.{All-nil, All-cons, All-head, All-tail}
-use Rattle.std.proofs.lemmas.Option.{slice_get_within, get_or_from_slice_get}
+use Rattle.std.proofs.lemmas.Option.{slice_get_within, slice_get-get_or, get_or_from_slice_get}
 use Rattle.std.proofs.lemmas.Bool.Decides.{nat_tests}
 use Rattle.std.proofs.Common.{◌≡◌, ℕ, zero, suc, ◌+◌, ◌<◌, ◌≤◌, ◌==◌, Bool, true, false, List, [], ◌∷◌, length, get_or, drop, add-zero, zero-add, refl, sym, ap, subst, ◌∙◌, arith, inl, inr}
-use Rattle.std.specs.Prelude.{All, Option, Some, None, slice_get, if◌then◌else◌, ◌⊎◌, ℤ}
+use Rattle.std.specs.Prelude.{All, Option, Some, None, slice_get, if◌then◌else◌, ◌⊎◌}
 use Rattle.pit_model.specs.Pit.{Pit}
-use Rattle.pit_book.specs.History.{Answered}
-use Rattle.pit_book.specs.State.{State}
+use Rattle.pit_plan.specs.Schedule.{Commit, held_period, value_of}
+use Rattle.pit_plan.specs.Standing.{IsPlanOf}
+use Rattle.pit_plan.proofs.Same.{same-value}
+use Rattle.pit_book.specs.History.{Answered, commits_of}
+use Rattle.pit_book.specs.State.{State, IsDeskKept}
+use Rattle.pit_book.proofs.OneThread.{one-thread}
 use Rattle.pit_book.specs.OneThread.{IsOfOneThread, held_period_after}
 use Rattle.pit_book.specs.declared.reply.EntryReply.TheVariants as reply
 use Rattle.pit_script.specs.Jobs.{Job}
-use Rattle.pit_share.specs.Logs.{entries_of}
+use Rattle.pit_share.specs.Logs.{entries_of, IsPlanner}
 use Rattle.pit_effect.proofs.CallerLemmas.{committed-effect}
 use Rattle.pit_job.specs.Runs.{RanFrom}
 use Rattle.pit_job.specs.Laws.{HasOwnEffect, WroteEffect}
@@ -59,21 +63,52 @@ script-effects pit retries k s es r ran = by ran.ran
     by (inl h) = own-effects pit retries 1 s es r.jobs r.ended h
     by (inr n) = subst (All (λ e. HasOwnEffect pit 1 s e)) (sym n.none) (All-nil (λ e. HasOwnEffect pit 1 s e))
 
+-- a history that a desk keeps is one of one thread
+kept-one-thread : (pit : Pit) (desk : State) → IsDeskKept desk → desk.plan.pit ≡ pit → IsOfOneThread pit desk.history (value_of pit (held_period (commits_of desk.history)))
+kept-one-thread pit desk kept same =
+    let commits : List Commit = commits_of desk.history in
+    let stands : IsPlanOf desk.plan commits = kept.follows.stands in
+    subst (λ (p : Pit). IsOfOneThread p desk.history (value_of p (held_period commits))) same
+    (one-thread desk.plan desk.history (value_of desk.plan.pit (held_period commits)) kept.follows
+    (λ others too. same-value desk.plan.pit (held_period commits) (held_period others) (λ b below. sym (stands.period b below) ∙ too.period b below)))
+
+pub of-one-thread : (pit : Pit) (opening : List Answered) (retries : ℕ) (scripts : List (List Job)) (desk : State) (runs : List RunState) → IsReport pit opening retries scripts desk runs
+    → IsOfOneThread pit desk.history (value_of pit (held_period (commits_of desk.history)))
+of-one-thread pit opening retries scripts desk runs report = kept-one-thread pit desk report.closed.kept report.closed.goes_on.same_pit
+
+-- one of so many planners has a script
+its-script : (scripts : List (List Job)) (planner : ℕ) → IsPlanner (length scripts) planner → (p : ℕ) × (s : List Job) × (planner ≡ 1 + p) × (slice_get scripts p ≡ Some s)
+its-script scripts zero one = absurd (omega (arith, one.0))
+its-script scripts (suc p) one = (p, get_or scripts p [], omega arith, slice_get-get_or scripts p [] (omega (arith, one.1)))
+
 -- an entry past the opening that was committed made its job's changes to the schedule before it
-pub one-by-one : (pit : Pit) (desk : State) (value : ℤ) (opening : List Answered) (retries : ℕ) (scripts : List (List Job)) (runs : List RunState)
-    → IsOfOneThread pit desk.history value → IsReport pit opening retries scripts desk runs → IsOneByOne pit (length opening) scripts desk.history
-one-by-one pit desk value opening retries scripts runs one report = record {
-  each = λ i p number e script at is planner here.
+pub one-by-one : (pit : Pit) (opening : List Answered) (retries : ℕ) (scripts : List (List Job)) (desk : State) (runs : List RunState) → IsReport pit opening retries scripts desk runs
+    → IsOneByOne pit (length opening) scripts desk.history
+one-by-one pit opening retries scripts desk runs report = record {
+  each = λ i number e at is.
       let past = drop (length opening) desk.history in
-      let d = did-at pit retries 1 past scripts runs report.did p script here in
-      let own = all-mine (λ e. HasOwnEffect pit 1 script e) (1 + p) past (script-effects pit retries (1 + p) script (entries_of (1 + p) past) d.0 d.2) in
       let got : slice_get past i ≡ Some e = past-at desk.history (length opening) i ∙ at in
-      let has = subst (λ (x : Answered). x.call.planner ≡ 1 + p → HasOwnEffect pit 1 script x) (get_or_from_slice_get past i e e got) (own i e (slice_get_within past i e got)) planner in
+      let below = slice_get_within past i e got in
+      let read = get_or_from_slice_get past i e e got in
+      let one = subst (λ (x : Answered). IsPlanner (length scripts) x.call.planner) read (report.closed.goes_on.ours i e below) in
+      let its = its-script scripts e.call.planner one in
+      let p = its.0 in
+      let script = its.1 in
+      let d = did-at pit retries 1 past scripts runs report.did p script its.3 in
+      let own = all-mine (λ e. HasOwnEffect pit 1 script e) (1 + p) past (script-effects pit retries (1 + p) script (entries_of (1 + p) past) d.0 d.2) in
+      let has = subst (λ (x : Answered). x.call.planner ≡ 1 + p → HasOwnEffect pit 1 script x) read (own i e below) its.2 in
       record {
-        place = has.place;
-        task = has.task;
-        number = has.number;
-        at = has.at;
-        wrote = committed-effect pit desk.history value one (length opening + i) number e has.task at is has.effect;
+        place = p;
+        script = script;
+        planner = its.2;
+        at = its.3;
+        wrote = record {
+          place = has.place;
+          task = has.task;
+          number = has.number;
+          at = has.at;
+          wrote = committed-effect pit desk.history (value_of pit (held_period (commits_of desk.history))) (of-one-thread pit opening retries scripts desk runs report)
+              (length opening + i) number e has.task at is has.effect;
+        };
       };
 }

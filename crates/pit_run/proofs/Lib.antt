@@ -1,2 +1,3 @@
 pub mod Threading
 pub mod Closing
+pub mod CallerLemmas

@@ -1,5 +1,5 @@
 -- What a report comes to.
-use Rattle.std.specs.Prelude.{◌≡◌, ℕ, ◌+◌, List, slice_get, Some, length}
+use Rattle.std.specs.Prelude.{◌≡◌, ℕ, ◌+◌, List, Option, slice_get, Some}
 use Rattle.pit_model.specs.Pit.{Pit}
 use Rattle.pit_book.specs.History.{Answered}
 use Rattle.pit_book.specs.OneThread.{held_period_after}
@@ -7,8 +7,16 @@ use Rattle.pit_book.specs.declared.reply.EntryReply.TheVariants.{Committed}
 use Rattle.pit_script.specs.Jobs.{Job}
 use Rattle.pit_job.specs.Laws.{WroteEffect}
 
+-- its planner is one of the run's, and it wrote what its own job of that planner's script does to the schedule
+pub record DidOwnJob (pit : Pit) (scripts : List (List Job)) (schedule : ℕ → Option ℕ) (e : Answered) : Type 0 where
+  pub place : ℕ
+  pub script : List Job
+  pub planner : e.call.planner ≡ 1 + place
+  pub at : slice_get scripts place ≡ Some script
+  pub wrote : WroteEffect pit script schedule e
+
 -- each entry past so many that was committed wrote what its own job does to the schedule after the entries before it: the committed jobs were
 -- done one after another
 pub record IsOneByOne (pit : Pit) (opened : ℕ) (scripts : List (List Job)) (history : List Answered) : Type 0 where
-  pub each : (i p number : ℕ) (e : Answered) (script : List Job) → slice_get history (opened + i) ≡ Some e → e.reply ≡ Committed number
-      → e.call.planner ≡ 1 + p → slice_get scripts p ≡ Some script → WroteEffect pit script (held_period_after history (opened + i)) e
+  pub each : (i number : ℕ) (e : Answered) → slice_get history (opened + i) ≡ Some e → e.reply ≡ Committed number
+      → DidOwnJob pit scripts (held_period_after history (opened + i)) e

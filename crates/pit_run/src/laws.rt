@@ -1,17 +1,14 @@
 //! Laws of runs.
 ghost use Rattle.std.specs.Prelude.{◌≡◌, ℕ, ◌+◌, List, slice_get, Some, length, drop};
 ghost use Rattle.pit_model.specs.Pit.{Pit};
-ghost use Rattle.pit_book.specs.History.{Answered};
+ghost use Rattle.pit_plan.specs.Schedule.{held_period, value_of};
+ghost use Rattle.pit_book.specs.History.{Answered, commits_of};
 ghost use Rattle.pit_book.specs.State.{State};
 ghost use Rattle.pit_book.specs.OneThread.{IsOfOneThread};
 ghost use Rattle.pit_script.specs.Jobs.{Job};
 ghost use Rattle.pit_share.specs.Logs.{entries_of};
 ghost use Rattle.pit_run.specs.Reports.{RunState, IsReport, RanScript};
 ghost use Rattle.pit_run.specs.Laws.{IsOneByOne};
-
-use crate::report::Report;
-use pit_book::one_thread;
-use std::alloc::Allocator;
 
 /// A law of reports: the run of each planner is that of its own script and of its own entries past the opening ones.
 pub fn each_planner()
@@ -21,12 +18,11 @@ pub fn each_planner()
 {}
 
 /// A law of reports: the closed history is one of one thread, in which the committed jobs were done one after another, after the opening: each
-/// committed entry made the changes that its own job makes to the schedule after the entries before it. The result is the value of the
-/// schedule that is left, in units of 10^-18.
-pub fn one_after_another<A: Allocator + Copy + Drop>(report: &Report<A>) -> i128
-    ensures one_thread { IsOfOneThread report.now.closed.plan.pit report.now.closed.history result }
-    ensures one_by_one { (opening : List Answered) (retries : ℕ) (scripts : List (List Job)) → IsReport report.now.closed.plan.pit opening retries scripts report.now.closed report.now.runs.items
-        → IsOneByOne report.now.closed.plan.pit (length opening) scripts report.now.closed.history }
-{
-    one_thread(report.closed.desk())
-}
+/// committed entry past that is of one of the planners, and made the changes that its own job makes to the schedule after the entries before it.
+/// The stated value is that of the schedule that is left, in units of 10^-18.
+pub fn one_after_another()
+    ensures one_thread { (pit : Pit) (opening : List Answered) (retries : ℕ) (scripts : List (List Job)) (desk : State) (runs : List RunState) → IsReport pit opening retries scripts desk runs
+        → IsOfOneThread pit desk.history (value_of pit (held_period (commits_of desk.history))) }
+    ensures one_by_one { (pit : Pit) (opening : List Answered) (retries : ℕ) (scripts : List (List Job)) (desk : State) (runs : List RunState) → IsReport pit opening retries scripts desk runs
+        → IsOneByOne pit (length opening) scripts desk.history }
+{}

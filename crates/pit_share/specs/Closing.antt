@@ -13,7 +13,7 @@ use Rattle.pit_share.specs.declared.error.CloseError.TheVariants as error
 -- the desk keeps what each does, so its history is legal; it goes on from the opening one, by as many entries as the logs have, and of each planner by those of its log
 pub record IsClosed (pit : Pit) (opening : List Answered) (planners : ℕ) (logs : List PlannerState) (desk : State) : Type 0 where
   pub kept : IsDeskKept desk
-  pub goes_on : GoesOn pit opening desk
+  pub goes_on : GoesOn pit opening planners desk
   pub count : length desk.history ≡ length opening + entries_in logs
   pub whole : HasEachLog planners logs
   pub logged : AreLogged planners (drop (length opening) desk.history) logs
@@ -22,7 +22,7 @@ pub record IsClosed (pit : Pit) (opening : List Answered) (planners : ℕ) (logs
 pub record IsFirstDiffering (pit : Pit) (opening : List Answered) (planners : ℕ) (logs : List PlannerState) (planner : ℕ) : Type 0 where
   pub whole : HasEachLog planners logs
   pub desk : State
-  pub goes_on : GoesOn pit opening desk
+  pub goes_on : GoesOn pit opening planners desk
   pub least : IsLeastOf ◌<◌ (IsDiffering planners (drop (length opening) desk.history) logs) planner
 
 -- the first refusal that applies to logs beside the entries past the opening history

@@ -2,6 +2,7 @@
 ghost use Rattle.std.specs.Prelude.{◌≡◌, ◌≢◌, ◌+◌, ◌<◌, ◌≤◌, [], IfOk, OnOk, IfErr, IfSome};
 ghost use Rattle.pit_book.specs.History.{commits_of};
 ghost use Rattle.pit_share.specs.Accounts.{AreSizes};
+ghost use Rattle.pit_share.specs.Logs.{IsPlanner};
 ghost use Rattle.pit_share.specs.Opening.{AreSeats};
 ghost use Rattle.pit_share.specs.Planners.{planner_of};
 
@@ -59,6 +60,7 @@ pub(crate) fn seats_of<S: Session, R: Wait + Drop, A: Allocator + Copy + Drop>(
     planners: u32,
 ) -> Result<Vec<Seat<S, A>, A>, OpenError>
     requires hall { hall.now ≡ commits_of S.opening }
+    requires planners { planners ≡ S.planners }
     requires few { planners ≤ rest.old.parts }
     requires none_left { rest.old.amount ≡ 0 }
     requires sizes { AreSizes S.instance sizes }
@@ -88,6 +90,7 @@ fn seat_of<S: Session, R: Wait + Drop, A: Allocator + Copy + Drop>(
     number: u32,
 ) -> Option<Seat<S, A>>
     requires hall { hall.now ≡ commits_of S.opening }
+    requires number { IsPlanner S.planners number }
     requires part { 0 < rest.old.parts }
     requires none_left { rest.old.amount ≡ 0 }
     requires sizes { AreSizes S.instance sizes }
