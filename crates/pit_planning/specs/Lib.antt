@@ -2,4 +2,4 @@ pub mod Texts
 pub mod Planning
 pub mod Telling
 pub mod Statuses
-pub mod Laws
+pub mod Outcomes

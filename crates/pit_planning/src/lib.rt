@@ -2,12 +2,13 @@
 //!
 //! The texts are parsed in order. A desk is opened on the start, and a workspace on the desk, with a planner for each script. What is proved of
 //! their run is what `pit_run` says, after the opening history of that start; or the first fault is answered: of the texts, of the pit's limits, of the
-//! start, or of the number of planners. What is written is the solution that the closed history leaves, and what is told of the runs.
+//! start, or of the number of planners. What is written is the solution that the closed history leaves, and what is told of the runs. As
+//! `one_outcome` says, whether the texts are refused, and for which fault, is theirs alone, and the answer tells what was written.
 #![tactic(auto)]
 
 mod engine;
-pub mod laws;
 mod micro;
+mod outcome;
 mod plan_fault;
 mod plan_input;
 mod planning;
@@ -16,6 +17,7 @@ mod told;
 
 pub use engine::plan;
 pub use micro::Micro;
+pub use outcome::{one_closed_history, one_outcome};
 pub use plan_fault::PlanFault;
 pub use plan_input::PlanInput;
 pub use planning::planned_run;

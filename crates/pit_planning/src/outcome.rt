@@ -1,0 +1,53 @@
+ghost use Rattle.std.specs.Prelude.{◌≡◌, ◌≢◌, ◌⊎◌, ℕ, Option, IsSome, Result, Ok, Err};
+ghost use Rattle.pit_cli.specs.Devices.{Writing};
+ghost use Rattle.pit_planning.specs.Statuses.{plan_fault_status};
+ghost use Rattle.pit_planning.specs.Texts.{Texts};
+ghost use Rattle.pit_planning.specs.Telling.{IsPlanned};
+ghost use Rattle.pit_planning.specs.Outcomes.{MayRun, AreRefused, IsDecisive, IsUnwritten, IsTold, IsToldOfOne, HasFailed};
+
+use crate::plan_fault::PlanFault;
+use pit_book::one_desk_error;
+use pit_cli::{CliFault, Status};
+
+/// A law of plans. Texts may be run, or are refused for one fault, never both and never for two, whatever threads do; each call on them
+/// keeps to that, want of memory aside. The answer tells what was written; and where the report's device tells its bytes, they say how the
+/// planners ended, with which status, or that they didn't run. What is left to chance is the run itself, and which of memory, a place, a
+/// device or a closed workspace is wanting.
+pub fn one_outcome()
+    ensures some { (texts : Texts) → MayRun texts ⊎ ((fault : PlanFault) × AreRefused texts fault) }
+    ensures apart { (texts : Texts) (fault : PlanFault) → MayRun texts → AreRefused texts fault → ⊥ }
+    ensures same { (texts : Texts) (fault other : PlanFault) → AreRefused texts fault → AreRefused texts other → fault ≡ other }
+    ensures refused { (texts : Texts) (retries : ℕ) (out lines : Writing) (kept : Option Writing) (fault : PlanFault) (result : Result Status PlanFault)
+        → AreRefused texts fault → IsPlanned texts retries out lines kept result
+        → IsUnwritten out lines kept × ((result ≡ Err fault) ⊎ (result ≡ Err (PlanFault.Cli CliFault.NoMemory))) }
+    ensures refuses { (texts : Texts) (retries : ℕ) (out lines : Writing) (kept : Option Writing) (fault : PlanFault)
+        → plan_fault_status fault ≡ 2 → IsPlanned texts retries out lines kept (Err fault) → AreRefused texts fault }
+    ensures wanting { (texts : Texts) (retries : ℕ) (out lines : Writing) (kept : Option Writing) (fault : PlanFault)
+        → MayRun texts → IsPlanned texts retries out lines kept (Err fault) → plan_fault_status fault ≡ 3 }
+    ensures told { (texts : Texts) (retries : ℕ) (out lines : Writing) (kept : Option Writing) (status : Status)
+        → IsPlanned texts retries out lines kept (Ok status) → IsTold texts retries out lines kept (Ok status) }
+    ensures stopped { (texts : Texts) (retries : ℕ) (out lines : Writing) (kept : Option Writing)
+        → IsPlanned texts retries out lines kept (Err PlanFault.Stopped) → IsTold texts retries out lines kept (Err PlanFault.Stopped) }
+    ensures failed { (texts : Texts) (retries : ℕ) (out lines : Writing) (kept : Option Writing)
+        → IsPlanned texts retries out lines kept (Err (PlanFault.Cli CliFault.CannotWrite)) → MayRun texts × HasFailed out lines kept }
+    ensures unwritten { (texts : Texts) (retries : ℕ) (out lines : Writing) (kept : Option Writing) (fault : PlanFault)
+        → fault ≢ PlanFault.Stopped → fault ≢ PlanFault.Cli CliFault.CannotWrite
+        → IsPlanned texts retries out lines kept (Err fault) → IsUnwritten out lines kept }
+    ensures seen { (texts : Texts) (retries : ℕ) (out lines : Writing) (kept : Option Writing) (result : Result Status PlanFault)
+        → IsSome lines.before → IsTold texts retries out lines kept result → IsUnwritten out lines kept → ⊥ }
+    ensures once { (texts : Texts) (retries : ℕ) (out lines : Writing) (kept : Option Writing) (result other : Result Status PlanFault)
+        → IsSome lines.before → IsDecisive result → IsDecisive other
+        → IsPlanned texts retries out lines kept result → IsPlanned texts retries out lines kept other → result ≡ other }
+{
+    one_desk_error();
+}
+
+/// A law of plans, for any number of planners: where one has ended with an answer, or since a planner stopped, what it has written is told of one
+/// closed history of one thread. Each committed entry behind the start is a job of a planner's script, done on the schedule that the entries before
+/// it leave; after each entry the schedule is good under the limits then in force; and the value is that of the solution.
+pub fn one_closed_history()
+    ensures answered { (texts : Texts) (retries : ℕ) (out lines : Writing) (kept : Option Writing) (status : Status)
+        → IsPlanned texts retries out lines kept (Ok status) → IsToldOfOne texts retries out lines kept (Ok status) }
+    ensures stopped { (texts : Texts) (retries : ℕ) (out lines : Writing) (kept : Option Writing)
+        → IsPlanned texts retries out lines kept (Err PlanFault.Stopped) → IsToldOfOne texts retries out lines kept (Err PlanFault.Stopped) }
+{}
