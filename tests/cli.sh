@@ -256,9 +256,28 @@ kept 'the old history' before "$HISTORY"
 check 'plan, a history that does not open' 3 '' 'pit: cannot write' plan --history folder refused refused refused
 check 'plan, an input that does not open goes first' 3 '' 'pit: cannot read script 1' plan --history folder refused refused missing
 check 'plan, an input that cannot be read goes first' 3 '' 'pit: cannot read script 1' plan --history folder refused refused folder
+check 'plan, an input that does not open leaves no history' 3 '' 'pit: cannot read script 1' plan --history fresh model precedence missing
+[ ! -e fresh ] || status=left
+compare 'and its file is not made' 3 '' 'pit: cannot read script 1'
+check 'plan, a script is no history yet to be made' 3 '' 'pit: cannot read script 1' plan --history fresh model precedence fresh
 check 'plan, no folder for the history' 3 '' 'pit: cannot write' plan --history missing/kept model precedence script
 check 'plan, a full history' 3 "$PLANNED" "$REPORT
 pit: cannot write" plan --history /dev/full model precedence script
+# A file that takes the first 8 KiB of a history, and no more: a write that is cut short is followed by another, which is refused.
+for i in {1..400}; do printf 'begin\nput 3 1\ncommit\n'; done >many
+"$pit" plan --history whole model precedence many >out 2>err
+status=$?
+sed -i '$!d' err
+compare 'plan, a long history' 0 '3 1' 'value 4.545454545455000000'
+(
+    ulimit -f 8
+    trap '' XFSZ
+    exec "$pit" plan --history cut model precedence many >out 2>/dev/null
+)
+status=$?
+: >err
+[ "$(wc -c <cut)" = 8192 ] && [ "$(wc -c <whole)" -gt 8192 ] && cmp -s cut <(head -c 8192 whole) || status=lacking
+compare 'plan, a file that is full behind a part of the history' 3 '3 1' ''
 "$pit" plan --history >(cat >piped) model precedence script >out 2>err
 status=$?
 for i in {1..100}; do [ "$(wc -l <piped)" -ge 4 ] && break; sleep 0.05; done
