@@ -259,7 +259,7 @@ check 'plan, an input that cannot be read goes first' 3 '' 'pit: cannot read scr
 check 'plan, an input that does not open leaves no history' 3 '' 'pit: cannot read script 1' plan --history fresh model precedence missing
 [ ! -e fresh ] || status=left
 compare 'and its file is not made' 3 '' 'pit: cannot read script 1'
-check 'plan, a script is no history yet to be made' 3 '' 'pit: cannot read script 1' plan --history fresh model precedence fresh
+check 'plan, the history is no input before it is made' 3 '' 'pit: cannot read script 1' plan --history fresh model precedence fresh
 check 'plan, no folder for the history' 3 '' 'pit: cannot write' plan --history missing/kept model precedence script
 check 'plan, a full history' 3 "$PLANNED" "$REPORT
 pit: cannot write" plan --history /dev/full model precedence script

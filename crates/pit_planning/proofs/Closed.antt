@@ -4,7 +4,6 @@ use Rattle.pit_model.specs.Pit.{Pit}
 use Rattle.pit_book.specs.History.{Answered}
 use Rattle.pit_book.specs.Opened.{IsGoodStart, opening_history}
 use Rattle.pit_book.specs.State.{State}
-use Rattle.pit_script.specs.Jobs.{Job}
 use Rattle.pit_run.specs.Reports.{RunState, IsReport}
 use Rattle.pit_run.proofs.CallerLemmas.{each-planner, of-one-thread, one-by-one}
 use Rattle.pit_cli.specs.Devices.{Writing}

@@ -2,22 +2,21 @@
 use Rattle.std.proofs.lemmas.List.Elements.{All-nil, All-cons, All-head, All-tail}
 use Rattle.std.proofs.lemmas.Option.{slice_get_within, slice_get-get_or, get_or_from_slice_get}
 use Rattle.std.proofs.lemmas.Bool.Decides.{nat_tests}
-use Rattle.std.proofs.Common.{◌≡◌, ℕ, zero, suc, ◌+◌, ◌<◌, ◌≤◌, ◌==◌, Bool, true, false, List, [], ◌∷◌, length, get_or, drop, add-zero, zero-add, refl, sym, ap, subst, ◌∙◌, arith, inl, inr}
-use Rattle.std.specs.Prelude.{All, Option, Some, None, slice_get, if◌then◌else◌, ◌⊎◌}
+use Rattle.std.proofs.Common.{◌≡◌, ℕ, zero, suc, ◌+◌, ◌==◌, Bool, true, false, List, [], ◌∷◌, length, get_or, drop, add-zero, zero-add, refl, sym, ap, subst, ◌∙◌, arith, inl, inr}
+use Rattle.std.specs.Prelude.{All, Some, slice_get, if◌then◌else◌, ◌⊎◌}
 use Rattle.pit_model.specs.Pit.{Pit}
-use Rattle.pit_plan.specs.Schedule.{Commit, held_period, value_of}
+use Rattle.pit_plan.specs.Schedule.{Commit, earned_in, held_period, value_of}
 use Rattle.pit_plan.specs.Standing.{IsPlanOf}
-use Rattle.pit_plan.proofs.Same.{same-value}
+use Rattle.pit_plan.proofs.CallerLemmas.{total-same}
 use Rattle.pit_book.specs.History.{Answered, commits_of}
 use Rattle.pit_book.specs.State.{State, IsDeskKept}
 use Rattle.pit_book.proofs.OneThread.{one-thread}
-use Rattle.pit_book.specs.OneThread.{IsOfOneThread, held_period_after}
-use Rattle.pit_book.specs.declared.reply.EntryReply.TheVariants as reply
+use Rattle.pit_book.specs.OneThread.{IsOfOneThread}
 use Rattle.pit_script.specs.Jobs.{Job}
 use Rattle.pit_share.specs.Logs.{entries_of, IsPlanner}
 use Rattle.pit_effect.proofs.CallerLemmas.{committed-effect}
 use Rattle.pit_job.specs.Runs.{RanFrom}
-use Rattle.pit_job.specs.Laws.{HasOwnEffect, WroteEffect}
+use Rattle.pit_job.specs.Laws.{HasOwnEffect}
 use Rattle.pit_job.proofs.CallerLemmas.{own-effects}
 use Rattle.pit_run.specs.Reports.{RunState, RanScript, NotStarted, AllDid, IsReport}
 use Rattle.pit_run.specs.Laws.{IsOneByOne}
@@ -70,7 +69,8 @@ kept-one-thread pit desk kept same =
     let stands : IsPlanOf desk.plan commits = kept.follows.stands in
     subst (λ (p : Pit). IsOfOneThread p desk.history (value_of p (held_period commits))) same
     (one-thread desk.plan desk.history (value_of desk.plan.pit (held_period commits)) kept.follows
-    (λ others too. same-value desk.plan.pit (held_period commits) (held_period others) (λ b below. sym (stands.period b below) ∙ too.period b below)))
+    (λ others too. total-same (λ b. earned_in desk.plan.pit b (held_period commits b)) (λ b. earned_in desk.plan.pit b (held_period others b)) desk.plan.pit.blocks
+    (λ b below. ap (earned_in desk.plan.pit b) (sym (stands.period b below) ∙ too.period b below))))
 
 pub of-one-thread : (pit : Pit) (opening : List Answered) (retries : ℕ) (scripts : List (List Job)) (desk : State) (runs : List RunState) → IsReport pit opening retries scripts desk runs
     → IsOfOneThread pit desk.history (value_of pit (held_period (commits_of desk.history)))
