@@ -2,7 +2,7 @@
 # make pit            builds alone
 # make check CRATE=C  proves the crate C, over what earlier checks kept: seconds after an edit
 # make test           the whole gate: every proof, test, must-fail edit and stored run, from nothing; then the shell tests
-# make audit          what the gate leaves out, on a copy of the tree: further edits, planted bodies, further tests. Takes hours
+# make audit          what the gate leaves out: on a copy of the tree further edits, planted bodies, further tests; and a soak of ./pit. Takes hours
 # make clean          removes what was built
 .PHONY: demo check test audit clean
 
@@ -33,8 +33,9 @@ test:
 	tests/replay.sh $(PROVED)
 	tests/misuse.sh
 
-audit:
+audit: pit
 	audit/run.sh
+	audit/soak.py ./pit
 
 clean:
 	rm -rf pit demo.history crates/*/out
