@@ -55,7 +55,7 @@ front_as (Some device) text other same front = subst (λ (t : List ℕ). HasFron
 other_history : (out lines : Writing) (kept : Option Writing) (told : Told) (history : List ℕ) (ended result : Result Status PlanFault) → (is_some kept ≡ true → told.history ≡ history)
     → IsWritten out lines kept told ended result → IsWritten out lines kept (record told { history = history }) ended result
 other_history out lines kept told history ended result same (whole a b c d e f) = whole a b c d (whole_as kept told.history history same e) f
-other_history out lines kept told history ended result same (no_solution a b c d e) = no_solution a b c d e
+other_history out lines kept told history ended result same (no_solution a b c d e f) = no_solution a b c d e f
 other_history out lines kept told history ended result same (no_report a b c d e f) = no_report a b c d e f
 other_history out lines kept told history ended result same (no_history a b c d e f) = no_history a b c d (front_as kept told.history history same e) f
 

@@ -78,7 +78,7 @@ IsWholeOrFailed out lines kept told ended result =
 of_written : (out lines : Writing) (kept : Option Writing) (told : Told) (ended result : Result Status PlanFault) → IsWritten out lines kept told ended result
     → IsWholeOrFailed out lines kept told ended result
 of_written out lines kept told ended result (whole a b c d e is) = inl (is, a, c, d, e)
-of_written out lines kept told ended result (no_solution a b c d is) = inr (is, inl b)
+of_written out lines kept told ended result (no_solution a b c d e is) = inr (is, inl c)
 of_written out lines kept told ended result (no_report a b c d e is) = inr (is, inr (inl d))
 of_written out lines kept told ended result (no_history a b c d e is) = inr (is, inr (inr (front_failed kept told.history e)))
 

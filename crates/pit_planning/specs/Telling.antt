@@ -60,7 +60,7 @@ writing_if {S} of (Some old) (Some new) = Some (of old new)
 writing_if {S} of (Some old) None = None
 writing_if {S} of None new = None
 
--- the device, if there is one, has the whole text; it was left alone; or it failed behind a front of the text
+-- the device, if there is one, has the whole text; it was left alone; or there was some text, and it failed behind a front of that
 abbrev pub HasWhole : Option Writing → List ℕ → Type 0
 HasWhole None text = ⊤
 HasWhole (Some kept) text = Appends kept.before kept.after text × (0 < length text → kept.failed ≡ false)
@@ -71,7 +71,7 @@ IsLeft (Some kept) = Keeps kept.before kept.after
 
 abbrev pub HasFront : Option Writing → List ℕ → Type 0
 HasFront None text = ⊥
-HasFront (Some kept) text = AppendsFront kept.before kept.after text × (kept.failed ≡ true)
+HasFront (Some kept) text = AppendsFront kept.before kept.after text × (kept.failed ≡ true) × (0 < length text)
 
 -- The texts that are to be written, in this order.
 pub record Told : Type 0 where
@@ -79,12 +79,13 @@ pub record Told : Type 0 where
   pub report : List ℕ
   pub history : List ℕ
 
--- each text is written, and it ends so; or a device failed, before anything was given to those behind it
+-- each text is written, and it ends so; or a device that was to be given something failed, before anything was given to those behind it. A report always
+-- has something.
 pub data IsWritten (out lines : Writing) (kept : Option Writing) (told : Told) (ended result : Result Status PlanFault) : Type 0 where
   whole : Appends out.before out.after told.solution → (0 < length told.solution → out.failed ≡ false) → Appends lines.before lines.after told.report → lines.failed ≡ false
       → HasWhole kept told.history → result ≡ ended → IsWritten out lines kept told ended result
-  no_solution : AppendsFront out.before out.after told.solution → out.failed ≡ true → Keeps lines.before lines.after → IsLeft kept → result ≡ Err (Cli CannotWrite)
-      → IsWritten out lines kept told ended result
+  no_solution : 0 < length told.solution → AppendsFront out.before out.after told.solution → out.failed ≡ true → Keeps lines.before lines.after → IsLeft kept
+      → result ≡ Err (Cli CannotWrite) → IsWritten out lines kept told ended result
   no_report : Appends out.before out.after told.solution → (0 < length told.solution → out.failed ≡ false) → AppendsFront lines.before lines.after told.report → lines.failed ≡ true
       → IsLeft kept → result ≡ Err (Cli CannotWrite) → IsWritten out lines kept told ended result
   no_history : Appends out.before out.after told.solution → (0 < length told.solution → out.failed ≡ false) → Appends lines.before lines.after told.report → lines.failed ≡ false

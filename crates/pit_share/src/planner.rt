@@ -1,5 +1,6 @@
 //! Planners between two transactions.
 ghost use Rattle.std.specs.Prelude.{◌≡◌, IfOk, IfErr};
+ghost use Rattle.pit_board.specs.Fronts.{AreLawful};
 ghost use Rattle.pit_share.specs.Planners.{SeesOn, Begins};
 
 use crate::account::Account;
@@ -38,10 +39,13 @@ impl<'a, S: Session, R: Wait + Drop, A: Allocator + Copy + Drop> Planner<'a, S, 
         Planner { floor, account }
     }
 
-    /// Its number, counted from 1.
+    /// Its number, counted from 1. What it has seen leaves a good schedule, as does each beginning of that.
     pub fn number(&self) -> u32
-        ensures { result ≡ self.now.number }
+        ensures number { result ≡ self.now.number }
+        ensures lawful { AreLawful S.instance self.now.seen }
     {
+        // a call that shows what is lawful
+        let _front = self.account.front();
         self.account.number()
     }
 
