@@ -39,8 +39,11 @@ fn checked<M: Source, P: Source, S: Source>(
 }
 
 /// Whether an engine answered so, and wrote this.
-fn is_answer(answered: &Answered, answer: Result<Status, CliFault>, written: &[u8]) -> bool {
-    answered.0 == answer && answered.1.as_slice() == written
+fn is_answer(answered: Answered, answer: Result<Status, CliFault>, written: &[u8]) -> bool {
+    let (found, text) = answered;
+    let is = found == answer && text.as_slice() == written;
+    drop(text);
+    is
 }
 
 /// What `value` answers for the small pit and its solution.
@@ -75,8 +78,9 @@ fn assert_fault(
     let Err(fault) = answer else {
         return Err(Fail::from("no fault"));
     };
+    assert!(rt; fault.status() == status, "of {line}");
     let shown = format!(in alloc; "{fault}")?;
-    assert_eq!(rt; shown.as_str(), line);
-    assert_eq!(rt; fault.status(), status, "of {line}");
+    assert!(rt; shown.as_str() == line, "{shown} for {line}");
+    drop(shown);
     Ok(())
 }

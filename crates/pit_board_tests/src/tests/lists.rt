@@ -6,11 +6,12 @@ use pit_board::{EmptyList, Session, Slot};
 use pit_book::Desk;
 use pit_plan_sample::{Kept, held_in, last_in};
 use pit_sample::{Series, Size};
+use pit_tx::Work;
 use std::alloc::Global;
 use std::marker::Brand;
 use std::process::Abort;
 use std::sync::Wait;
-use std::sync::ledger::Blank;
+use std::sync::ledger::{Blank, Share};
 
 /// The seeds, each of a list.
 const SEEDS: u32 = 60;
@@ -49,6 +50,7 @@ fn play_seed<W: Wait + Abort>(rt: &W, alloc: Global, seed: u32) {
         &mut kept,
         &mut series,
     );
+    drop(kept);
 }
 
 fn commit_before(
@@ -60,9 +62,16 @@ fn commit_before(
 ) {
     let writes = draw_writes(rt, alloc, series);
     let work = work_of(rt, alloc, desk.plan(), &writes, &[]);
-    assert!(rt; desk.fits(&work));
-    assert!(rt; desk.commit(work).is_ok());
+    commit(rt, desk, work);
     keep(rt, kept, desk.plan().commits(), &writes);
+    drop(writes);
+}
+
+fn commit(rt: &impl Abort, desk: &mut Desk<Global>, work: Work<Global>) {
+    assert!(rt; desk.fits(&work));
+    let answer = desk.commit(work);
+    assert!(rt; answer.is_ok());
+    drop(answer);
 }
 
 fn play<S: Session, R: Wait + Drop, W: Wait + Abort>(
@@ -82,13 +91,37 @@ fn play<S: Session, R: Wait + Drop, W: Wait + Abort>(
     requires parts { shares.parts ≡ S.parts }
     requires two { shares.parts ≡ 2 }
 {
-    let (_total, mut rest) = shares.open::<S>();
+    let (total, rest) = shares.open::<S>();
     let answer = OpenHall::<S, R, _>::open(own, alloc, list, desk, 2);
-    let mut opened = answer.ok().expect(rt, "a hall");
+    let opened = answer.ok().expect(rt, "a hall");
+    play_opened(rt, alloc, opened, rest, kept, series);
+    drop(total);
+}
+
+/// Of two readers one looks late.
+fn play_opened<S: Session, R: Wait + Drop, W: Wait + Abort>(
+    rt: &W,
+    alloc: Global,
+    mut opened: OpenHall<S, R, Global>,
+    mut rest: Share<S>,
+    kept: &mut Vec<Kept>,
+    series: &mut Series,
+)
+    requires parts { rest.parts ≡ 2 }
+    requires left { rest.amount ≡ 0 }
+{
     let mut reader = opened.reader(&mut rest).expect(rt, "a place");
-    let mut late = opened.reader(&mut rest).expect(rt, "a place");
+    let late = opened.reader(&mut rest).expect(rt, "a place");
     publish_all(rt, alloc, &mut opened, &mut reader, kept, series);
+    look_late(rt, late, kept);
+    drop(reader);
+    drop(opened);
+    drop(rest);
+}
+
+fn look_late<S: Session>(rt: &impl Abort, mut late: Reader<S, Global>, kept: &[Kept]) {
     assert!(rt; has_slots(&mut late, kept));
+    drop(late);
 }
 
 /// A reader looks after each publication.
@@ -123,6 +156,8 @@ fn publish<S: Session, R: Wait + Drop, W: Wait + Abort>(
     let work = work_of(rt, alloc, opened.desk.plan(), &writes, &revises);
     opened.commit(rt, work);
     keep(rt, kept, opened.count(), &writes);
+    drop(writes);
+    drop(revises);
 }
 
 /// Up to three blocks, of which one may stand twice.

@@ -4,12 +4,12 @@ ghost use Rattle.pit_board_tests.specs.Made.{IsMade};
 
 use super::{Made, OpenHall, Pair, Reader, Revision, desk_over, work_of};
 use linked_list_allocator::LocalHeap;
-use pit_board::{Changes, EmptyList, Session, Slot};
+use pit_board::{Changes, EmptyList, Front, Session, Slot};
 use pit_book::{Desk, Stop};
 use pit_refuse::{Count, Refusing};
 use pit_sample::Size;
 use pit_tx::Work;
-use std::alloc::Global;
+use std::alloc::{Allocator, Global};
 use std::marker::Brand;
 use std::process::Abort;
 use std::sync::Wait;
@@ -64,39 +64,79 @@ fn refuse_each<W: Wait + Abort>(rt: &W, alloc: Global) {
 fn is_whole<W: Wait + Abort>(rt: &W, alloc: Global, number: u64) -> bool {
     let calm = Refusing::over_heap(alloc, BYTES, 0).expect(rt, "a heap");
     let heap = Refusing::over_heap(alloc, BYTES, number).expect(rt, "a heap");
-    play_twice(rt, &calm, &heap);
+    let heaps = Heaps {
+        calm: &calm,
+        heap: &heap,
+    };
+    play_twice(rt, heaps, &calm, &heap);
     assert!(rt; heap.used() == 0 && calm.used() == 0);
     !heap.count().has_refused()
 }
 
+/// The heap of the desk, which refuses nothing, and that of the hall.
+#[derive(Clone, Copy)]
+struct Heaps<'a> {
+    calm: Heap<'a>,
+    heap: Heap<'a>,
+}
+
 /// Opens a hall of a desk, and opens another for it where memory was refused. The desk's memory is calm.
-fn play_twice<'a, W: Wait + Abort>(rt: &W, calm: Heap<'a>, heap: Heap<'a>) {
+fn play_twice<A: Allocator + Copy + Drop, W: Wait + Abort>(
+    rt: &W,
+    heaps: Heaps<'_>,
+    calm: A,
+    alloc: A,
+) {
     let desk = desk_over(rt, calm, SIZE);
-    if let Some(desk) = play(rt, calm, heap, desk) {
-        assert!(rt; heap.count().has_refused() && heap.used() == 0);
-        assert!(rt; play(rt, calm, heap, desk).is_none(), "no memory twice");
+    if let Some(desk) = play(rt, heaps, calm, alloc, desk) {
+        play_again(rt, heaps, calm, alloc, desk);
     }
 }
 
-/// Makes each call of a hall. The desk is handed back where none is opened.
-fn play<'a, W: Wait + Abort>(
+fn play_again<A: Allocator + Copy + Drop, W: Wait + Abort>(
     rt: &W,
-    calm: Heap<'a>,
-    heap: Heap<'a>,
-    desk: Desk<Heap<'a>>,
-) -> Option<Desk<Heap<'a>>> {
-    in_session::<Brand, _, _>(rt, rt, calm, heap, EmptyList::new(), Blank::new(3), desk)
+    heaps: Heaps<'_>,
+    calm: A,
+    alloc: A,
+    desk: Desk<A>,
+) {
+    assert!(rt; heaps.heap.count().has_refused());
+    assert!(rt; heaps.heap.used() == 0);
+    let left = play(rt, heaps, calm, alloc, desk);
+    assert!(rt; left.is_none(), "no memory twice");
+    drop(left);
 }
 
-fn in_session<'a, S: Session, R: Wait + Drop, W: Wait + Abort>(
+/// Makes each call of a hall. The desk is handed back where none is opened.
+fn play<A: Allocator + Copy + Drop, W: Wait + Abort>(
+    rt: &W,
+    heaps: Heaps<'_>,
+    calm: A,
+    alloc: A,
+    desk: Desk<A>,
+) -> Option<Desk<A>> {
+    in_session::<Brand, _, _, _>(
+        rt,
+        rt,
+        heaps,
+        calm,
+        alloc,
+        EmptyList::new(),
+        Blank::new(3),
+        desk,
+    )
+}
+
+fn in_session<S: Session, R: Wait + Drop, A: Allocator + Copy + Drop, W: Wait + Abort>(
     rt: &W,
     own: R,
-    calm: Heap<'a>,
-    heap: Heap<'a>,
+    heaps: Heaps<'_>,
+    calm: A,
+    alloc: A,
     list: EmptyList,
     shares: Blank,
-    desk: Desk<Heap<'a>>,
-) -> Option<Desk<Heap<'a>>>
+    desk: Desk<A>,
+) -> Option<Desk<A>>
     requires pit { desk.plan.pit ≡ S.instance }
     requires history { desk.history ≡ S.opening }
     requires list { list ≡ S.book }
@@ -105,9 +145,9 @@ fn in_session<'a, S: Session, R: Wait + Drop, W: Wait + Abort>(
     requires three { shares.parts ≡ 3 }
 {
     let (total, rest) = shares.open::<S>();
-    match OpenHall::<S, R, _>::open(own, heap, list, desk, READERS) {
+    match OpenHall::<S, R, A>::open(own, alloc, list, desk, READERS) {
         Ok(opened) => {
-            each_call(rt, calm, heap, opened, total, rest);
+            each_call(rt, heaps, calm, opened, total, rest);
             None
         }
         Err(desk) => Some(desk),
@@ -115,69 +155,94 @@ fn in_session<'a, S: Session, R: Wait + Drop, W: Wait + Abort>(
 }
 
 /// Takes each place, publishes, and ends the hall before its readers.
-fn each_call<'a, S: Session, R: Wait + Drop, W: Wait + Abort>(
+fn each_call<S: Session, R: Wait + Drop, A: Allocator + Copy + Drop, W: Wait + Abort>(
     rt: &W,
-    calm: Heap<'a>,
-    heap: Heap<'a>,
-    mut opened: OpenHall<S, R, Heap<'a>>,
+    heaps: Heaps<'_>,
+    calm: A,
+    mut opened: OpenHall<S, R, A>,
     mut total: Book<S>,
     mut rest: Share<S>,
 )
     requires parts { rest.parts ≡ 3 }
     requires left { rest.amount ≡ 0 }
 {
-    let before = heap.count();
+    let before = heaps.heap.count();
     let mut reader = opened.reader(&mut rest).expect(rt, "a place");
-    let mut late = opened.reader(&mut rest).expect(rt, "a place");
-    assert!(rt; opened.reader(&mut rest).is_none(), "no place is left");
-    assert!(rt; heap.count() == before);
-    publish_all(rt, calm, heap, &mut opened, &mut reader, &mut total);
-    copy_twice(rt, heap);
-    assert!(rt; read_all(&mut late) == read_all(&mut reader));
+    let late = opened.reader(&mut rest).expect(rt, "a place");
+    assert_taken(rt, &opened, &mut rest);
+    assert!(rt; heaps.heap.count() == before);
+    publish_all(rt, heaps, calm, &mut opened, &mut reader, &mut total);
+    assert_same(rt, late, &mut reader);
     end(rt, opened, reader);
 }
 
-/// Where the hall is gone, no reader is let in, and what was seen stays.
-fn end<'a, S: Session, R: Wait + Drop>(
+/// No place is left.
+fn assert_taken<S: Session, R: Wait + Drop, A: Allocator + Copy + Drop>(
     rt: &impl Abort,
-    opened: OpenHall<S, R, Heap<'a>>,
-    mut reader: Reader<S, Heap<'a>>,
+    opened: &OpenHall<S, R, A>,
+    rest: &mut Share<S>,
+)
+    requires parts { 0 < rest.old.parts }
+    requires left { rest.old.amount ≡ 0 }
+{
+    let more = opened.reader(rest);
+    assert!(rt; more.is_none(), "no place is left");
+    drop(more);
+}
+
+/// Both read the same.
+fn assert_same<S: Session, A: Allocator + Copy + Drop>(
+    rt: &impl Abort,
+    mut late: Reader<S, A>,
+    reader: &mut Reader<S, A>,
+) {
+    assert!(rt; read_all(&mut late) == read_all(reader));
+    drop(late);
+}
+
+/// Where the hall is gone, no reader is let in, and what was seen stays.
+fn end<S: Session, R: Wait + Drop, A: Allocator + Copy + Drop>(
+    rt: &impl Abort,
+    opened: OpenHall<S, R, A>,
+    mut reader: Reader<S, A>,
 ) {
     let count = opened.count();
     drop(opened);
     assert!(rt; reader.read(0).is_none());
     assert!(rt; reader.begin() == count);
+    drop(reader);
 }
 
-/// Publishes four commits, the third behind notices that aren't published.
-fn publish_all<'a, S: Session, R: Wait + Drop, W: Wait + Abort>(
+/// Publishes four commits, the third behind notices that aren't published, and copies changes.
+fn publish_all<S: Session, R: Wait + Drop, A: Allocator + Copy + Drop, W: Wait + Abort>(
     rt: &W,
-    calm: Heap<'a>,
-    heap: Heap<'a>,
-    opened: &mut OpenHall<S, R, Heap<'a>>,
-    reader: &mut Reader<S, Heap<'a>>,
+    heaps: Heaps<'_>,
+    calm: A,
+    opened: &mut OpenHall<S, R, A>,
+    reader: &mut Reader<S, A>,
     total: &mut Book<S>,
 ) {
-    publish_two(rt, calm, heap, opened, reader, total, 1);
+    publish_two(rt, heaps, calm, opened, reader, total, 1);
     for _ in 0..GIVEN_UP {
-        give_up_twice(rt, heap, opened);
+        give_up_twice(rt, heaps.heap, opened);
     }
     assert!(rt; read_all(reader) == slots_after(2));
-    publish_two(rt, calm, heap, opened, reader, total, 3);
+    publish_two(rt, heaps, calm, opened, reader, total, 3);
+    copy_twice(rt, heaps.heap, opened.alloc);
 }
 
-fn publish_two<'a, S: Session, R: Wait + Drop, W: Wait + Abort>(
+fn publish_two<S: Session, R: Wait + Drop, A: Allocator + Copy + Drop, W: Wait + Abort>(
     rt: &W,
-    calm: Heap<'a>,
-    heap: Heap<'a>,
-    opened: &mut OpenHall<S, R, Heap<'a>>,
-    reader: &mut Reader<S, Heap<'a>>,
+    heaps: Heaps<'_>,
+    calm: A,
+    opened: &mut OpenHall<S, R, A>,
+    reader: &mut Reader<S, A>,
     total: &mut Book<S>,
     first: u32,
 ) {
     for number in first..first.wrapping_add(2) {
-        publish(rt, calm, heap, opened, number);
-        assert_quiet(rt, heap, opened, reader, total);
+        publish(rt, heaps, calm, opened, number);
+        assert_quiet(rt, heaps.heap, opened, reader, total);
         assert!(rt; read_all(reader) == slots_after(number));
     }
 }
@@ -208,7 +273,7 @@ fn shown(period: Option<u32>, version: u32) -> Option<Slot> {
     Some(Slot { period, version })
 }
 
-fn read_all<'a, S: Session>(reader: &mut Reader<S, Heap<'a>>) -> Slots {
+fn read_all<S: Session, A: Allocator + Copy + Drop>(reader: &mut Reader<S, A>) -> Slots {
     [
         reader.read(0),
         reader.read(1),
@@ -218,27 +283,27 @@ fn read_all<'a, S: Session>(reader: &mut Reader<S, Heap<'a>>) -> Slots {
 }
 
 /// Publishes a commit. Once it is made it takes no memory, of the hall's and of the desk's.
-fn publish<'a, S: Session, R: Wait + Drop, W: Wait + Abort>(
+fn publish<S: Session, R: Wait + Drop, A: Allocator + Copy + Drop, W: Wait + Abort>(
     rt: &W,
-    calm: Heap<'a>,
-    heap: Heap<'a>,
-    opened: &mut OpenHall<S, R, Heap<'a>>,
+    heaps: Heaps<'_>,
+    calm: A,
+    opened: &mut OpenHall<S, R, A>,
     number: u32,
 ) {
     let work = work_of(rt, calm, opened.desk.plan(), writes_by(number), REVISES);
-    let made = made_twice(rt, heap, opened, work);
-    let before = (calm.count(), heap.count());
+    let made = made_twice(rt, heaps.heap, opened, work);
+    let before = (heaps.calm.count(), heaps.heap.count());
     opened.put(rt, made);
-    assert!(rt; (calm.count(), heap.count()) == before);
+    assert!(rt; (heaps.calm.count(), heaps.heap.count()) == before);
 }
 
 /// Makes all that grows for a commit, and makes it again where memory was refused.
-fn made_twice<'a, S: Session, R: Wait + Drop>(
+fn made_twice<S: Session, R: Wait + Drop, A: Allocator + Copy + Drop>(
     rt: &impl Abort,
-    heap: Heap<'a>,
-    opened: &mut OpenHall<S, R, Heap<'a>>,
-    work: Work<Heap<'a>>,
-) -> Made<S, Heap<'a>>
+    heap: Heap<'_>,
+    opened: &mut OpenHall<S, R, A>,
+    work: Work<A>,
+) -> Made<S, A>
     ensures { IsMade opened.new result }
 {
     let before = (heap.count(), heap.used());
@@ -252,11 +317,11 @@ fn made_twice<'a, S: Session, R: Wait + Drop>(
     }
 }
 
-fn made_again<'a, S: Session, R: Wait + Drop>(
+fn made_again<S: Session, R: Wait + Drop, A: Allocator + Copy + Drop>(
     rt: &impl Abort,
-    opened: &mut OpenHall<S, R, Heap<'a>>,
-    work: Work<Heap<'a>>,
-) -> Made<S, Heap<'a>>
+    opened: &mut OpenHall<S, R, A>,
+    work: Work<A>,
+) -> Made<S, A>
     ensures { IsMade opened.new result }
 {
     match opened.prepare(rt, work) {
@@ -266,17 +331,17 @@ fn made_again<'a, S: Session, R: Wait + Drop>(
 }
 
 /// Memory was refused since, and none is lost.
-fn assert_refused<'a>(rt: &impl Abort, heap: Heap<'a>, before: (Count, usize)) {
+fn assert_refused(rt: &impl Abort, heap: Heap<'_>, before: (Count, usize)) {
     let (count, used) = before;
     assert!(rt; heap.count().has_refused_since(count));
     assert!(rt; heap.used() == used);
 }
 
 /// Lets a notice go, and another where memory was refused.
-fn give_up_twice<'a, S: Session, R: Wait + Drop>(
+fn give_up_twice<S: Session, R: Wait + Drop, A: Allocator + Copy + Drop>(
     rt: &impl Abort,
-    heap: Heap<'a>,
-    opened: &mut OpenHall<S, R, Heap<'a>>,
+    heap: Heap<'_>,
+    opened: &mut OpenHall<S, R, A>,
 ) {
     let before = (heap.count(), heap.used());
     if opened.give_up(WRITES, REVISES).is_err() {
@@ -286,36 +351,52 @@ fn give_up_twice<'a, S: Session, R: Wait + Drop>(
 }
 
 /// Copies changes, and copies them again where memory was refused.
-fn copy_twice<'a>(rt: &impl Abort, heap: Heap<'a>) {
+fn copy_twice<A: Allocator + Copy + Drop>(rt: &impl Abort, heap: Heap<'_>, alloc: A) {
     let before = (heap.count(), heap.used());
-    match Changes::copied(heap, WRITES, REVISES) {
-        Ok(changes) => assert!(rt; changes.writes() == WRITES),
-        Err(_) => {
-            assert_refused(rt, heap, before);
-            assert!(rt;
-                Changes::copied(heap, WRITES, REVISES).is_ok(),
-                "no memory twice"
-            );
-        }
+    if !is_copied(alloc) {
+        assert_refused(rt, heap, before);
+        assert!(rt; is_copied(alloc), "no memory twice");
+    }
+}
+
+/// Whether there was memory for a copy of the changes, which has the writes then.
+fn is_copied<A: Allocator + Copy + Drop>(alloc: A) -> bool {
+    match Changes::copied(alloc, WRITES, REVISES) {
+        Ok(changes) => changes.writes() == WRITES,
+        Err(_) => false,
     }
 }
 
 /// Whatever is asked of a reader and of fronts takes no memory.
-fn assert_quiet<'a, S: Session, R: Wait + Drop>(
+fn assert_quiet<S: Session, R: Wait + Drop, A: Allocator + Copy + Drop>(
     rt: &impl Abort,
-    heap: Heap<'a>,
-    opened: &OpenHall<S, R, Heap<'a>>,
-    reader: &mut Reader<S, Heap<'a>>,
+    heap: Heap<'_>,
+    opened: &OpenHall<S, R, A>,
+    reader: &mut Reader<S, A>,
     total: &mut Book<S>,
 ) {
     let before = heap.count();
-    let mut front = reader.front().again();
-    assert!(rt; front.begins(opened.front()) && !opened.front().begins(&front));
-    front.grow(opened.front());
-    reader.learn(&front);
-    assert!(rt; reader.front().is_same(opened.front()));
+    catch_up(rt, opened.front(), reader);
     assert!(rt; reader.begin() == opened.count());
     assert!(rt; reader.read(0).is_some());
     reader.count_entry(total);
     assert!(rt; heap.count() == before);
+}
+
+/// The reader's front, which is behind, grows to the other, and is learnt.
+fn catch_up<S: Session, A: Allocator + Copy + Drop>(
+    rt: &impl Abort,
+    other: &Front<S>,
+    reader: &mut Reader<S, A>,
+) {
+    let mut front = reader.front().again();
+    assert!(rt; is_behind(&front, other));
+    front.grow(other);
+    reader.learn(&front);
+    drop(front);
+    assert!(rt; reader.front().is_same(other));
+}
+
+fn is_behind<S: Session>(front: &Front<S>, other: &Front<S>) -> bool {
+    front.begins(other) && !other.begins(front)
 }

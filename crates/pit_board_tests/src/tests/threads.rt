@@ -66,15 +66,29 @@ fn play<
     requires one_more { shares.parts ≡ readers + 1 }
     requires some { 0 < readers }
 {
-    let (_total, mut rest) = shares.open::<S>();
+    let (total, mut rest) = shares.open::<S>();
     let answer = OpenHall::<S, O, _>::open(own, alloc, list, desk, readers);
     let opened = answer.ok().expect(rt, "a hall");
     let all = readers_of(rt, alloc, &opened, &mut rest, readers);
     let (found, opened) = read_beside(rt, alloc, opened, all);
-    let found = found.expect(rt, "memory");
-    assert_found(rt, &found);
+    assert_found(rt, found);
+    look_late(rt, opened, rest);
+    drop(total);
+}
+
+fn look_late<S: Session, O: Wait + Drop, A: Allocator + Copy + Drop>(
+    rt: &impl Abort,
+    opened: OpenHall<S, O, A>,
+    mut rest: Share<S>,
+)
+    requires parts { 0 < rest.parts }
+    requires left { rest.amount ≡ 0 }
+{
     let mut late = opened.reader(&mut rest).expect(rt, "a place");
     assert!(rt; late.begin() == COMMITS && is_right(&mut late, 0));
+    drop(late);
+    drop(opened);
+    drop(rest);
 }
 
 fn readers_of<S: Session, O: Wait + Drop, A: Allocator + Copy + Drop>(
@@ -136,10 +150,9 @@ fn look<S: Session, A: Allocator + Copy + Drop>(mut reader: Reader<S, A>) -> Fou
         }
         thread::yield_now();
     }
-    Found {
-        wrong,
-        count: reader.count(),
-    }
+    let count = reader.count();
+    drop(reader);
+    Found { wrong, count }
 }
 
 /// Whether a block is read as the commits leave it that are then seen. In each second turn the reader begins before.
@@ -226,8 +239,13 @@ fn write_block<A: Allocator + Copy + Drop>(
 }
 
 /// No look was wrong, and no reader has seen more than all.
-fn assert_found(rt: &impl Abort, all: &[Found]) {
-    for found in all {
+fn assert_found<A: Allocator + Copy + Drop>(
+    rt: &impl Abort,
+    found: Result<Vec<Found, A>, AllocError>,
+) {
+    let all = found.expect(rt, "memory");
+    for found in all.as_slice() {
         assert!(rt; found.wrong == 0 && found.count <= COMMITS);
     }
+    drop(all);
 }

@@ -19,7 +19,7 @@ const VALUES: &[(&[u8], &[u8])] = &[
 
 fn is_value(alloc: Global, solution: &[u8], wanted: &[u8]) -> bool {
     let answered = valued(alloc, &mut In::new(TINY_MODEL), &mut In::new(solution));
-    is_answer(&answered, Ok(Status::Fine), wanted)
+    is_answer(answered, Ok(Status::Fine), wanted)
 }
 
 #[test]
@@ -59,12 +59,12 @@ fn checked_text(alloc: Global, model: &[u8], solution: &[u8]) -> Answered {
 
 fn is_failed(alloc: Global, model: &[u8], solution: &[u8], wanted: &[u8]) -> bool {
     let answered = checked_text(alloc, model, solution);
-    is_answer(&answered, Ok(Status::Failed), wanted)
+    is_answer(answered, Ok(Status::Failed), wanted)
 }
 
 fn is_fine(alloc: Global) -> bool {
     let answered = checked_text(alloc, TINY_MODEL, TINY_SOLUTION);
-    is_answer(&answered, Ok(Status::Fine), FINE)
+    is_answer(answered, Ok(Status::Fine), FINE)
 }
 
 #[test]
@@ -94,7 +94,9 @@ fn is_over_from_the_start(alloc: Global) -> Result<bool, AllocError> {
     let model = below_zero(alloc)?;
     let wanted: &[u8] =
         b"value 0.000000000000000000\nover 0 0 0.000000 -1.000000\nshort 0 1 0.000000 1.000000\n";
-    Ok(is_failed(alloc, &model, b"", wanted))
+    let is = is_failed(alloc, &model, b"", wanted);
+    drop(model);
+    Ok(is)
 }
 
 #[test]

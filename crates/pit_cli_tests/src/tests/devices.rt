@@ -9,7 +9,9 @@ use std::alloc::Global;
 fn is_front_of_value(alloc: Global, piece: usize, room: usize) -> bool {
     let mut out = Narrow::new(alloc, piece, room);
     let answer = value_to(alloc, &mut out);
-    answer == Err(CliFault::CannotWrite) && Some(out.held()) == TINY_VALUE.get(..room)
+    let is = answer == Err(CliFault::CannotWrite) && Some(out.held()) == TINY_VALUE.get(..room);
+    drop(out);
+    is
 }
 
 // At room 0 it takes no byte.
@@ -25,7 +27,9 @@ fn a_sink_that_fails_keeps_a_front_of_the_value(rt: HostRuntime) {
 fn is_front_of_check(alloc: Global, room: usize) -> bool {
     let mut out = Narrow::new(alloc, 5, room);
     let answer = check_to(alloc, &mut out);
-    answer == Err(CliFault::CannotWrite) && Some(out.held()) == FINE.get(..room)
+    let is = answer == Err(CliFault::CannotWrite) && Some(out.held()) == FINE.get(..room);
+    drop(out);
+    is
 }
 
 #[test]
@@ -40,14 +44,16 @@ fn is_whole(alloc: Global, piece: usize) -> bool {
     let mut model = Broken::new(TINY_MODEL, piece, TINY_MODEL.len() + 1);
     let mut solution = Broken::new(TINY_SOLUTION, piece, TINY_SOLUTION.len() + 1);
     let answered = valued(alloc, &mut model, &mut solution);
-    is_answer(&answered, Ok(Status::Fine), TINY_VALUE)
+    is_answer(answered, Ok(Status::Fine), TINY_VALUE)
 }
 
 /// Whether a device that takes so much at once has the value, in so many writes.
 fn is_written(alloc: Global, piece: usize, writes: usize) -> bool {
     let mut out = Narrow::new(alloc, piece, TINY_VALUE.len());
     let answer = value_to(alloc, &mut out);
-    answer == Ok(Status::Fine) && out.held() == TINY_VALUE && out.writes() == writes
+    let is = answer == Ok(Status::Fine) && out.held() == TINY_VALUE && out.writes() == writes;
+    drop(out);
+    is
 }
 
 /// What devices give and take at once, and in how many writes they then take the 22 bytes of the value: a line that is taken whole is one.
@@ -67,7 +73,7 @@ fn is_without_model(alloc: Global, calls: usize) -> bool {
     let mut solution = Broken::new(b"4 0", 1, 4);
     let answered = valued(alloc, &mut model, &mut solution);
     let fault = CliFault::CannotRead(Input::Model);
-    is_answer(&answered, Err(fault), b"") && solution.rest().len() == 3
+    is_answer(answered, Err(fault), b"") && solution.rest().len() == 3
 }
 
 #[test]
@@ -84,7 +90,7 @@ fn is_without_precedences(alloc: Global, calls: usize) -> bool {
     let mut model = In::new(TINY_MODEL);
     let answered = checked(alloc, &mut model, &mut precedence, &mut solution);
     let fault = CliFault::CannotRead(Input::Precedence);
-    is_answer(&answered, Err(fault), b"") && solution.rest().len() == 3
+    is_answer(answered, Err(fault), b"") && solution.rest().len() == 3
 }
 
 #[test]
@@ -98,7 +104,7 @@ fn precedences_that_fail_at_each_call(rt: HostRuntime) {
 fn is_without_solution(alloc: Global, calls: usize) -> bool {
     let mut solution = Broken::new(TINY_SOLUTION, 1, calls);
     let answered = valued(alloc, &mut In::new(TINY_MODEL), &mut solution);
-    is_answer(&answered, Err(CliFault::CannotRead(Input::Solution)), b"")
+    is_answer(answered, Err(CliFault::CannotRead(Input::Solution)), b"")
 }
 
 #[test]

@@ -9,71 +9,92 @@ use std::process::Abort;
 use std::test::Fail;
 
 /// Nothing is written, and the fault has this line and the status of a refused input.
-fn assert_refused(
-    rt: &impl Abort,
-    alloc: Global,
-    texts: [&[u8]; 3],
-    line: &str,
-) -> Result<(), Fail> {
-    let (mut model, mut precedence) = (In::new(texts[0]), In::new(texts[1]));
-    let (answer, written) = checked(alloc, &mut model, &mut precedence, &mut In::new(texts[2]));
-    assert!(rt; written.is_empty(), "of {line}");
+fn assert_refused(rt: &impl Abort, alloc: Global, texts: Texts, line: &str) -> Result<(), Fail> {
+    let answer = answer_of(rt, alloc, texts);
     assert_fault(rt, alloc, answer, line, 2)
 }
+
+/// What `check` answers, which writes nothing.
+fn answer_of(rt: &impl Abort, alloc: Global, texts: Texts) -> Result<Status, CliFault> {
+    let (model, precedence, solution) = texts;
+    let (answer, written) = checked(
+        alloc,
+        &mut In::new(model),
+        &mut In::new(precedence),
+        &mut In::new(solution),
+    );
+    assert!(rt; written.is_empty());
+    drop(written);
+    answer
+}
+
+/// A model, precedences and a solution.
+type Texts = (&'static [u8], &'static [u8], &'static [u8]);
+
+const TEXTS: &[(Texts, &str)] = &[
+    ((b"", b"x", b"x"), "pit: model line 1: missing TYPE"),
+    (
+        (b"NAME: Tiny\nTYPE: PCPSP\n", b"", b""),
+        "pit: model line 2: not cpit",
+    ),
+    (
+        (TINY_MODEL, b"2 3 0 1", b"x"),
+        "pit: precedence line 1: predecessor count",
+    ),
+    (
+        (TINY_MODEL, TINY_PRECEDENCE, b"4 0"),
+        "pit: solution line 1: block out of range",
+    ),
+];
 
 // The first of the inputs that has one.
 #[test]
 fn of_texts(rt: HostRuntime) -> Result<(), Fail> {
-    let rows: [([&[u8]; 3], &str); 4] = [
-        ([b"", b"x", b"x"], "pit: model line 1: missing TYPE"),
-        (
-            [b"NAME: Tiny\nTYPE: PCPSP\n", b"", b""],
-            "pit: model line 2: not cpit",
-        ),
-        (
-            [TINY_MODEL, b"2 3 0 1", b"x"],
-            "pit: precedence line 1: predecessor count",
-        ),
-        (
-            [TINY_MODEL, TINY_PRECEDENCE, b"4 0"],
-            "pit: solution line 1: block out of range",
-        ),
-    ];
-    for (texts, line) in rows {
-        assert_refused(&rt, rt.alloc(), texts, line)?;
+    for (texts, line) in TEXTS {
+        assert_refused(&rt, rt.alloc(), *texts, line)?;
     }
     Ok(())
 }
 
+const ERROR: TextError = TextError {
+    line: 7,
+    cause: Cause::NotAscii,
+};
+
+/// A fault, its line and its status.
+const FAULTS: &[(CliFault, &str, u8)] = &[
+    (
+        CliFault::Text {
+            file: Input::Model,
+            error: ERROR,
+        },
+        "pit: model line 7: not ascii",
+        2,
+    ),
+    (CliFault::TooLong(Input::Model), "pit: model: too long", 2),
+    (
+        CliFault::TooLong(Input::Precedence),
+        "pit: precedence: too long",
+        2,
+    ),
+    (
+        CliFault::CannotRead(Input::Model),
+        "pit: cannot read model",
+        3,
+    ),
+    (
+        CliFault::CannotRead(Input::Solution),
+        "pit: cannot read solution",
+        3,
+    ),
+    (CliFault::CannotWrite, "pit: cannot write", 3),
+    (CliFault::NoMemory, "pit: no memory", 3),
+];
+
 #[test]
 fn each_has_its_line_and_status(rt: HostRuntime) -> Result<(), Fail> {
-    let error = TextError {
-        line: 7,
-        cause: Cause::NotAscii,
-    };
-    let file = Input::Model;
-    for (fault, line, status) in [
-        (
-            CliFault::Text { file, error },
-            "pit: model line 7: not ascii",
-            2,
-        ),
-        (CliFault::TooLong(file), "pit: model: too long", 2),
-        (
-            CliFault::TooLong(Input::Precedence),
-            "pit: precedence: too long",
-            2,
-        ),
-        (CliFault::CannotRead(file), "pit: cannot read model", 3),
-        (
-            CliFault::CannotRead(Input::Solution),
-            "pit: cannot read solution",
-            3,
-        ),
-        (CliFault::CannotWrite, "pit: cannot write", 3),
-        (CliFault::NoMemory, "pit: no memory", 3),
-    ] {
-        assert_fault(&rt, rt.alloc(), Err(fault), line, status)?;
+    for (fault, line, status) in FAULTS {
+        assert_fault(&rt, rt.alloc(), Err(*fault), line, *status)?;
     }
     Ok(())
 }

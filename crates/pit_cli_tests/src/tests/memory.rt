@@ -6,7 +6,7 @@ use pit_cli::{CliFault, Input, ReadError, Status, check, value};
 use pit_refuse::Refusing;
 use pit_sample::{Broken, Narrow, TINY_MODEL, TINY_PRECEDENCE, TINY_SOLUTION, TINY_VALUE};
 use pit_text::{Cause, Key, TextError};
-use std::alloc::Global;
+use std::alloc::{Allocator, Global};
 use std::fmt::Write;
 use std::process::Abort;
 
@@ -48,14 +48,37 @@ fn device<'a>(given: Given<'a>) -> Broken<'a> {
 }
 
 fn answer_of(heap: Heap<'_>, run: Run<'_>, out: &mut Narrow) -> Result<Status, CliFault> {
-    let (mut model, mut solution) = (device(run.model), device(run.solution));
     match run.engine {
-        Engine::Value => value(heap, &mut model, &mut solution, out),
-        Engine::Check => {
-            let mut precedence = device(run.precedence);
-            check(heap, &mut model, &mut precedence, &mut solution, out)
-        }
+        Engine::Value => valued(heap, run, out),
+        Engine::Check => checked(heap, run, out),
     }
+}
+
+fn valued<A: Allocator + Copy + Drop>(
+    alloc: A,
+    run: Run<'_>,
+    out: &mut Narrow,
+) -> Result<Status, CliFault> {
+    value(
+        alloc,
+        &mut device(run.model),
+        &mut device(run.solution),
+        out,
+    )
+}
+
+fn checked<A: Allocator + Copy + Drop>(
+    alloc: A,
+    run: Run<'_>,
+    out: &mut Narrow,
+) -> Result<Status, CliFault> {
+    check(
+        alloc,
+        &mut device(run.model),
+        &mut device(run.precedence),
+        &mut device(run.solution),
+        out,
+    )
 }
 
 /// Whether the engine ends as it has to. Else it answers want of memory, and writes nothing. All memory is given back.
@@ -63,7 +86,9 @@ fn is_right(rt: &impl Abort, heap: Heap<'_>, plain: Global, run: Run<'_>) -> boo
     let mut out = Narrow::new(plain, PIECE, run.written.len());
     let answer = answer_of(heap, run, &mut out);
     assert!(rt; heap.used() == 0);
-    is_whole_answer(rt, run, answer, out.held())
+    let is_whole = is_whole_answer(rt, run, answer, out.held());
+    drop(out);
+    is_whole
 }
 
 fn is_whole_answer(
@@ -76,7 +101,7 @@ fn is_whole_answer(
         assert!(rt; written.is_empty());
         return false;
     }
-    assert_eq!(rt; answer, run.answer);
+    assert!(rt; answer == run.answer);
     assert!(rt; written == run.written);
     true
 }
@@ -96,7 +121,9 @@ fn run_twice(rt: &impl Abort, heap: Heap<'_>, plain: Global, run: Run<'_>) {
 fn is_whole(rt: &impl Abort, alloc: Global, number: u64, run: Run<'_>) -> bool {
     let heap = Refusing::over_heap(alloc, BYTES, number).expect(rt, "a heap");
     run_twice(rt, &heap, alloc, run);
-    !heap.count().has_refused()
+    let is_whole = !heap.count().has_refused();
+    drop(heap);
+    is_whole
 }
 
 /// Refuses each request in turn, up to the one behind the last, which is above this number.
@@ -248,6 +275,7 @@ const QUIET: &[Run<'static>] = &[
 fn is_not_asked_for_in_vain(rt: HostRuntime) {
     let heap = Refusing::over_heap(rt.alloc(), BYTES, 1).expect(&rt, "a heap");
     assert_quiet(&rt, &heap, rt.alloc());
+    drop(heap);
 }
 
 fn assert_quiet(rt: &impl Abort, heap: Heap<'_>, plain: Global) {
@@ -368,6 +396,10 @@ fn of_long_texts(rt: HostRuntime) {
         written: answer.as_bytes(),
     };
     refuse_each_long(&rt, rt.alloc(), check);
+    drop(model);
+    drop(precedence);
+    drop(solution);
+    drop(answer);
 }
 
 fn refuse_each_long(rt: &impl Abort, alloc: Global, check: Run<'_>) {
@@ -389,7 +421,7 @@ fn is_read(rt: &impl Abort, heap: Heap<'_>, bytes: &[u8], piece: usize) -> bool 
     if answer == Err(ReadError::NoMemory) {
         return false;
     }
-    assert_eq!(rt; answer, Ok(true));
+    assert!(rt; answer == Ok(true));
     true
 }
 
@@ -408,7 +440,9 @@ fn read_twice(rt: &impl Abort, heap: Heap<'_>, bytes: &[u8], piece: usize) {
 fn is_read_whole(rt: &impl Abort, alloc: Global, number: u64, bytes: &[u8], piece: usize) -> bool {
     let heap = Refusing::over_heap(alloc, BYTES, number).expect(rt, "a heap");
     read_twice(rt, &heap, bytes, piece);
-    !heap.count().has_refused()
+    let is_whole = !heap.count().has_refused();
+    drop(heap);
+    is_whole
 }
 
 fn refuse_each_read(rt: &impl Abort, alloc: Global, bytes: &[u8], piece: usize, least: u64) {
@@ -428,4 +462,5 @@ fn of_read_all(rt: HostRuntime) {
     for (piece, least) in [(PIECE, 8), (65_536, 2)] {
         refuse_each_read(&rt, rt.alloc(), &bytes, piece, least);
     }
+    drop(bytes);
 }

@@ -21,14 +21,20 @@ pub(super) fn gives<A: Allocator + Drop, R: Source>(
     bytes: &[u8],
 ) -> Result<bool, ReadError> {
     match read_all(alloc, source) {
-        Ok(read) => Ok(read.as_slice() == bytes),
+        Ok(read) => {
+            let is = read.as_slice() == bytes;
+            drop(read);
+            Ok(is)
+        }
         Err(error) => Err(error),
     }
 }
 
 fn gives_pattern(alloc: Global, length: usize) -> Result<Result<bool, ReadError>, AllocError> {
     let bytes = pattern(alloc, length)?;
-    Ok(gives(alloc, &mut In::new(bytes.as_slice()), &bytes))
+    let answer = gives(alloc, &mut In::new(bytes.as_slice()), &bytes);
+    drop(bytes);
+    Ok(answer)
 }
 
 #[test]

@@ -16,20 +16,25 @@ type Heap<'a> = &'a Refusing<LocalHeap>;
 const BYTES: usize = 4_194_304;
 
 /// The builder, which is made anew where memory was refused.
-fn begun<'a>(rt: &impl Abort, heap: Heap<'a>, size: Size) -> Builder<Heap<'a>> {
+fn begun<A: Allocator + Copy + Drop>(
+    rt: &impl Abort,
+    heap: Heap<'_>,
+    alloc: A,
+    size: Size,
+) -> Builder<A> {
     let before = heap.count();
-    if let Ok(builder) = size.builder(heap) {
+    if let Ok(builder) = size.builder(alloc) {
         return builder;
     }
     assert!(rt; heap.count().has_refused_since(before));
-    size.builder(heap).expect(rt, "no memory twice")
+    size.builder(alloc).expect(rt, "no memory twice")
 }
 
 /// Tells a fact, and tells it again where memory was refused.
-fn tell_twice<'a>(
+fn tell_twice<A: Allocator + Copy + Drop>(
     rt: &impl Abort,
-    heap: Heap<'a>,
-    builder: &mut Builder<Heap<'a>>,
+    heap: Heap<'_>,
+    builder: &mut Builder<A>,
     fact: Fact,
 ) -> Result<(), BuildError> {
     let before = heap.count();
@@ -41,9 +46,14 @@ fn tell_twice<'a>(
     tell(builder, fact)
 }
 
-fn tell_all<'a>(rt: &impl Abort, heap: Heap<'a>, builder: &mut Builder<Heap<'a>>, facts: &[Fact]) {
+fn tell_all<A: Allocator + Copy + Drop>(
+    rt: &impl Abort,
+    heap: Heap<'_>,
+    builder: &mut Builder<A>,
+    facts: &[Fact],
+) {
     for fact in facts {
-        assert_eq!(rt; tell_twice(rt, heap, builder, *fact), Ok(()));
+        assert!(rt; tell_twice(rt, heap, builder, *fact).is_ok());
     }
 }
 
@@ -60,10 +70,14 @@ const QUIET: &[(Fact, Result<(), BuildError>)] = &[
     (Place(4, (0, 0, 0)), Err(BuildError::BlockRange)),
 ];
 
-fn assert_quiet<'a>(rt: &impl Abort, heap: Heap<'a>, builder: &mut Builder<Heap<'a>>) {
+fn assert_quiet<A: Allocator + Copy + Drop>(
+    rt: &impl Abort,
+    heap: Heap<'_>,
+    builder: &mut Builder<A>,
+) {
     let before = heap.count();
     for (fact, wanted) in QUIET {
-        assert_eq!(rt; tell(builder, *fact), *wanted);
+        assert!(rt; tell(builder, *fact) == *wanted);
     }
     assert!(rt; heap.count() == before);
 }
@@ -72,50 +86,61 @@ fn assert_quiet<'a>(rt: &impl Abort, heap: Heap<'a>, builder: &mut Builder<Heap<
 #[test]
 fn is_not_asked_for_in_vain(rt: HostRuntime) {
     let heap = Refusing::over_heap(rt.alloc(), BYTES, 0).expect(&rt, "a heap");
-    let mut builder = TINY_SIZE.builder(&heap).expect(&rt, "a builder");
-    assert_quiet(&rt, &heap, &mut builder);
+    ask_in_vain(&rt, &heap, &heap);
+}
+
+fn ask_in_vain<A: Allocator + Copy + Drop>(rt: &impl Abort, heap: Heap<'_>, alloc: A) {
+    let mut builder = TINY_SIZE.builder(alloc).expect(rt, "a builder");
+    assert_quiet(rt, heap, &mut builder);
+    drop(builder);
 }
 
 /// Builds, and builds again where memory was refused.
-fn built_twice<'a>(
+fn built_twice<A: Allocator + Copy + Drop>(
     rt: &impl Abort,
-    heap: Heap<'a>,
-    builder: Builder<Heap<'a>>,
-) -> Instance<Heap<'a>> {
+    heap: Heap<'_>,
+    builder: Builder<A>,
+) -> Instance<A> {
     let before = heap.count();
     match builder.build() {
         Ok(pit) => pit,
         Err((builder, NoMemory)) => {
             assert!(rt; heap.count().has_refused_since(before));
-            builder.build().ok().expect(rt, "no memory twice")
+            built_again(rt, builder)
         }
     }
 }
 
+fn built_again<A: Allocator + Copy + Drop>(rt: &impl Abort, builder: Builder<A>) -> Instance<A> {
+    builder.build().ok().expect(rt, "no memory twice")
+}
+
 /// What is read of a pit takes no memory.
-fn assert_small<'a>(rt: &impl Abort, heap: Heap<'a>, pit: &Instance<Heap<'a>>) {
+fn assert_small<A: Allocator + Copy + Drop>(rt: &impl Abort, heap: Heap<'_>, pit: &Instance<A>) {
     let before = heap.count();
     assert_tiny(rt, pit);
     assert!(rt; heap.count() == before);
 }
 
 /// The small pit, told fact by fact.
-fn small(rt: &impl Abort, heap: Heap<'_>) {
-    let mut builder = begun(rt, heap, TINY_SIZE);
+fn small<A: Allocator + Copy + Drop>(rt: &impl Abort, heap: Heap<'_>, alloc: A) {
+    let mut builder = begun(rt, heap, alloc, TINY_SIZE);
     tell_all(rt, heap, &mut builder, TINY);
     tell_all(rt, heap, &mut builder, TINY_PLACES);
-    assert_small(rt, heap, &built_twice(rt, heap, builder));
+    let pit = built_twice(rt, heap, builder);
+    assert_small(rt, heap, &pit);
+    drop(pit);
 }
 
 /// Whether no request had the number. All memory is given back in the end.
 fn is_small_whole(rt: &impl Abort, alloc: Global, number: u64) -> bool {
     let heap = Refusing::over_heap(alloc, BYTES, number).expect(rt, "a heap");
-    small(rt, &heap);
+    small(rt, &heap, &heap);
     is_whole(rt, &heap)
 }
 
 fn is_whole(rt: &impl Abort, heap: Heap<'_>) -> bool {
-    assert_eq!(rt; heap.used(), 0);
+    assert!(rt; heap.used() == 0);
     !heap.count().has_refused()
 }
 
@@ -158,20 +183,24 @@ fn amount_of(r: u32) -> i32 {
 }
 
 /// The coefficients of each resource, of the blocks one behind the other: the list of each block grows after those of others.
-fn tell_coefs<'a>(rt: &impl Abort, heap: Heap<'a>, builder: &mut Builder<Heap<'a>>) {
+fn tell_coefs<A: Allocator + Copy + Drop>(
+    rt: &impl Abort,
+    heap: Heap<'_>,
+    builder: &mut Builder<A>,
+) {
     for r in 0..LARGE.resources {
         for b in 0..LARGE.blocks {
             let fact = Coef(b, r, amount_of(r));
-            assert_eq!(rt; tell_twice(rt, heap, builder, fact), Ok(()));
+            assert!(rt; tell_twice(rt, heap, builder, fact).is_ok());
         }
     }
 }
 
 /// Sets predecessors, and sets them again where memory was refused.
-fn set_twice<'a>(
+fn set_twice<A: Allocator + Copy + Drop>(
     rt: &impl Abort,
-    heap: Heap<'a>,
-    builder: &mut Builder<Heap<'a>>,
+    heap: Heap<'_>,
+    builder: &mut Builder<A>,
     b: u32,
     listed: &[u32],
 ) {
@@ -181,8 +210,8 @@ fn set_twice<'a>(
         return;
     }
     assert!(rt; heap.count().has_refused_since(before));
-    assert_eq!(rt; answer, Err(BuildError::NoMemory));
-    assert_eq!(rt; builder.set_preds(b, listed), Ok(()));
+    assert!(rt; answer == Err(BuildError::NoMemory));
+    assert!(rt; builder.set_preds(b, listed).is_ok());
 }
 
 /// Whether a block has a coefficient of each resource, rising.
@@ -231,18 +260,20 @@ fn is_large<A: Allocator + Copy + Drop>(pit: &Instance<A>) -> bool {
     is_rising(pit.preds(200), 0, 100) && is_rising(pit.preds(219), 0, 100)
 }
 
-fn large(rt: &impl Abort, heap: Heap<'_>, listed: &[u32]) {
-    let mut builder = begun(rt, heap, LARGE);
+fn large<A: Allocator + Copy + Drop>(rt: &impl Abort, heap: Heap<'_>, alloc: A, listed: &[u32]) {
+    let mut builder = begun(rt, heap, alloc, LARGE);
     tell_coefs(rt, heap, &mut builder);
     for b in 200..220u32 {
         set_twice(rt, heap, &mut builder, b, listed);
     }
-    assert!(rt; is_large(&built_twice(rt, heap, builder)));
+    let pit = built_twice(rt, heap, builder);
+    assert!(rt; is_large(&pit));
+    drop(pit);
 }
 
 fn is_large_whole(rt: &impl Abort, alloc: Global, number: u64, listed: &[u32]) -> bool {
     let heap = Refusing::over_heap(alloc, BYTES, number).expect(rt, "a heap");
-    large(rt, &heap, listed);
+    large(rt, &heap, &heap, listed);
     is_whole(rt, &heap)
 }
 
@@ -266,22 +297,27 @@ fn is_unchanged_where_memory_for_many_is_refused(rt: HostRuntime) {
 }
 
 /// Empty lists take fewer bytes than there are blocks.
-fn assert_bits<'a>(rt: &impl Abort, heap: Heap<'a>, builder: &mut Builder<Heap<'a>>) {
+fn assert_bits<A: Allocator + Copy + Drop>(
+    rt: &impl Abort,
+    heap: Heap<'_>,
+    builder: &mut Builder<A>,
+) {
     let before = heap.used();
     for b in 0..LARGE.blocks {
-        assert_eq!(rt; builder.set_preds(b, &[]), Ok(()));
+        assert!(rt; builder.set_preds(b, &[]).is_ok());
     }
     assert!(rt; heap.used().saturating_sub(before) < 300);
 }
 
-fn empty_lists(rt: &impl Abort, heap: Heap<'_>) {
-    let mut builder = begun(rt, heap, LARGE);
+fn empty_lists<A: Allocator + Copy + Drop>(rt: &impl Abort, heap: Heap<'_>, alloc: A) {
+    let mut builder = begun(rt, heap, alloc, LARGE);
     assert_bits(rt, heap, &mut builder);
+    drop(builder);
 }
 
 /// A block that has no predecessors takes a bit, and no row among those of the others.
 #[test]
 fn is_a_bit_for_an_empty_list(rt: HostRuntime) {
     let heap = Refusing::over_heap(rt.alloc(), BYTES, 0).expect(&rt, "a heap");
-    empty_lists(&rt, &heap);
+    empty_lists(&rt, &heap, &heap);
 }

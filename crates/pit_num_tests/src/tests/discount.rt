@@ -18,9 +18,10 @@ const FACTORS: &[(u32, u32, i64)] = &[
 
 fn factor(rt: &impl Abort, alloc: Global, rate: u32, t: u32) -> i64 {
     assert!(rt; rate <= 1_000_000 && t < 14);
-    Discount::new(alloc, rate, 14)
-        .expect(rt, "memory")
-        .factor(t)
+    let discount = Discount::new(alloc, rate, 14).expect(rt, "memory");
+    let factor = discount.factor(t);
+    drop(discount);
+    factor
 }
 
 #[test]
@@ -33,7 +34,9 @@ fn factors(rt: HostRuntime) {
 /// The factor of period 2; none where memory is refused.
 fn third_factor(heap: &Refusing<LocalHeap>) -> Result<i64, NoMemory> {
     let discount = Discount::new(heap, 100_000, 1_000)?;
-    Ok(discount.factor(2))
+    let factor = discount.factor(2);
+    drop(discount);
+    Ok(factor)
 }
 
 /// Whether no request had the number. All memory is given back in the end.

@@ -17,7 +17,9 @@ fn is_value(alloc: Global, value: i128, wanted: &[u8]) -> bool {
     let mut out = Out::new(Vec::new(alloc));
     let answer = write_value(&mut out, value);
     let written = out.into_inner();
-    answer == Ok(()) && written.as_slice() == wanted
+    let is = answer == Ok(()) && written.as_slice() == wanted;
+    drop(written);
+    is
 }
 
 #[test]
@@ -35,7 +37,9 @@ fn is_load(alloc: Global, load: i128, wanted: &[u8]) -> bool {
     let mut out = Out::new(Vec::new(alloc));
     let answer = write_micro(&mut out, load);
     let written = out.into_inner();
-    answer == Ok(()) && written.as_slice() == wanted
+    let is = answer == Ok(()) && written.as_slice() == wanted;
+    drop(written);
+    is
 }
 
 #[test]
@@ -58,6 +62,7 @@ fn texts_follow_each_other(rt: HostRuntime) {
     assert!(rt; write_all(&mut out) == Ok(()));
     let written = out.into_inner();
     assert!(rt; written.as_slice() == b"value -0.000000000000000001\n4294967295".as_slice());
+    drop(written);
 }
 
 const TEXT: &[u8] = b"-9.090909090910000000";
@@ -67,7 +72,11 @@ fn is_front(alloc: Global, piece: usize, room: usize) -> bool {
     let mut out = Narrow::new(alloc, piece, room);
     let first = write_value(&mut out, -9_090_909_090_910_000_000);
     let second = write_text(&mut out, b"x");
-    first == Err(WriteFault) && second == Err(WriteFault) && Some(out.held()) == TEXT.get(..room)
+    let is = first == Err(WriteFault)
+        && second == Err(WriteFault)
+        && Some(out.held()) == TEXT.get(..room);
+    drop(out);
+    is
 }
 
 // A device that fails behind each byte of the text has got exactly the bytes before, and stays so.

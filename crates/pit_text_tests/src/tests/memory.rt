@@ -5,7 +5,7 @@ use pit_model::{Builder, Instance};
 use pit_refuse::Refusing;
 use pit_sample::Size;
 use pit_text::{Cause, TextError, read_blocks, read_model, read_precedence, read_solution};
-use std::alloc::Global;
+use std::alloc::{Allocator, Global};
 use std::fmt::Write;
 use std::process::Abort;
 
@@ -48,35 +48,35 @@ const WANT: TextError = TextError {
     cause: Cause::NoMemory,
 };
 
-fn empty<'a>(heap: Heap<'a>) -> Result<Builder<Heap<'a>>, TextError> {
-    match SIZE.builder(heap) {
+fn empty<A: Allocator + Copy + Drop>(alloc: A) -> Result<Builder<A>, TextError> {
+    match SIZE.builder(alloc) {
         Ok(builder) => Ok(builder),
         Err(_) => Err(WANT),
     }
 }
 
-fn pit_of<'a>(builder: Builder<Heap<'a>>) -> Result<Instance<Heap<'a>>, TextError> {
+fn pit_of<A: Allocator + Copy + Drop>(builder: Builder<A>) -> Result<Instance<A>, TextError> {
     match builder.build() {
         Ok(pit) => Ok(pit),
         Err(_) => Err(WANT),
     }
 }
 
-fn empty_pit<'a>(heap: Heap<'a>) -> Result<Instance<Heap<'a>>, TextError> {
-    pit_of(empty(heap)?)
-}
-
 /// The three coefficients of the last block of a long model.
 const COEFS: &[(u32, i64)] = &[(0, 1_000_000), (1, 1_000_000), (2, 1_000_000)];
 
-fn model_read(heap: Heap<'_>, text: &[u8]) -> Result<bool, TextError> {
-    let pit = pit_of(read_model(heap, text)?)?;
-    Ok(499 < pit.blocks() && pit.coefs(499) == COEFS)
+fn model_read<A: Allocator + Copy + Drop>(alloc: A, text: &[u8]) -> Result<bool, TextError> {
+    let pit = pit_of(read_model(alloc, text)?)?;
+    let is = 499 < pit.blocks() && pit.coefs(499) == COEFS;
+    drop(pit);
+    Ok(is)
 }
 
-fn precedence_read(heap: Heap<'_>, text: &[u8]) -> Result<bool, TextError> {
-    let pit = pit_of(read_precedence(heap, text, empty(heap)?)?)?;
-    Ok(239 < pit.blocks() && is_hundred(pit.preds(239)))
+fn precedence_read<A: Allocator + Copy + Drop>(alloc: A, text: &[u8]) -> Result<bool, TextError> {
+    let pit = pit_of(read_precedence(alloc, text, empty(alloc)?)?)?;
+    let is = 239 < pit.blocks() && is_hundred(pit.preds(239));
+    drop(pit);
+    Ok(is)
 }
 
 /// Whether these are the first hundred blocks.
@@ -89,15 +89,29 @@ fn is_hundred(blocks: &[u32]) -> bool {
     blocks.len() == 100
 }
 
-fn blocks_read(heap: Heap<'_>, text: &[u8]) -> Result<bool, TextError> {
-    let pit = pit_of(read_blocks(text, empty(heap)?)?)?;
-    Ok(1_499 < pit.blocks() && pit.place(1_499) == Some((1_000_000, 2_000_000, 3_000_000)))
+fn blocks_read<A: Allocator + Copy + Drop>(alloc: A, text: &[u8]) -> Result<bool, TextError> {
+    let pit = pit_of(read_blocks(text, empty(alloc)?)?)?;
+    let is = 1_499 < pit.blocks() && pit.place(1_499) == Some((1_000_000, 2_000_000, 3_000_000));
+    drop(pit);
+    Ok(is)
 }
 
-fn solution_read(heap: Heap<'_>, text: &[u8]) -> Result<bool, TextError> {
-    let pit = empty_pit(heap)?;
-    let solution = read_solution(heap, text, &pit)?;
-    Ok(is_whole(&solution))
+fn solution_read<A: Allocator + Copy + Drop>(alloc: A, text: &[u8]) -> Result<bool, TextError> {
+    let pit = pit_of(empty(alloc)?)?;
+    let answer = is_solution_read(alloc, &pit, text);
+    drop(pit);
+    answer
+}
+
+fn is_solution_read<A: Allocator + Copy + Drop>(
+    alloc: A,
+    pit: &Instance<A>,
+    text: &[u8],
+) -> Result<bool, TextError> {
+    let solution = read_solution(alloc, text, pit)?;
+    let is = is_whole(&solution);
+    drop(solution);
+    Ok(is)
 }
 
 /// Whether each block is in period 1.
@@ -111,24 +125,24 @@ fn is_whole(solution: &[(u32, u32)]) -> bool {
 }
 
 /// Whether a text is read as it has to be.
-fn read(heap: Heap<'_>, kind: Kind, text: &[u8]) -> Result<bool, TextError> {
+fn read<A: Allocator + Copy + Drop>(alloc: A, kind: Kind, text: &[u8]) -> Result<bool, TextError> {
     match kind {
-        Kind::Model => model_read(heap, text),
-        Kind::Precedence => precedence_read(heap, text),
-        Kind::Blocks => blocks_read(heap, text),
-        Kind::Solution => solution_read(heap, text),
+        Kind::Model => model_read(alloc, text),
+        Kind::Precedence => precedence_read(alloc, text),
+        Kind::Blocks => blocks_read(alloc, text),
+        Kind::Solution => solution_read(alloc, text),
     }
 }
 
 /// Whether a text is read before the refused request. Else want of memory is answered.
 fn is_read(rt: &impl Abort, heap: Heap<'_>, kind: Kind, text: &[u8]) -> bool {
     let answer = read(heap, kind, text);
-    assert_eq!(rt; heap.used(), 0);
+    assert!(rt; heap.used() == 0);
     if heap.count().has_refused() {
         assert!(rt; is_want(answer));
         return false;
     }
-    assert_eq!(rt; answer, Ok(true));
+    assert!(rt; answer == Ok(true));
     true
 }
 
@@ -139,13 +153,27 @@ fn is_want(answer: Result<bool, TextError>) -> bool {
     }
 }
 
+/// Whether no request had the number, and there were so many.
+fn is_read_whole(
+    rt: &impl Abort,
+    alloc: Global,
+    number: u64,
+    kind: Kind,
+    text: &str,
+    requests: u64,
+) -> bool {
+    let heap = Refusing::over_heap(alloc, BYTES, number).expect(rt, "a heap");
+    let is_read = is_read(rt, &heap, kind, text.as_bytes());
+    assert!(rt; !is_read || heap.count().asked == requests);
+    drop(heap);
+    is_read
+}
+
 /// Refuses each request in turn, of which there are so many.
 fn refuse_each(rt: &impl Abort, alloc: Global, kind: Kind, text: &str, requests: u64) {
     assert!(rt; text.len() > 8_192);
     for number in 1..200 {
-        let heap = Refusing::over_heap(alloc, BYTES, number).expect(rt, "a heap");
-        if is_read(rt, &heap, kind, text.as_bytes()) {
-            assert_eq!(rt; heap.count().asked, requests);
+        if is_read_whole(rt, alloc, number, kind, text, requests) {
             return;
         }
     }
@@ -167,6 +195,7 @@ fn of_read_model(rt: HostRuntime) {
         }
     }
     refuse_each(&rt, rt.alloc(), Kind::Model, text.as_str(), BUILDER + 13);
+    drop(text);
 }
 
 fn push_preds(rt: &impl Abort, text: &mut String, b: u32) {
@@ -192,6 +221,7 @@ fn of_read_precedence(rt: HostRuntime) {
         text.as_str(),
         BUILDER + 18,
     );
+    drop(text);
 }
 
 /// All places are one request, and the factors another.
@@ -202,6 +232,7 @@ fn of_read_blocks(rt: HostRuntime) {
         assert!(rt; writeln!(text, "{b} 1 2 3").is_ok());
     }
     refuse_each(&rt, rt.alloc(), Kind::Blocks, text.as_str(), BUILDER + 2);
+    drop(text);
 }
 
 /// The pit's factors are one request, and the slots another. The pairs have room for 4 and are doubled to 2,048, which is 10.
@@ -212,6 +243,7 @@ fn of_read_solution(rt: HostRuntime) {
         assert!(rt; writeln!(text, "{b} 1").is_ok());
     }
     refuse_each(&rt, rt.alloc(), Kind::Solution, text.as_str(), BUILDER + 12);
+    drop(text);
 }
 
 /// Texts for which no reader takes memory, what is answered, and the requests of what they are read into: those of a builder, and for a
@@ -249,11 +281,24 @@ const QUIET: &[(Kind, &[u8], Result<bool, TextError>, u64)] = &[
 
 #[test]
 fn is_not_asked_for_in_vain(rt: HostRuntime) {
-    for (kind, text, wanted, requests) in QUIET {
-        let heap = Refusing::over_heap(rt.alloc(), BYTES, 0).expect(&rt, "a heap");
-        assert_eq!(rt; read(&heap, *kind, text), *wanted);
-        assert_eq!(rt; heap.count().asked, *requests);
+    for row in QUIET {
+        let (kind, text, wanted, requests) = *row;
+        assert_quiet(&rt, rt.alloc(), kind, text, wanted, requests);
     }
+}
+
+fn assert_quiet(
+    rt: &impl Abort,
+    alloc: Global,
+    kind: Kind,
+    text: &[u8],
+    wanted: Result<bool, TextError>,
+    requests: u64,
+) {
+    let heap = Refusing::over_heap(alloc, BYTES, 0).expect(rt, "a heap");
+    assert!(rt; read(&heap, kind, text) == wanted);
+    assert!(rt; heap.count().asked == requests);
+    drop(heap);
 }
 
 /// Texts with a fault behind what takes memory, and the line of it.
@@ -280,9 +325,14 @@ RESOURCE_CONSTRAINT_COEFFICIENTS:
 #[test]
 fn is_freed_after_a_fault(rt: HostRuntime) {
     for (kind, text, line) in FAULTY {
-        let heap = Refusing::over_heap(rt.alloc(), BYTES, 0).expect(&rt, "a heap");
-        assert_eq!(rt; read(&heap, *kind, text), Err(fault(*line, REPEATED)));
-        assert!(rt; heap.count().asked > 0);
-        assert_eq!(rt; heap.used(), 0);
+        assert_freed(&rt, rt.alloc(), *kind, text, fault(*line, REPEATED));
     }
+}
+
+fn assert_freed(rt: &impl Abort, alloc: Global, kind: Kind, text: &[u8], error: TextError) {
+    let heap = Refusing::over_heap(alloc, BYTES, 0).expect(rt, "a heap");
+    assert!(rt; read(&heap, kind, text) == Err(error));
+    assert!(rt; heap.count().asked > 0);
+    assert!(rt; heap.used() == 0);
+    drop(heap);
 }

@@ -14,6 +14,7 @@ use std::process::Abort;
 fn pit_read(rt: &impl Abort, alloc: Global, parts: &[&[u8]]) -> Instance<Global> {
     let text = joined(rt, alloc, parts);
     let builder = read_model(alloc, &text).expect(rt, "no fault");
+    drop(text);
     built(rt, builder)
 }
 
@@ -34,18 +35,26 @@ NRESOURCE_SIDE_CONSTRAINTS: 1\r\nDISCOUNT_RATE: 0.1\r\n  %\r\nOBJECTIVE_FUNCTION
 RESOURCE_CONSTRAINT_COEFFICIENTS:\r\n0 0 2\r\n1 0 2\r\n\t%\r\n2 0 3\r\n3 0 1\r\nRESOURCE_CONSTRAINT_LIMITS:\r\n0 0 L 4\r
 0 1 I 1 4\r";
 
+fn assert_read(rt: &impl Abort, alloc: Global, parts: &[&[u8]]) {
+    let pit = pit_read(rt, alloc, parts);
+    assert_tiny(rt, &pit);
+    drop(pit);
+}
+
 /// The small pit, with its sections in any order, and with other line ends and comments.
 #[test]
 fn tiny_in_any_form(rt: HostRuntime) {
     for parts in ORDERS {
-        assert_tiny(&rt, &pit_read(&rt, rt.alloc(), parts));
+        assert_read(&rt, rt.alloc(), parts);
     }
 }
 
 /// The fault of a model of these parts.
 fn model_fault(rt: &impl Abort, alloc: Global, parts: &[&[u8]]) -> Option<TextError> {
     let text = joined(rt, alloc, parts);
-    read_model(alloc, &text).err()
+    let answer = read_model(alloc, &text).err();
+    drop(text);
+    answer
 }
 
 /// The parts of a model, and the line and the cause of its fault.
@@ -126,7 +135,7 @@ const LINES: &[Row] = &[
 fn assert_faults(rt: &impl Abort, alloc: Global, rows: &[Row]) {
     for (parts, line, cause) in rows {
         let answer = model_fault(rt, alloc, parts);
-        assert_eq!(rt; answer, Some(fault(*line, *cause)));
+        assert!(rt; answer == Some(fault(*line, *cause)));
     }
 }
 
@@ -144,13 +153,20 @@ const BOUNDS: &[(&[u8], Option<i64>, Option<i64>)] = &[
     (b"0 0 G -2.5", Some(-2_500_000), None),
 ];
 
+/// The bounds of a small pit of which this line alone is read.
+fn bounds_by(rt: &impl Abort, alloc: Global, line: &[u8]) -> (Option<i64>, Option<i64>) {
+    let parts = [TINY_HEADER, b"RESOURCE_CONSTRAINT_LIMITS\n", line];
+    let pit = pit_read(rt, alloc, &parts);
+    let bounds = bounds_of(rt, &pit, 0, 0);
+    drop(pit);
+    bounds
+}
+
 // An infinite bound is none.
 #[test]
 fn limits(rt: HostRuntime) {
     for (line, lower, upper) in BOUNDS {
-        let parts = [TINY_HEADER, b"RESOURCE_CONSTRAINT_LIMITS\n", line];
-        let pit = pit_read(&rt, rt.alloc(), &parts);
-        assert!(rt; bounds_of(&rt, &pit, 0, 0) == (*lower, *upper));
+        assert!(rt; bounds_by(&rt, rt.alloc(), line) == (*lower, *upper));
     }
 }
 

@@ -25,7 +25,7 @@ const PRECEDENCE_FAULTS: &[Row] = &[
 fn precedences_that_are_refused(rt: HostRuntime) {
     for (text, line, cause) in PRECEDENCE_FAULTS {
         let answer = precedence_fault(&rt, rt.alloc(), text);
-        assert_eq!(rt; answer, Some(fault(*line, *cause)));
+        assert!(rt; answer == Some(fault(*line, *cause)));
     }
 }
 
@@ -50,11 +50,17 @@ fn has_preds(pit: &Instance<Global>) -> bool {
         && pit.preds(3).is_empty()
 }
 
+fn assert_preds(rt: &impl Abort, alloc: Global, text: &[u8]) {
+    let pit = with_precedence(rt, alloc, text);
+    assert!(rt; has_preds(&pit));
+    drop(pit);
+}
+
 // Predecessors rise, without the block itself and each once.
 #[test]
 fn predecessors(rt: HostRuntime) {
-    assert!(rt; has_preds(&with_precedence(&rt, rt.alloc(), TINY_PRECEDENCE)));
-    assert!(rt; has_preds(&with_precedence(&rt, rt.alloc(), b"1 2 0 1\r\n2 3 0 0 1\r\n")));
+    assert_preds(&rt, rt.alloc(), TINY_PRECEDENCE);
+    assert_preds(&rt, rt.alloc(), b"1 2 0 1\r\n2 3 0 0 1\r\n");
 }
 
 fn blocks_fault(rt: &impl Abort, alloc: Global, text: &[u8]) -> Option<TextError> {
@@ -72,7 +78,7 @@ const BLOCKS_FAULTS: &[Row] = &[
 fn blocks_that_are_refused(rt: HostRuntime) {
     for (text, line, cause) in BLOCKS_FAULTS {
         let answer = blocks_fault(&rt, rt.alloc(), text);
-        assert_eq!(rt; answer, Some(fault(*line, *cause)));
+        assert!(rt; answer == Some(fault(*line, *cause)));
     }
 }
 
@@ -95,14 +101,19 @@ const PLACES: &[(&[u8], Place, Place)] = &[
     (b"0 0 0 2 ore 7", Some((0, 0, 2_000_000)), None),
 ];
 
+fn assert_places(rt: &impl Abort, alloc: Global, text: &[u8], first: Place, last: Place) {
+    let pit = with_blocks(rt, alloc, text);
+    assert!(rt; pit.blocks() == 4);
+    assert!(rt; pit.place(0) == first);
+    assert!(rt; pit.place(3) == last);
+    drop(pit);
+}
+
 // Further fields aren't read, and a block without a line has no place.
 #[test]
 fn places(rt: HostRuntime) {
     for (text, first, last) in PLACES {
-        let pit = with_blocks(&rt, rt.alloc(), text);
-        assert!(rt; pit.blocks() == 4);
-        assert!(rt; pit.place(0) == *first);
-        assert!(rt; pit.place(3) == *last);
+        assert_places(&rt, rt.alloc(), text, *first, *last);
     }
 }
 
@@ -117,7 +128,11 @@ const SOLUTIONS: &[(&[u8], &[(u32, u32)])] = &[
 
 fn is_solution(alloc: Global, pit: &Instance<Global>, text: &[u8], wanted: &[(u32, u32)]) -> bool {
     match read_solution(alloc, text, pit) {
-        Ok(solution) => solution.as_slice() == wanted,
+        Ok(solution) => {
+            let is = solution.as_slice() == wanted;
+            drop(solution);
+            is
+        }
         Err(_) => false,
     }
 }
@@ -129,6 +144,7 @@ fn solutions(rt: HostRuntime) {
     for (text, wanted) in SOLUTIONS {
         assert!(rt; is_solution(rt.alloc(), &pit, text, wanted), "of {text:?}");
     }
+    drop(pit);
 }
 
 const SOLUTION_FAULTS: &[Row] = &[
@@ -147,6 +163,7 @@ fn solutions_that_are_refused(rt: HostRuntime) {
     let pit = built(&rt, tiny(&rt, rt.alloc()));
     for (text, line, cause) in SOLUTION_FAULTS {
         let answer = read_solution(rt.alloc(), text, &pit).err();
-        assert_eq!(rt; answer, Some(fault(*line, *cause)));
+        assert!(rt; answer == Some(fault(*line, *cause)));
     }
+    drop(pit);
 }

@@ -21,7 +21,9 @@ fn is_text(alloc: Global, periods: &[Option<u32>], wanted: &[u8]) -> bool {
     let mut out = Out::new(Vec::new(alloc));
     let answer = write_solution(&mut out, periods);
     let written = out.into_inner();
-    answer == Ok(()) && written.as_slice() == wanted
+    let is = answer == Ok(()) && written.as_slice() == wanted;
+    drop(written);
+    is
 }
 
 #[test]
@@ -41,7 +43,9 @@ fn is_front(
 ) -> bool {
     let mut out = Narrow::new(alloc, piece, room);
     let answer = write_solution(&mut out, periods);
-    answer == Err(WriteFault) && Some(out.held()) == text.get(..room)
+    let is = answer == Err(WriteFault) && Some(out.held()) == text.get(..room);
+    drop(out);
+    is
 }
 
 // A device that fails behind so many bytes has got exactly those.
@@ -91,6 +95,8 @@ fn past_a_chunk(rt: HostRuntime) {
     let periods = long_schedule(&rt, rt.alloc());
     let text = long_text(&rt, rt.alloc());
     assert_written(&rt, rt.alloc(), &periods, text.as_bytes());
+    drop(periods);
+    drop(text);
 }
 
 fn assert_written(rt: &impl Abort, alloc: Global, periods: &[Option<u32>], text: &[u8]) {

@@ -8,6 +8,7 @@ use std::process::Abort;
 fn assert_words<T: fmt::Display>(rt: &impl Abort, alloc: Global, value: &T, words: &str) {
     let shown = format!(in alloc; "{value}").expect(rt, "memory");
     assert!(rt; shown.as_str() == words, "{shown} for {words}");
+    drop(shown);
 }
 
 const CAUSES: &[(Cause, &str)] = &[
