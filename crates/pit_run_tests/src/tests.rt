@@ -3,6 +3,7 @@ ghost use Rattle.std.specs.Prelude.{◌≡◌, ◌≤◌, ◌<◌, All, length};
 ghost use Rattle.pit_job.specs.declared.planner_run.TheConstants.{RETRIES_MAX};
 ghost use Rattle.pit_script.specs.Benches.{AreBenchesOf};
 ghost use Rattle.pit_script.specs.Ranges.{AreJobsIn};
+ghost use Rattle.pit_share.specs.Opening.{AreSeats};
 ghost use Rattle.pit_share.specs.declared.blank.TheConstants.{PLANNERS_MAX};
 
 mod hot;
@@ -17,10 +18,11 @@ use pit_job::{Gate, Outcome, RunEnd};
 use pit_model::Instance;
 use pit_plan::Plan;
 use pit_plan_sample::Reading;
-use pit_run::{Report, run};
+use pit_refuse::{Count, Refusing};
+use pit_run::{Report, RunError, run};
 use pit_sample::{Fact, TINY, TINY_PLACES, TINY_SIZE, built};
 use pit_script::{Benches, Script};
-use pit_share::{Blank, Workspace};
+use pit_share::{Blank, Seat, Workspace};
 use std::alloc::{Allocator, Global};
 use std::marker::Brand;
 use std::process::Abort;
@@ -100,6 +102,9 @@ fn scripts_of<A: Allocator + Copy + Drop>(
     scripts
 }
 
+/// A heap that counts requests, and refuses one or none.
+type Heap = Refusing<Global>;
+
 /// What a run of scripts leaves on a desk, one script for each of so many planners.
 fn report_of<R: Threads + Wait + Abort + Sync, G: Gate>(
     rt: &R,
@@ -113,9 +118,29 @@ fn report_of<R: Threads + Wait + Abort + Sync, G: Gate>(
     requires each { length texts.now ≡ planners }
     requires few { retries ≤ RETRIES_MAX }
 {
-    play::<Brand, _, _, _>(
+    let none = Refusing::new(alloc, 0);
+    let (_, report) = counted(rt, &none, alloc, desk, texts, planners, retries, gate);
+    report
+}
+
+/// The same of any allocator, behind the count of requests before the run.
+fn counted<R: Threads + Wait + Abort + Sync, G: Gate, A: Allocator + Copy + Drop + Send + Sync>(
+    rt: &R,
+    heap: &Heap,
+    alloc: A,
+    desk: Desk<A>,
+    texts: &[&[u8]],
+    planners: u32,
+    retries: u32,
+    gate: &G,
+) -> (Count, Report<A>)
+    requires each { length texts.now ≡ planners }
+    requires few { retries ≤ RETRIES_MAX }
+{
+    play::<Brand, _, _, _, _>(
         rt,
         rt,
+        heap,
         alloc,
         desk,
         texts,
@@ -131,17 +156,19 @@ fn play<
     O: Wait + Drop + Send + Sync,
     R: Threads + Wait + Abort + Sync,
     G: Gate,
+    A: Allocator + Copy + Drop + Send + Sync,
 >(
     rt: &R,
     own: O,
-    alloc: Global,
-    desk: Desk<Global>,
+    heap: &Heap,
+    alloc: A,
+    desk: Desk<A>,
     texts: &[&[u8]],
     planners: u32,
     retries: u32,
     gate: &G,
     blank: Blank,
-) -> Report<Global>
+) -> (Count, Report<A>)
     requires pit { desk.plan.pit ≡ S.instance }
     requires history { desk.history ≡ S.opening }
     requires planners { planners ≡ S.planners }
@@ -159,9 +186,11 @@ fn play<
         Ok(opened) => opened,
         Err(_) => panic!(rt; "no workspace"),
     };
-    let answer = run(
-        alloc,
+    let before = heap.count();
+    let report = run_twice(
         rt,
+        heap,
+        alloc,
         workspace,
         seats,
         scripts.as_slice(),
@@ -170,9 +199,82 @@ fn play<
         retries,
         gate,
     );
-    match answer {
+    drop(scripts);
+    drop(benches);
+    (before, report)
+}
+
+/// A run, and where no thread was started for want of memory another by what was handed back.
+fn run_twice<
+    S: Session + Send + Sync,
+    O: Wait + Drop + Send + Sync,
+    R: Threads + Wait + Abort + Sync,
+    G: Gate,
+    A: Allocator + Copy + Drop + Send + Sync,
+>(
+    rt: &R,
+    heap: &Heap,
+    alloc: A,
+    workspace: Workspace<S, O, A>,
+    seats: Vec<Seat<S, A>, A>,
+    scripts: &[Script<A>],
+    benches: &Benches<A>,
+    periods: u32,
+    retries: u32,
+    gate: &G,
+) -> Report<A>
+    requires benches { AreBenchesOf S.instance benches.now }
+    requires periods { periods ≡ S.instance.periods }
+    requires in_range { All (AreJobsIn S.instance) scripts.now }
+    requires seats { AreSeats S.planners seats.items }
+    requires each { length scripts.now ≡ S.planners }
+    requires planners { S.planners ≤ PLANNERS_MAX }
+    requires few { retries ≤ RETRIES_MAX }
+{
+    match run(
+        alloc, rt, workspace, seats, scripts, benches, periods, retries, gate,
+    ) {
         Ok(report) => report,
-        Err(_) => panic!(rt; "no report"),
+        Err(RunError::NoMemory { workspace, seats }) => {
+            assert!(rt; heap.count().has_refused());
+            run_again(
+                rt, alloc, workspace, seats, scripts, benches, periods, retries, gate,
+            )
+        }
+        Err(RunError::NotClosed { .. }) => panic!(rt; "not closed"),
+    }
+}
+
+fn run_again<
+    S: Session + Send + Sync,
+    O: Wait + Drop + Send + Sync,
+    R: Threads + Wait + Abort + Sync,
+    G: Gate,
+    A: Allocator + Copy + Drop + Send + Sync,
+>(
+    rt: &R,
+    alloc: A,
+    workspace: Workspace<S, O, A>,
+    seats: Vec<Seat<S, A>, A>,
+    scripts: &[Script<A>],
+    benches: &Benches<A>,
+    periods: u32,
+    retries: u32,
+    gate: &G,
+) -> Report<A>
+    requires benches { AreBenchesOf S.instance benches.now }
+    requires periods { periods ≡ S.instance.periods }
+    requires in_range { All (AreJobsIn S.instance) scripts.now }
+    requires seats { AreSeats S.planners seats.items }
+    requires each { length scripts.now ≡ S.planners }
+    requires planners { S.planners ≤ PLANNERS_MAX }
+    requires few { retries ≤ RETRIES_MAX }
+{
+    match run(
+        alloc, rt, workspace, seats, scripts, benches, periods, retries, gate,
+    ) {
+        Ok(report) => report,
+        Err(_) => panic!(rt; "no memory twice"),
     }
 }
 
@@ -184,22 +286,32 @@ fn assert_run(rt: &impl Abort, report: &Report<Global>, k: u32, jobs: &[Outcome]
     assert!(rt; run.ended() == ended);
 }
 
+/// What is read of the plan to which a legal history leads.
 fn audited<A: Allocator + Copy + Drop>(
     rt: &impl Abort,
     alloc: Global,
     history: &[Entry<A>],
-) -> Plan<Global> {
+) -> Option<Reading> {
     let pit = tiny(rt, alloc);
     assert!(rt; pit.unmeetable().is_none());
     assert!(rt; history.len() < 1_000_000);
     let answer: Result<Plan<Global>, AuditFault> = audit(alloc, pit, history);
-    answer.ok().expect(rt, "a legal history")
+    match answer {
+        Ok(plan) => reading(plan),
+        Err(_) => panic!(rt; "not legal"),
+    }
+}
+
+fn reading(plan: Plan<Global>) -> Option<Reading> {
+    let reading = Reading::of(&plan);
+    drop(plan);
+    reading
 }
 
 /// The history is legal, and leads to the plan.
 fn assert_legal<A: Allocator + Copy + Drop>(rt: &impl Abort, alloc: Global, report: &Report<A>) {
     let desk = report.closed.desk();
-    let plan = audited(rt, alloc, desk.history());
-    assert!(rt; Reading::of(&plan).is_some());
-    assert_eq!(rt; Reading::of(&plan), Reading::of(desk.plan()));
+    let reading = audited(rt, alloc, desk.history());
+    assert!(rt; reading.is_some());
+    assert_eq!(rt; reading, Reading::of(desk.plan()));
 }

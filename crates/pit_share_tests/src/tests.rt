@@ -1,6 +1,5 @@
 //! Workspaces over the small pit.
-ghost use Rattle.std.specs.Prelude.{◌≡◌, ◌<◌};
-ghost use Rattle.pit_share.specs.declared.blank.TheConstants.{PLANNERS_MAX};
+ghost use Rattle.std.specs.Prelude.{◌<◌};
 
 mod closing;
 mod memory;
@@ -8,67 +7,44 @@ mod places;
 mod rows;
 mod threads;
 
-use pit_board::Session;
+use linked_list_allocator::LocalHeap;
 use pit_book::{AuditFault, Desk, Entry, EntryReply, audit};
 use pit_model::Instance;
 use pit_plan::Plan;
 use pit_plan_sample::Reading;
+use pit_refuse::Refusing;
 use pit_sample::{TINY, TINY_SIZE, built};
-use pit_share::{Blank, Closed, PlannerLog, Seat, Workspace};
 use std::alloc::{Allocator, Global};
 use std::process::Abort;
-use std::sync::Wait;
 
-/// A workspace, and its seats.
-type Opened<S, R, A> = (Workspace<S, R, A>, Vec<Seat<S, A>, A>);
+/// A heap that counts requests, and refuses one or none.
+type Heap = Refusing<LocalHeap>;
 
-/// Opens a workspace for planners of whom there may be so many.
-fn open<S: Session, R: Wait + Drop>(
-    rt: &impl Abort,
-    own: R,
-    alloc: Global,
-    desk: Desk<Global>,
-    planners: u32,
-    blank: Blank,
-) -> Opened<S, R, Global>
-    requires pit { desk.plan.pit ≡ S.instance }
-    requires history { desk.history ≡ S.opening }
-    requires planners { planners ≡ S.planners }
-    requires ledger { blank.ledger ≡ S.name }
-    requires parts { S.parts ≡ PLANNERS_MAX }
-    requires book { blank.book ≡ S.book }
-{
-    match Workspace::open(own, alloc, desk, planners, blank) {
-        Ok(opened) => opened,
-        Err(_) => panic!(rt; "no workspace"),
-    }
-}
+/// The bytes of a heap, of which no workspace takes half.
+const BYTES: usize = 1_048_576;
 
-/// Closes a workspace by all its logs.
-fn closed<S: Session, R: Wait + Drop>(
-    rt: &impl Abort,
-    workspace: Workspace<S, R, Global>,
-    logs: Vec<PlannerLog<S, Global>, Global>,
-) -> Closed<Global> {
-    match workspace.close(logs) {
-        Ok(closed) => closed,
-        Err(_) => panic!(rt; "not closed"),
-    }
+/// A heap that refuses the request of this number; of the number 0 there is none.
+fn heap_of(rt: &impl Abort, alloc: Global, number: u64) -> Heap {
+    Refusing::over_heap(alloc, BYTES, number).expect(rt, "a heap")
 }
 
 /// The small pit.
-fn tiny(rt: &impl Abort, alloc: Global) -> Instance<Global> {
+fn tiny<A: Allocator + Copy + Drop>(rt: &impl Abort, alloc: A) -> Instance<A> {
     built(alloc, TINY_SIZE, TINY).expect(rt, "a pit")
 }
 
 /// A desk of the small pit, with no start, that may have so many entries.
-fn empty_desk(rt: &impl Abort, alloc: Global, max_entries: u32) -> Desk<Global> {
+fn empty_desk<A: Allocator + Copy + Drop>(rt: &impl Abort, alloc: A, max_entries: u32) -> Desk<A> {
     let answer = Desk::open(alloc, tiny(rt, alloc), &[], max_entries);
     answer.ok().expect(rt, "a desk")
 }
 
 /// A desk of the small pit, on which block 3 has period 1.
-fn started_desk(rt: &impl Abort, alloc: Global, max_entries: u32) -> Desk<Global> {
+fn started_desk<A: Allocator + Copy + Drop>(
+    rt: &impl Abort,
+    alloc: A,
+    max_entries: u32,
+) -> Desk<A> {
     let pit = tiny(rt, alloc);
     assert!(rt; pit.blocks() > 3);
     assert!(rt; pit.periods() > 1);
@@ -76,26 +52,44 @@ fn started_desk(rt: &impl Abort, alloc: Global, max_entries: u32) -> Desk<Global
     answer.ok().expect(rt, "a desk")
 }
 
-fn audited(rt: &impl Abort, alloc: Global, history: &[Entry<Global>]) -> Plan<Global> {
+/// What is read of the plan to which a legal history leads.
+fn audited<A: Allocator + Copy + Drop>(
+    rt: &impl Abort,
+    alloc: Global,
+    history: &[Entry<A>],
+) -> Option<Reading> {
     let pit = tiny(rt, alloc);
     assert!(rt; pit.unmeetable().is_none());
     assert!(rt; history.len() < 1_000_000);
     let answer: Result<Plan<Global>, AuditFault> = audit(alloc, pit, history);
-    answer.ok().expect(rt, "a legal history")
+    match answer {
+        Ok(plan) => reading(plan),
+        Err(_) => panic!(rt; "not legal"),
+    }
+}
+
+fn reading(plan: Plan<Global>) -> Option<Reading> {
+    let reading = Reading::of(&plan);
+    drop(plan);
+    reading
 }
 
 /// The history is legal, and leads to the plan.
-fn assert_legal(rt: &impl Abort, alloc: Global, desk: &Desk<Global>) {
-    let plan = audited(rt, alloc, desk.history());
-    assert!(rt; Reading::of(&plan).is_some());
-    assert_eq!(rt; Reading::of(&plan), Reading::of(desk.plan()));
+fn assert_legal<A: Allocator + Copy + Drop>(rt: &impl Abort, alloc: Global, desk: &Desk<A>) {
+    let reading = audited(rt, alloc, desk.history());
+    assert!(rt; reading.is_some());
+    assert_eq!(rt; reading, Reading::of(desk.plan()));
 }
 
 /// An entry's planner and its reply.
 type Answered = (u32, EntryReply);
 
 /// Whether the entries past the first so many are these.
-fn is_history(history: &[Entry<Global>], opened: usize, answers: &[Answered]) -> bool {
+fn is_history<A: Allocator + Copy + Drop>(
+    history: &[Entry<A>],
+    opened: usize,
+    answers: &[Answered],
+) -> bool {
     let Some(past) = history.get(opened..) else {
         return false;
     };

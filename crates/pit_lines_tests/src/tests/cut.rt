@@ -2,6 +2,7 @@
 use super::rows::{REVISING, history_of};
 use super::worked::REVISING_TEXT;
 use super::{are_same, fault, read};
+use pit_book::Entry;
 use pit_lines::LinesCause::{NotFormat, NotJson};
 use pit_lines::LinesError;
 use std::alloc::Global;
@@ -38,15 +39,22 @@ fn assert_part(rt: &impl Abort, alloc: Global, part: &[u8]) {
     match read(alloc, part) {
         Ok(history) => {
             assert!(rt; wanted.is_none());
-            let lines = feeds(part).wrapping_add(if part.ends_with(b"\n") { 0 } else { 1 });
-            let rows = REVISING
-                .get(..lines.wrapping_sub(1) as usize)
-                .expect(rt, "rows");
-            let entries = history_of(alloc, rows).ok().expect(rt, "memory");
-            assert!(rt; are_same(&history, &entries));
+            assert_rows(rt, alloc, part, &history);
+            drop(history);
         }
         Err(error) => assert_eq!(rt; Some(error), wanted),
     }
+}
+
+/// These are the entries of a part.
+fn assert_rows(rt: &impl Abort, alloc: Global, part: &[u8], history: &[Entry<Global>]) {
+    let lines = feeds(part).wrapping_add(if part.ends_with(b"\n") { 0 } else { 1 });
+    let rows = REVISING
+        .get(..lines.wrapping_sub(1) as usize)
+        .expect(rt, "rows");
+    let entries = history_of(rt, alloc, rows);
+    assert!(rt; are_same(history, &entries));
+    drop(entries);
 }
 
 #[test]

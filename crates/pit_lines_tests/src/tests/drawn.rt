@@ -131,11 +131,16 @@ fn come_back(rt: HostRuntime) {
 
 fn assert_comes_back(rt: &impl Abort, alloc: Global, drawn: &[Entry<Global>]) {
     let text = written(rt, alloc, drawn);
-    let answer = read(alloc, &text).ok().expect(rt, "no fault");
-    assert!(rt; are_same(&answer, drawn));
+    assert_is(rt, alloc, &text, drawn);
     let other = spaced(alloc, &text).expect(rt, "memory");
-    let answer = read(alloc, &other).ok().expect(rt, "no fault");
-    assert!(rt; are_same(&answer, drawn));
+    assert_is(rt, alloc, &other, drawn);
+}
+
+/// The text is read as these entries.
+fn assert_is(rt: &impl Abort, alloc: Global, text: &[u8], entries: &[Entry<Global>]) {
+    let answer = read(alloc, text).ok().expect(rt, "no fault");
+    assert!(rt; are_same(&answer, entries));
+    drop(answer);
 }
 
 /// The bytes that are put in.
@@ -167,7 +172,10 @@ fn change(rt: &impl Abort, text: &mut [u8], series: &mut Series) -> usize {
 /// A fault is in the line of the byte. What is read without one comes back.
 fn assert_seen(rt: &impl Abort, alloc: Global, text: &[u8], place: usize) {
     match read(alloc, text) {
-        Ok(history) => assert_comes_back(rt, alloc, &history),
+        Ok(history) => {
+            assert_comes_back(rt, alloc, &history);
+            drop(history);
+        }
         Err(error) => {
             assert_eq!(rt; error.line, line_of(text, place));
             assert!(rt; error.cause == LinesCause::NotJson || error.cause == LinesCause::Shape);

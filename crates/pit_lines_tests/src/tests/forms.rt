@@ -21,7 +21,7 @@ const SECOND: &str = "{\"format\":2}
 const TEXTS: &[(&str, &[Row])] = &[(OTHER, LOADING), (SECOND, LOADING), ("{\"format\":2}", &[])];
 
 fn assert_read(rt: &impl Abort, alloc: Global, text: &str, rows: &[Row]) {
-    let history = history_of(alloc, rows).ok().expect(rt, "memory");
+    let history = history_of(rt, alloc, rows);
     let answer = read(alloc, text.as_bytes()).ok().expect(rt, "no fault");
     assert!(rt; are_same(&answer, &history), "{text}");
 }

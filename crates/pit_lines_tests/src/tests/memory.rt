@@ -22,7 +22,7 @@ fn long_history(rt: &impl Abort, alloc: Global, times: u32) -> Vec<Entry<Global>
     let mut history = Vec::new(alloc);
     for _ in 0..times {
         for rows in PARTS {
-            let mut part = history_of(alloc, rows).ok().expect(rt, "memory");
+            let mut part = history_of(rt, alloc, rows);
             assert!(rt; history.append(&mut part).is_ok());
         }
     }

@@ -3,7 +3,8 @@ use pit_book::EntryReply::{Committed, Refused, Withdrawn};
 use pit_book::Refusal::{Ahead, Misread, Moved, Over, Precedence};
 use pit_book::{Act, Entry, EntryReply, Pairs, Revisions};
 use pit_num::NoMemory;
-use std::alloc::Allocator;
+use std::alloc::Global;
+use std::process::Abort;
 
 /// An entry.
 #[derive(Clone, Copy)]
@@ -19,10 +20,7 @@ pub(super) struct Row {
 }
 
 /// The entry of a row.
-pub(super) fn entry_of<A: Allocator + Copy + Drop>(
-    alloc: A,
-    row: Row,
-) -> Result<Entry<A>, NoMemory> {
+fn entry_of(alloc: Global, row: Row) -> Result<Entry<Global>, NoMemory> {
     Ok(Entry {
         planner: row.planner,
         job: row.job,
@@ -36,15 +34,13 @@ pub(super) fn entry_of<A: Allocator + Copy + Drop>(
 }
 
 /// The entries of rows.
-pub(super) fn history_of<A: Allocator + Copy + Drop>(
-    alloc: A,
-    rows: &[Row],
-) -> Result<Vec<Entry<A>, A>, NoMemory> {
+pub(super) fn history_of(rt: &impl Abort, alloc: Global, rows: &[Row]) -> Vec<Entry<Global>> {
     let mut history = Vec::new(alloc);
     for row in rows {
-        history.push(entry_of(alloc, *row)?)?;
+        let entry = entry_of(alloc, *row).ok().expect(rt, "memory");
+        assert!(rt; history.push(entry).is_ok());
     }
-    Ok(history)
+    history
 }
 
 const NONE: Row = Row {

@@ -48,7 +48,7 @@ const EXAMPLES: &[(&[Row], &str)] = &[
 #[test]
 fn are_written_and_read(rt: HostRuntime) {
     for (rows, text) in EXAMPLES {
-        let history = history_of(rt.alloc(), rows).ok().expect(&rt, "memory");
+        let history = history_of(&rt, rt.alloc(), rows);
         assert!(rt; written(&rt, rt.alloc(), &history).as_slice() == text.as_bytes());
         let answer = read(rt.alloc(), text.as_bytes())
             .ok()

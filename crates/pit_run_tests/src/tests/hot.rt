@@ -4,6 +4,7 @@ ghost use Rattle.std.specs.Prelude.{◌≡◌, length};
 use super::{assert_legal, benches_of, empty_desk, report_of, script_of, tiny};
 use pit_book::{Entry, EntryReply};
 use pit_job::Open;
+use pit_model::Instance;
 use pit_sample::Series;
 use pit_script::{JobEnd, Script, Step};
 use std::alloc::{AllocError, Global};
@@ -21,28 +22,30 @@ const JOBS: u32 = 5;
 #[test]
 fn two_planners(rt: HostRuntime) {
     for seed in 0..SEEDS {
-        let texts = [
-            text_of(&rt, rt.alloc(), seed, 1),
-            text_of(&rt, rt.alloc(), seed, 2),
-        ];
-        let [a, b] = &texts;
-        play(&rt, rt.alloc(), &[a.as_bytes(), b.as_bytes()], 2);
+        play_two(&rt, rt.alloc(), seed);
     }
 }
 
 #[test]
 fn four_planners(rt: HostRuntime) {
     for seed in 0..SEEDS {
-        let texts = [
-            text_of(&rt, rt.alloc(), seed, 3),
-            text_of(&rt, rt.alloc(), seed, 4),
-            text_of(&rt, rt.alloc(), seed, 5),
-            text_of(&rt, rt.alloc(), seed, 6),
-        ];
-        let [a, b, c, d] = &texts;
-        let all = [a.as_bytes(), b.as_bytes(), c.as_bytes(), d.as_bytes()];
-        play(&rt, rt.alloc(), &all, 4);
+        play_four(&rt, rt.alloc(), seed);
     }
+}
+
+fn play_two<R: Threads + Wait + Abort + Sync>(rt: &R, alloc: Global, seed: u32) {
+    let a = text_of(rt, alloc, seed, 1);
+    let b = text_of(rt, alloc, seed, 2);
+    play(rt, alloc, &[a.as_bytes(), b.as_bytes()], 2);
+}
+
+fn play_four<R: Threads + Wait + Abort + Sync>(rt: &R, alloc: Global, seed: u32) {
+    let a = text_of(rt, alloc, seed, 3);
+    let b = text_of(rt, alloc, seed, 4);
+    let c = text_of(rt, alloc, seed, 5);
+    let d = text_of(rt, alloc, seed, 6);
+    let texts = [a.as_bytes(), b.as_bytes(), c.as_bytes(), d.as_bytes()];
+    play(rt, alloc, &texts, 4);
 }
 
 /// A planner's script.
@@ -83,6 +86,7 @@ fn play<R: Threads + Wait + Abort + Sync>(rt: &R, alloc: Global, texts: &[&[u8]]
     let report = report_of(rt, alloc, desk, texts, planners, 3, &Open);
     assert_legal(rt, alloc, &report);
     assert_each(rt, alloc, texts, report.closed.desk().history());
+    drop(report);
 }
 
 /// What is known of a schedule of the small pit.
@@ -100,18 +104,43 @@ struct Own {
 
 fn assert_each(rt: &impl Abort, alloc: Global, texts: &[&[u8]], history: &[Entry<Global>]) {
     let pit = tiny(rt, alloc);
-    let benches = benches_of(rt, alloc, &pit);
+    assert_done(rt, alloc, &pit, texts, history);
+    drop(pit);
+}
+
+fn assert_done(
+    rt: &impl Abort,
+    alloc: Global,
+    pit: &Instance<Global>,
+    texts: &[&[u8]],
+    history: &[Entry<Global>],
+) {
     let mut held: Held = [None; 4];
     for entry in history {
         if matches!(entry.reply, EntryReply::Committed { .. }) {
             let text = texts
                 .get(entry.planner.wrapping_sub(1) as usize)
                 .expect(rt, "a planner");
-            let script = script_of(rt, alloc, &pit, &benches, text);
-            assert_own(rt, alloc, &script, &held, entry);
+            assert_by(rt, alloc, pit, text, &held, entry);
             held = after(held, entry);
         }
     }
+}
+
+/// The entry is by a job of this script.
+fn assert_by(
+    rt: &impl Abort,
+    alloc: Global,
+    pit: &Instance<Global>,
+    text: &[u8],
+    held: &Held,
+    entry: &Entry<Global>,
+) {
+    let benches = benches_of(rt, alloc, pit);
+    let script = script_of(rt, alloc, pit, &benches, text);
+    assert_own(rt, alloc, &script, held, entry);
+    drop(script);
+    drop(benches);
 }
 
 fn after(held: Held, entry: &Entry<Global>) -> Held {
@@ -145,6 +174,7 @@ fn assert_own(
     }
     assert!(rt; own.writes.as_slice() == entry.writes.items());
     assert!(rt; own.revises.as_slice() == entry.revises.items());
+    drop(own);
 }
 
 /// Whether a step is done, and to what.

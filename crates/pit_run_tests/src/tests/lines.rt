@@ -7,53 +7,72 @@ use pit_report::run_lines;
 use pit_run::Report;
 use std::alloc::Global;
 use std::process::Abort;
+use std::sync::Wait;
+use std::thread::Threads;
 
-/// The lines of a refused job, and of a planner who stopped.
-const STOPPED: &str = "\
+/// The most entries, the scripts of one planner, and the lines.
+const ROWS: &[(u32, &[u8], &str)] = &[
+    // a refused job, and a planner who stopped
+    (
+        2,
+        THREE,
+        "\
 planner 1 job 1 committed 1 tries 1
 planner 1 job 2 refused over 0 0 5.000000 4.000000 tries 1
 planner 1 stopped at job 3: full
-";
-
-#[test]
-fn a_planner_stops(rt: HostRuntime) {
-    let desk = empty_desk(&rt, rt.alloc(), 2);
-    let report = report_of(&rt, rt.alloc(), desk, &[THREE], 1, 3, &Open);
-    assert_lines(&rt, rt.alloc(), &report, STOPPED);
-    assert_refusals(&rt, rt.alloc(), &report);
-}
-
-#[test]
-fn a_planner_is_done(rt: HostRuntime) {
-    let desk = empty_desk(&rt, rt.alloc(), 100);
-    let report = report_of(&rt, rt.alloc(), desk, &[REVISED], 1, 3, &Open);
-    let wanted = "\
+",
+    ),
+    (
+        100,
+        REVISED,
+        "\
 planner 1 job 1 committed 1 tries 1
 planner 1 job 2 committed 2 tries 1
 planner 1 job 3 refused over 0 0 5.000000 4.000000 tries 1
-";
-    assert_lines(&rt, rt.alloc(), &report, wanted);
+",
+    ),
+    // no job
+    (0, b"\n", ""),
+];
+
+#[test]
+fn a_planner_stops(rt: HostRuntime) {
+    for (max_entries, text, wanted) in ROWS {
+        assert_told(&rt, rt.alloc(), *max_entries, text, wanted);
+    }
+}
+
+fn assert_told<R: Threads + Wait + Abort + Sync>(
+    rt: &R,
+    alloc: Global,
+    max_entries: u32,
+    text: &[u8],
+    wanted: &str,
+) {
+    let desk = empty_desk(rt, alloc, max_entries);
+    let report = report_of(rt, alloc, desk, &[text], 1, 3, &Open);
+    assert_lines(rt, alloc, &report, wanted);
+    assert_refusals(rt, alloc, &report);
+    drop(report);
 }
 
 /// The planners stand in their order, whoever was done first.
 #[test]
 fn two_planners(rt: HostRuntime) {
     let desk = started_desk(&rt, rt.alloc());
-    let texts: [&[u8]; 2] = [b"begin\nread 3\nabort\n", b"begin\nput 1 0\ncommit\n"];
-    let report = report_of(&rt, rt.alloc(), desk, &texts, 2, 3, &Open);
-    let wanted = "\
+    let report = report_of(&rt, rt.alloc(), desk, &[READER, WRITER], 2, 3, &Open);
+    assert_lines(&rt, rt.alloc(), &report, BOTH);
+    drop(report);
+}
+
+const READER: &[u8] = b"begin\nread 3\nabort\n";
+
+const WRITER: &[u8] = b"begin\nput 1 0\ncommit\n";
+
+const BOTH: &str = "\
 planner 1 job 1 withdrawn tries 1
 planner 2 job 1 refused precedence 1 0 tries 1
 ";
-    assert_lines(&rt, rt.alloc(), &report, wanted);
-}
-
-#[test]
-fn no_job(rt: HostRuntime) {
-    let desk = empty_desk(&rt, rt.alloc(), 0);
-    let report = report_of(&rt, rt.alloc(), desk, &[b"\n"], 1, 0, &Open);
-    assert_lines(&rt, rt.alloc(), &report, "");
-}
 
 fn assert_lines(rt: &impl Abort, alloc: Global, report: &Report<Global>, wanted: &str) {
     let lines = run_lines(alloc, report.runs.as_slice()).expect(rt, "memory");

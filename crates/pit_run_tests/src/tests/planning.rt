@@ -20,7 +20,10 @@ fn from_nothing<R: Threads + Wait + Abort + Sync>(
 ) -> Result<Report<Global>, PlanFault> {
     let benches = benches_of(rt, alloc, &pit);
     let scripts = scripts_of(rt, alloc, &pit, &benches, texts);
-    planned_run(alloc, rt, pit, &[], scripts.as_slice(), &benches, 3)
+    let answer = planned_run(alloc, rt, pit, &[], scripts.as_slice(), &benches, 3);
+    drop(scripts);
+    drop(benches);
+    answer
 }
 
 /// The periods of the small pit's blocks.
@@ -38,16 +41,25 @@ fn assert_text(rt: &impl Abort, alloc: Global, fault: PlanFault, text: &str, sta
     assert!(rt; fault.status() == status);
 }
 
-#[test]
-fn one_script(rt: HostRuntime) {
-    let pit = tiny(&rt, rt.alloc());
-    match from_nothing(&rt, rt.alloc(), pit, &[THREE]) {
-        Ok(report) => {
-            assert_legal(&rt, rt.alloc(), &report);
-            assert_periods(&rt, &report, [Some(0), Some(0), None, Some(1)]);
-        }
+/// The report of a run that begins.
+fn begun<R: Threads + Wait + Abort + Sync>(
+    rt: &R,
+    alloc: Global,
+    texts: &[&[u8]],
+) -> Report<Global> {
+    let pit = tiny(rt, alloc);
+    match from_nothing(rt, alloc, pit, texts) {
+        Ok(report) => report,
         Err(_) => panic!(rt; "no report"),
     }
+}
+
+#[test]
+fn one_script(rt: HostRuntime) {
+    let report = begun(&rt, rt.alloc(), &[THREE]);
+    assert_legal(&rt, rt.alloc(), &report);
+    assert_periods(&rt, &report, [Some(0), Some(0), None, Some(1)]);
+    drop(report);
 }
 
 /// The fault, and its line.
@@ -135,23 +147,25 @@ fn no_planner(rt: HostRuntime) {
     assert_planner_count(&rt, rt.alloc(), &[]);
 }
 
+const NO_JOB: &[u8] = b"";
+
+const TOO_MANY: &[&[u8]] = &[NO_JOB; 65];
+
 #[test]
 fn one_planner_too_many(rt: HostRuntime) {
-    let text: &[u8] = b"";
-    assert_planner_count(&rt, rt.alloc(), &[text; 65]);
+    assert_planner_count(&rt, rt.alloc(), TOO_MANY);
 }
+
+const ONE_JOB: &[u8] = b"begin\nclear 0\ncommit\n";
+
+const MOST: &[&[u8]] = &[ONE_JOB; 64];
 
 #[test]
 fn sixty_four_planners(rt: HostRuntime) {
-    let text: &[u8] = b"begin\nclear 0\ncommit\n";
-    let pit = tiny(&rt, rt.alloc());
-    match from_nothing(&rt, rt.alloc(), pit, &[text; 64]) {
-        Ok(report) => {
-            assert!(rt; report.runs.len() == 64);
-            assert!(rt; report.closed.desk().history().len() == 64);
-        }
-        Err(_) => panic!(rt; "no report"),
-    }
+    let report = begun(&rt, rt.alloc(), MOST);
+    assert!(rt; report.runs.len() == 64);
+    assert!(rt; report.closed.desk().history().len() == 64);
+    drop(report);
 }
 
 /// Lines that no run of a test leads to.

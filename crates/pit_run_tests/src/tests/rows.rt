@@ -156,14 +156,14 @@ const WITHDRAWN: Line = Line {
 #[test]
 fn a_moved_job_is_tried_again(rt: HostRuntime) {
     let report = met(&rt, rt.alloc(), 3);
-    assert_run(
-        &rt,
-        &report,
-        0,
-        &[Outcome::Withdrawn { tries: 2 }],
-        RunEnd::Whole,
-    );
-    let history = report.closed.desk().history();
+    assert_run(&rt, &report, 0, &[TWICE], RunEnd::Whole);
+    assert_again(&rt, report.closed.desk().history());
+    drop(report);
+}
+
+const TWICE: Outcome = Outcome::Withdrawn { tries: 2 };
+
+fn assert_again(rt: &impl Abort, history: &[Entry<Global>]) {
     assert!(rt; history.len() == 4);
     for (entry, line) in history.iter().zip(MOVED.iter()) {
         assert!(rt; is_line(entry, line));
@@ -178,13 +178,15 @@ fn a_moved_job_is_tried_again(rt: HostRuntime) {
 #[test]
 fn a_moved_job_is_given_up(rt: HostRuntime) {
     let report = met(&rt, rt.alloc(), 0);
-    let refused = Outcome::Refused {
-        refusal: MOVED_3,
-        tries: 1,
-    };
-    assert_run(&rt, &report, 0, &[refused], RunEnd::Whole);
+    assert_run(&rt, &report, 0, &[GIVEN_UP], RunEnd::Whole);
     assert_history(&rt, &report, MOVED);
+    drop(report);
 }
+
+const GIVEN_UP: Outcome = Outcome::Refused {
+    refusal: MOVED_3,
+    tries: 1,
+};
 
 /// The two scripts meet at the gate, which never lets go.
 fn met<R: Threads + Wait + Abort + Sync>(rt: &R, alloc: Global, retries: u32) -> Report<Global>
@@ -194,31 +196,39 @@ fn met<R: Threads + Wait + Abort + Sync>(rt: &R, alloc: Global, retries: u32) ->
     let desk = started_desk(rt, alloc);
     let report = report_of(rt, alloc, desk, &[FIRST, SECOND], 2, retries, &gate);
     assert!(rt; gate.failed.load(Ordering::SeqCst) == 0);
-    let won = Outcome::Committed {
-        number: 2,
-        tries: 1,
-    };
-    assert_run(rt, &report, 1, &[won], RunEnd::Whole);
+    assert_run(rt, &report, 1, &[SECOND_ONCE], RunEnd::Whole);
     assert_legal(rt, alloc, &report);
     report
 }
 
 /// What one planner's script comes to on an empty desk.
-fn alone<R: Threads + Wait + Abort + Sync>(
-    rt: &R,
-    alloc: Global,
-    text: &[u8],
-    max_entries: u32,
-) -> Report<Global> {
-    let desk: Desk<Global> = empty_desk(rt, alloc, max_entries);
-    let report = report_of(rt, alloc, desk, &[text], 1, 3, &Open);
+fn alone<R: Threads + Wait + Abort + Sync>(rt: &R, alloc: Global, row: &Row) -> Report<Global> {
+    let desk: Desk<Global> = empty_desk(rt, alloc, row.max_entries);
+    let report = report_of(rt, alloc, desk, &[row.text], 1, 3, &Open);
     assert_legal(rt, alloc, &report);
+    assert_run(rt, &report, 0, row.jobs, row.ended);
     report
 }
 
-fn once(number: u32) -> Outcome {
-    Outcome::Committed { number, tries: 1 }
+/// A planner's script on a desk that may have so many entries, and how it ends.
+struct Row {
+    text: &'static [u8],
+    max_entries: u32,
+    jobs: &'static [Outcome],
+    ended: RunEnd,
 }
+
+const FIRST_ONCE: Outcome = Outcome::Committed {
+    number: 1,
+    tries: 1,
+};
+
+const SECOND_ONCE: Outcome = Outcome::Committed {
+    number: 2,
+    tries: 1,
+};
+
+const WITHDRAWN_ONCE: Outcome = Outcome::Withdrawn { tries: 1 };
 
 const OVER: Outcome = Outcome::Refused {
     refusal: Refusal::Over {
@@ -233,61 +243,87 @@ const OVER: Outcome = Outcome::Refused {
 pub(super) const THREE: &[u8] =
     b"begin\nput 0 0\nput 1 0\ncommit\nbegin\nput 3 0\ncommit\nbegin\nput 3 1\ncommit\n";
 
+const REFUSED: &Row = &Row {
+    text: THREE,
+    max_entries: 100,
+    jobs: &[FIRST_ONCE, OVER, SECOND_ONCE],
+    ended: RunEnd::Whole,
+};
+
 #[test]
 fn a_job_is_refused_for_a_limit(rt: HostRuntime) {
-    let report = alone(&rt, rt.alloc(), THREE, 100);
-    assert_run(&rt, &report, 0, &[once(1), OVER, once(2)], RunEnd::Whole);
+    assert_entries(&rt, rt.alloc(), REFUSED, 3);
 }
+
+const FULL: &Row = &Row {
+    text: THREE,
+    max_entries: 2,
+    jobs: &[FIRST_ONCE, OVER],
+    ended: RunEnd::Full { job: 3 },
+};
 
 #[test]
 fn the_history_is_full(rt: HostRuntime) {
-    let report = alone(&rt, rt.alloc(), THREE, 2);
-    assert_run(&rt, &report, 0, &[once(1), OVER], RunEnd::Full { job: 3 });
-    assert!(rt; report.closed.desk().history().len() == 2);
+    assert_entries(&rt, rt.alloc(), FULL, 2);
+}
+
+const EMPTY: &Row = &Row {
+    text: b"\n",
+    max_entries: 0,
+    jobs: &[],
+    ended: RunEnd::Whole,
+};
+
+#[test]
+fn no_jobs(rt: HostRuntime) {
+    assert_entries(&rt, rt.alloc(), EMPTY, 0);
+}
+
+fn assert_entries<R: Threads + Wait + Abort + Sync>(
+    rt: &R,
+    alloc: Global,
+    row: &Row,
+    entries: usize,
+) {
+    let report = alone(rt, alloc, row);
+    assert!(rt; report.closed.desk().history().len() == entries);
+    drop(report);
 }
 
 pub(super) const REVISED: &[u8] =
     b"begin\nput 0 0\nput 1 0\ncommit\nbegin\nput 3 0\nrevise 0 0 5\ncommit\nbegin\nrevise 0 0 4\ncommit\n";
 
+const REVISING: &Row = &Row {
+    text: REVISED,
+    max_entries: 100,
+    jobs: &[FIRST_ONCE, SECOND_ONCE, OVER],
+    ended: RunEnd::Whole,
+};
+
 #[test]
 fn a_limit_is_revised(rt: HostRuntime) {
-    let report = alone(&rt, rt.alloc(), REVISED, 100);
-    assert_run(&rt, &report, 0, &[once(1), once(2), OVER], RunEnd::Whole);
-    let last = report
-        .closed
-        .desk()
-        .history()
-        .get(1)
-        .expect(&rt, "an entry");
-    assert!(rt; last.revises.items() == [(0, 0, Some(5_000_000))].as_slice());
+    let report = alone(&rt, rt.alloc(), REVISING);
+    let second = report.closed.desk().history().get(1);
+    assert!(rt; second.is_some_and(|entry| entry.revises.items() == REVISES));
+    drop(report);
 }
 
-const BENCH: &[u8] =
-    b"begin\nbench 2 0\ncommit\nbegin\nread 0\nclear 3\nabort\nbegin\nshift 1 1\ncommit\n";
+const REVISES: &[(u32, u32, Option<i64>)] = &[(0, 0, Some(5_000_000))];
 
 /// Blocks 0 and 3 are at height 2; block 1 has no period to be shifted from.
-#[test]
-fn a_bench_is_put(rt: HostRuntime) {
-    let report = alone(&rt, rt.alloc(), BENCH, 100);
-    let given_up = Outcome::Withdrawn { tries: 1 };
-    assert_run(
-        &rt,
-        &report,
-        0,
-        &[once(1), given_up, given_up],
-        RunEnd::Whole,
-    );
-    let first = report
-        .closed
-        .desk()
-        .history()
-        .get(0)
-        .expect(&rt, "an entry");
-    assert!(rt; first.writes.items() == [(0, Some(0)), (3, Some(0))].as_slice());
-}
+const BENCH: &Row = &Row {
+    text: b"begin\nbench 2 0\ncommit\nbegin\nread 0\nclear 3\nabort\nbegin\nshift 1 1\ncommit\n",
+    max_entries: 100,
+    jobs: &[FIRST_ONCE, WITHDRAWN_ONCE, WITHDRAWN_ONCE],
+    ended: RunEnd::Whole,
+};
 
 #[test]
-fn no_jobs(rt: HostRuntime) {
-    let report = alone(&rt, rt.alloc(), b"\n", 0);
-    assert_run(&rt, &report, 0, &[], RunEnd::Whole);
+fn a_bench_is_put(rt: HostRuntime) {
+    let report = alone(&rt, rt.alloc(), BENCH);
+    let first = report.closed.desk().history().first();
+    assert!(rt; first.is_some_and(|entry| entry.writes.items() == BENCH_WRITES));
+    drop(report);
 }
+
+const BENCH_WRITES: Pairs = &[(0, Some(0)), (3, Some(0))];

@@ -6,21 +6,21 @@ use super::places::Step::{
     Abandon, Abort as Give, Begin, Clear, Commit, Has, Put, Read, Revise, Stopped,
 };
 use super::places::{Place, Step, after, entry_by, left};
-use super::{Answered, Opened, assert_legal, closed, empty_desk, is_history, open, started_desk};
+use super::{Answered, Heap, assert_legal, empty_desk, heap_of, is_history, started_desk};
 use pit_board::Session;
 use pit_book::{Desk, Refusal, Reply, Stop};
-use pit_share::{Blank, PlannerLog, ReadStop, Workspace};
+use pit_share::{Blank, CloseError, OpenError, PlannerLog, ReadStop, Seat, Workspace};
 use pit_tx::WorkError;
-use std::alloc::Global;
+use std::alloc::{Allocator, Global};
 use std::marker::Brand;
 use std::process::Abort;
 use std::sync::Wait;
 
 /// A planner, and what it does.
-type Doing = (u32, Step);
+pub(super) type Doing = (u32, Step);
 
 /// Whether block 3 has period 1 at first, how many entries there may be, and what the planners do.
-type Row = (bool, u32, &'static [Doing]);
+pub(super) type Row = (bool, u32, &'static [Doing]);
 
 const FIRST: Step = Commit(Reply::Committed { number: 1 });
 
@@ -190,42 +190,103 @@ const ROWS: &[Row] = &[
 #[test]
 fn answers_as_by_hand(rt: HostRuntime) {
     for row in ROWS {
-        play_row(&rt, rt.alloc(), row);
+        let heap = heap_of(&rt, rt.alloc(), 0);
+        play_row(&rt, rt.alloc(), &heap, row);
     }
 }
 
-fn play_row<W: Wait + Abort>(rt: &W, alloc: Global, row: &Row) {
+/// The same where a request is refused. All memory is given back in the end.
+pub(super) fn play_row<W: Wait + Abort>(rt: &W, alloc: Global, heap: &Heap, row: &Row) {
     let (has_start, max_entries, doings) = *row;
-    let desk = if has_start {
-        started_desk(rt, alloc, max_entries)
-    } else {
-        empty_desk(rt, alloc, max_entries)
-    };
+    let desk = desk_of(rt, heap, has_start, max_entries);
     let opened = desk.history().len();
-    let desk = play_over(rt, alloc, desk, doings);
+    let desk = played(rt, heap, heap, desk, doings);
+    assert_played(rt, alloc, &desk, opened, doings);
+    drop(desk);
+    assert!(rt; heap.used() == 0);
+}
+
+fn desk_of<'a>(
+    rt: &impl Abort,
+    heap: &'a Heap,
+    has_start: bool,
+    max_entries: u32,
+) -> Desk<&'a Heap> {
+    if has_start {
+        return started_desk(rt, heap, max_entries);
+    }
+    empty_desk(rt, heap, max_entries)
+}
+
+/// The history is legal, and goes on past the first so many entries as by hand.
+pub(super) fn assert_played<A: Allocator + Copy + Drop>(
+    rt: &impl Abort,
+    alloc: Global,
+    desk: &Desk<A>,
+    opened: usize,
+    doings: &[Doing],
+) {
     let answers = answers_by(rt, alloc, doings);
     assert!(rt; is_history(desk.history(), opened, &answers));
-    assert_legal(rt, alloc, &desk);
+    assert_legal(rt, alloc, desk);
 }
 
-fn play_over<W: Wait + Abort>(
+/// What two planners leave. A workspace is opened again where memory is refused.
+pub(super) fn played<W: Wait + Abort, A: Allocator + Copy + Drop>(
     rt: &W,
-    alloc: Global,
-    desk: Desk<Global>,
+    heap: &Heap,
+    alloc: A,
+    desk: Desk<A>,
     doings: &[Doing],
-) -> Desk<Global> {
-    play::<Brand, _, _>(rt, rt, alloc, desk, 2, Blank::new(), doings)
+) -> Desk<A> {
+    let before = heap.count();
+    match play_over(rt, heap, alloc, desk, 2, doings) {
+        Ok(desk) => desk,
+        Err((desk, error)) => {
+            assert_eq!(rt; error, OpenError::NoMemory);
+            assert!(rt; heap.count().has_refused_since(before));
+            played_again(rt, heap, alloc, desk, doings)
+        }
+    }
 }
 
-fn play<S: Session, R: Wait + Drop, W: Wait + Abort>(
+fn played_again<W: Wait + Abort, A: Allocator + Copy + Drop>(
+    rt: &W,
+    heap: &Heap,
+    alloc: A,
+    desk: Desk<A>,
+    doings: &[Doing],
+) -> Desk<A> {
+    match play_over(rt, heap, alloc, desk, 2, doings) {
+        Ok(desk) => desk,
+        Err(_) => panic!(rt; "no memory twice"),
+    }
+}
+
+/// The desk that a workspace leaves, or the one that is handed back where none is opened.
+pub(super) type Played<A> = Result<Desk<A>, (Desk<A>, OpenError)>;
+
+pub(super) fn play_over<W: Wait + Abort, A: Allocator + Copy + Drop>(
+    rt: &W,
+    heap: &Heap,
+    alloc: A,
+    desk: Desk<A>,
+    planners: u32,
+    doings: &[Doing],
+) -> Played<A> {
+    play::<Brand, _, _, _>(rt, rt, heap, alloc, desk, planners, Blank::new(), doings)
+}
+
+fn play<S: Session, R: Wait + Drop, W: Wait + Abort, A: Allocator + Copy + Drop>(
     rt: &W,
     own: R,
-    alloc: Global,
-    desk: Desk<Global>,
+    heap: &Heap,
+    alloc: A,
+    desk: Desk<A>,
     planners: u32,
     blank: Blank,
     doings: &[Doing],
-) -> Desk<Global>
+) -> Played<A>
     requires pit { desk.plan.pit ≡ S.instance }
     requires history { desk.history ≡ S.opening }
     requires planners { planners ≡ S.planners }
@@ -233,58 +294,189 @@ fn play<S: Session, R: Wait + Drop, W: Wait + Abort>(
     requires parts { S.parts ≡ PLANNERS_MAX }
     requires book { blank.book ≡ S.book }
 {
-    let opened: Opened<S, R, Global> = open(rt, own, alloc, desk, planners, blank);
-    let (workspace, seats) = opened;
-    let logs = play_in(rt, alloc, &workspace, seats, doings);
-    closed(rt, workspace, logs).into_desk()
+    match Workspace::<S, R, _>::open(own, alloc, desk, planners, blank) {
+        Ok((workspace, seats)) => Ok(play_in(rt, heap, alloc, workspace, seats, doings)),
+        Err(refused) => Err(refused),
+    }
 }
 
-/// The logs of two planners, the second one's first.
-fn play_in<S: Session, R: Wait + Drop, W: Wait + Abort>(
+/// The logs of two planners.
+type Logs<S, A> = (PlannerLog<S, A>, PlannerLog<S, A>);
+
+fn play_in<S: Session, R: Wait + Drop, W: Wait + Abort, A: Allocator + Copy + Drop>(
     rt: &W,
-    alloc: Global,
-    workspace: &Workspace<S, R, Global>,
-    mut seats: Vec<pit_share::Seat<S, Global>, Global>,
+    heap: &Heap,
+    alloc: A,
+    workspace: Workspace<S, R, A>,
+    seats: Vec<Seat<S, A>, A>,
     doings: &[Doing],
-) -> Vec<PlannerLog<S, Global>, Global> {
-    let (Some(second), Some(first)) = (seats.pop(), seats.pop()) else {
-        panic!(rt; "two seats")
-    };
-    let first = Place::Between(first.sit(workspace));
-    let second = Place::Between(second.sit(workspace));
-    let (first, second) = play_all(rt, first, second, doings);
-    let mut logs = Vec::new(alloc);
-    assert!(rt; logs.push(left(second).finish()).is_ok());
-    assert!(rt; logs.push(left(first).finish()).is_ok());
-    logs
+) -> Desk<A> {
+    let logs = logs_of(rt, heap, &workspace, seats, doings);
+    assert!(rt; is_log(&logs.0, 1, doings) && is_log(&logs.1, 2, doings));
+    let room = room_for_two(rt, alloc);
+    close_twice(rt, heap, workspace, room, logs)
+}
+
+/// Whether it is the log of a planner who did these, with an item for each entry.
+fn is_log<S: Session, A: Allocator + Copy + Drop>(
+    log: &PlannerLog<S, A>,
+    planner: u32,
+    doings: &[Doing],
+) -> bool {
+    let mut items: usize = 0;
+    for (by, step) in doings {
+        if *by == planner && entry_by(*by, *step).is_some() {
+            items = items.wrapping_add(1);
+        }
+    }
+    log.planner() == planner && log.items().len() == items
+}
+
+fn logs_of<S: Session, R: Wait + Drop, W: Wait + Abort, A: Allocator + Copy + Drop>(
+    rt: &W,
+    heap: &Heap,
+    workspace: &Workspace<S, R, A>,
+    seats: Vec<Seat<S, A>, A>,
+    doings: &[Doing],
+) -> Logs<S, A> {
+    let (first, second) = two_of(rt, seats);
+    let places = (
+        sat(rt, heap, workspace, first),
+        sat(rt, heap, workspace, second),
+    );
+    let (first, second) = play_all(rt, heap, places, doings);
+    (finished(rt, heap, first), finished(rt, heap, second))
+}
+
+fn two_of<S: Session, A: Allocator + Copy + Drop>(
+    rt: &impl Abort,
+    mut seats: Vec<Seat<S, A>, A>,
+) -> (Seat<S, A>, Seat<S, A>) {
+    let second = seats.pop().expect(rt, "a seat");
+    let first = seats.pop().expect(rt, "a seat");
+    drop(seats);
+    (first, second)
+}
+
+/// Takes a seat, which takes no memory.
+fn sat<'a, S: Session, R: Wait + Drop, A: Allocator + Copy + Drop>(
+    rt: &impl Abort,
+    heap: &Heap,
+    workspace: &'a Workspace<S, R, A>,
+    seat: Seat<S, A>,
+) -> Place<'a, S, R, A> {
+    let before = heap.count();
+    let planner = seat.sit(workspace);
+    assert!(rt; heap.count() == before);
+    Place::Between(planner)
+}
+
+/// Hands in the log, which takes no memory.
+fn finished<'a, S: Session, R: Wait + Drop, A: Allocator + Copy + Drop>(
+    rt: &impl Abort,
+    heap: &Heap,
+    place: Place<'a, S, R, A>,
+) -> PlannerLog<S, A> {
+    let before = heap.count();
+    let log = left(place).finish();
+    assert!(rt; heap.count() == before);
+    log
 }
 
 /// The places of both planners.
-type Places<'a, S, R> = (Place<'a, S, R>, Place<'a, S, R>);
+type Places<'a, S, R, A> = (Place<'a, S, R, A>, Place<'a, S, R, A>);
 
-fn play_all<'a, S: Session, R: Wait + Drop, W: Wait + Abort>(
+fn play_all<'a, S: Session, R: Wait + Drop, W: Wait + Abort, A: Allocator + Copy + Drop>(
     rt: &W,
-    first: Place<'a, S, R>,
-    second: Place<'a, S, R>,
+    heap: &Heap,
+    places: Places<'a, S, R, A>,
     doings: &[Doing],
-) -> Places<'a, S, R> {
-    let mut places = (first, second);
+) -> Places<'a, S, R, A> {
+    let mut places = places;
     for doing in doings {
-        places = play_one(rt, places, *doing);
+        places = play_one(rt, heap, places, *doing);
     }
     places
 }
 
-fn play_one<'a, S: Session, R: Wait + Drop, W: Wait + Abort>(
+fn play_one<'a, S: Session, R: Wait + Drop, W: Wait + Abort, A: Allocator + Copy + Drop>(
     rt: &W,
-    places: Places<'a, S, R>,
+    heap: &Heap,
+    places: Places<'a, S, R, A>,
     doing: Doing,
-) -> Places<'a, S, R> {
+) -> Places<'a, S, R, A> {
     let (first, second) = places;
     let (planner, step) = doing;
     match planner {
-        1 => (after(rt, first, step), second),
-        _ => (first, after(rt, second, step)),
+        1 => (after(rt, heap, first, step), second),
+        _ => (first, after(rt, heap, second, step)),
+    }
+}
+
+/// An empty list with room for two logs. What is given here is not counted among the calls of a workspace.
+fn room_for_two<S: Session, A: Allocator + Copy + Drop>(
+    rt: &impl Abort,
+    alloc: A,
+) -> Vec<PlannerLog<S, A>, A> {
+    match Vec::with_capacity(alloc, 2) {
+        Ok(room) => room,
+        Err(_) => Vec::with_capacity(alloc, 2).expect(rt, "no memory twice"),
+    }
+}
+
+/// Closes it by one log, and then by both, which takes no memory.
+fn close_twice<S: Session, R: Wait + Drop, A: Allocator + Copy + Drop>(
+    rt: &impl Abort,
+    heap: &Heap,
+    workspace: Workspace<S, R, A>,
+    room: Vec<PlannerLog<S, A>, A>,
+    logs: Logs<S, A>,
+) -> Desk<A> {
+    let before = heap.count();
+    let (first, second) = logs;
+    let logs = with_log(rt, room, first);
+    let (workspace, logs) = unclosed(rt, workspace, logs);
+    let desk = closed(rt, workspace, with_log(rt, logs, second));
+    assert!(rt; heap.count() == before);
+    desk
+}
+
+fn with_log<S: Session, A: Allocator + Copy + Drop>(
+    rt: &impl Abort,
+    mut logs: Vec<PlannerLog<S, A>, A>,
+    log: PlannerLog<S, A>,
+) -> Vec<PlannerLog<S, A>, A> {
+    assert!(rt; logs.push(log).is_ok());
+    logs
+}
+
+/// What comes back where the second planner's log is missing.
+type Unclosed<S, R, A> = (Workspace<S, R, A>, Vec<PlannerLog<S, A>, A>);
+
+fn unclosed<S: Session, R: Wait + Drop, A: Allocator + Copy + Drop>(
+    rt: &impl Abort,
+    workspace: Workspace<S, R, A>,
+    logs: Vec<PlannerLog<S, A>, A>,
+) -> Unclosed<S, R, A> {
+    match workspace.close(logs) {
+        Ok(_) => panic!(rt; "closed"),
+        Err((workspace, logs, error)) => {
+            assert_eq!(rt; error, CloseError::Missing { planner: 2 });
+            assert!(rt; logs.len() == 1);
+            (workspace, logs)
+        }
+    }
+}
+
+/// Closes a workspace by all its logs.
+pub(super) fn closed<S: Session, R: Wait + Drop, A: Allocator + Copy + Drop>(
+    rt: &impl Abort,
+    workspace: Workspace<S, R, A>,
+    logs: Vec<PlannerLog<S, A>, A>,
+) -> Desk<A> {
+    match workspace.close(logs) {
+        Ok(closed) => closed.into_desk(),
+        Err(_) => panic!(rt; "not closed"),
     }
 }
 

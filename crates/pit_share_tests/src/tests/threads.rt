@@ -2,7 +2,9 @@
 ghost use Rattle.std.specs.Prelude.{◌≡◌, ◌<◌};
 ghost use Rattle.pit_share.specs.declared.blank.TheConstants.{PLANNERS_MAX};
 
-use super::{Opened, assert_legal, closed, open, started_desk};
+use super::places::{Place, answered, opened, withdrawn};
+use super::rows::closed;
+use super::{assert_legal, started_desk};
 use pit_board::Session;
 use pit_book::{Desk, Entry, EntryReply};
 use pit_sample::Series;
@@ -36,11 +38,35 @@ fn planners_share_one_schedule(rt: HostRuntime) {
 
 fn play_seeds<R: Threads + Wait + Abort + Sync>(rt: &R, alloc: Global, planners: u32) {
     for seed in 0..SEEDS {
-        let desk = played(rt, alloc, started_desk(rt, alloc, ENTRIES), planners, seed);
-        assert_legal(rt, alloc, &desk);
-        assert!(rt; has_snapshots(desk.history()));
-        assert!(rt; has_commits(desk.history()));
+        let desk = started_desk(rt, alloc, ENTRIES);
+        let task = Task { seed, jobs: JOBS };
+        let desk = played(rt, alloc, desk, planners, task);
+        assert_shared(rt, alloc, &desk);
+        drop(desk);
     }
+}
+
+fn assert_shared(rt: &impl Abort, alloc: Global, desk: &Desk<Global>) {
+    assert_legal(rt, alloc, desk);
+    assert!(rt; has_snapshots(desk.history()));
+    assert!(rt; has_commits(desk.history()));
+}
+
+/// What each planner draws its transactions from, and how many they are.
+#[derive(Clone, Copy)]
+struct Task {
+    seed: u32,
+    jobs: u32,
+}
+
+/// What so many planners leave who do nothing.
+pub(super) fn seated<R: Threads + Wait + Abort + Sync>(
+    rt: &R,
+    alloc: Global,
+    desk: Desk<Global>,
+    planners: u32,
+) -> Desk<Global> {
+    played(rt, alloc, desk, planners, Task { seed: 0, jobs: 0 })
 }
 
 fn played<R: Threads + Wait + Abort + Sync>(
@@ -48,9 +74,9 @@ fn played<R: Threads + Wait + Abort + Sync>(
     alloc: Global,
     desk: Desk<Global>,
     planners: u32,
-    seed: u32,
+    task: Task,
 ) -> Desk<Global> {
-    play::<Brand, _, _>(rt, rt, alloc, desk, planners, Blank::new(), seed)
+    play::<Brand, _, _>(rt, rt, alloc, desk, planners, Blank::new(), task)
 }
 
 fn play<S: Session + Send + Sync, O: Wait + Drop + Send + Sync, R: Threads + Wait + Abort + Sync>(
@@ -60,7 +86,7 @@ fn play<S: Session + Send + Sync, O: Wait + Drop + Send + Sync, R: Threads + Wai
     desk: Desk<Global>,
     planners: u32,
     blank: Blank,
-    seed: u32,
+    task: Task,
 ) -> Desk<Global>
     requires pit { desk.plan.pit ≡ S.instance }
     requires history { desk.history ≡ S.opening }
@@ -69,10 +95,24 @@ fn play<S: Session + Send + Sync, O: Wait + Drop + Send + Sync, R: Threads + Wai
     requires parts { S.parts ≡ PLANNERS_MAX }
     requires book { blank.book ≡ S.book }
 {
-    let opened: Opened<S, O, Global> = open(rt, own, alloc, desk, planners, blank);
-    let (workspace, seats) = opened;
-    let logs = logs_of(rt, &workspace, seats, seed).expect(rt, "memory");
-    closed(rt, workspace, logs).into_desk()
+    match Workspace::<S, O, _>::open(own, alloc, desk, planners, blank) {
+        Ok((workspace, seats)) => play_in(rt, workspace, seats, task),
+        Err(_) => panic!(rt; "no workspace"),
+    }
+}
+
+fn play_in<
+    S: Session + Send + Sync,
+    O: Wait + Drop + Send + Sync,
+    R: Threads + Wait + Abort + Sync,
+>(
+    rt: &R,
+    workspace: Workspace<S, O, Global>,
+    seats: Vec<Seat<S, Global>, Global>,
+    task: Task,
+) -> Desk<Global> {
+    let logs = logs_of(rt, &workspace, seats, task).expect(rt, "memory");
+    closed(rt, workspace, logs)
 }
 
 /// Each planner works in a thread of its own.
@@ -84,30 +124,24 @@ fn logs_of<
     rt: &R,
     workspace: &Workspace<S, O, Global>,
     seats: Vec<Seat<S, Global>, Global>,
-    seed: u32,
+    task: Task,
 ) -> Result<Vec<PlannerLog<S, Global>, Global>, AllocError> {
-    thread::map_vec(rt, seats, &|seat| log_of(rt, workspace, seat, seed))
+    thread::map_vec(rt, seats, &|seat| log_of(rt, workspace, seat, task))
 }
 
 fn log_of<S: Session, O: Wait + Drop, R: Wait + Abort>(
     rt: &R,
     workspace: &Workspace<S, O, Global>,
     seat: Seat<S, Global>,
-    seed: u32,
+    task: Task,
 ) -> PlannerLog<S, Global> {
     let mut planner = seat.sit(workspace);
-    let mut series = Series::new(seed.wrapping_mul(64).wrapping_add(planner.number()));
-    for job in 0..JOBS {
+    let mut series = Series::new(task.seed.wrapping_mul(64).wrapping_add(planner.number()));
+    for job in 0..task.jobs {
         planner = after_job(rt, planner, job, &mut series);
         thread::yield_now();
     }
     planner.finish()
-}
-
-/// Where a transaction of a planner has come to.
-enum Place<'a, S: Session, O: Wait + Drop> {
-    Open(Transaction<'a, S, O, Global>),
-    Left(Planner<'a, S, O, Global>),
 }
 
 /// A transaction that reads, writes and revises what is drawn, and ends as is drawn.
@@ -117,21 +151,10 @@ fn after_job<'a, S: Session, O: Wait + Drop, R: Wait + Abort>(
     job: u32,
     series: &mut Series,
 ) -> Planner<'a, S, O, Global> {
-    let transaction = begun(rt, planner, job);
+    let transaction = opened(rt, planner, job);
     match after_reads(transaction, series) {
-        Place::Open(transaction) => after_writes(rt, transaction, series),
-        Place::Left(planner) => planner,
-    }
-}
-
-fn begun<'a, S: Session, O: Wait + Drop>(
-    rt: &impl Abort,
-    planner: Planner<'a, S, O, Global>,
-    job: u32,
-) -> Transaction<'a, S, O, Global> {
-    match planner.begin(job) {
-        Ok(transaction) => transaction,
-        Err(_) => panic!(rt; "no memory"),
+        Place::Within(transaction) => after_writes(rt, transaction, series),
+        Place::Between(planner) => planner,
     }
 }
 
@@ -139,14 +162,14 @@ fn begun<'a, S: Session, O: Wait + Drop>(
 fn after_reads<'a, S: Session, O: Wait + Drop>(
     mut transaction: Transaction<'a, S, O, Global>,
     series: &mut Series,
-) -> Place<'a, S, O> {
+) -> Place<'a, S, O, Global> {
     for _ in 0..3 {
         if transaction.read(series.below(4)).is_err() {
-            return Place::Left(transaction.abandon());
+            return Place::Between(transaction.abandon());
         }
         thread::yield_now();
     }
-    Place::Open(transaction)
+    Place::Within(transaction)
 }
 
 fn after_writes<'a, S: Session, O: Wait + Drop, R: Wait + Abort>(
@@ -183,30 +206,23 @@ fn write<'a, S: Session, O: Wait + Drop>(
     assert!(rt; answer.is_ok());
 }
 
+/// Commits, which is answered.
 fn committed<'a, S: Session, O: Wait + Drop, R: Wait + Abort>(
     rt: &R,
     transaction: Transaction<'a, S, O, Global>,
 ) -> Planner<'a, S, O, Global> {
-    match transaction.commit(rt) {
-        Ok((planner, _)) => planner,
-        Err((transaction, _)) => {
-            transaction.abandon();
-            panic!(rt; "stopped")
-        }
-    }
+    let (planner, reply) = answered(rt, transaction);
+    assert!(rt; reply.is_some());
+    planner
 }
 
 fn aborted<'a, S: Session, O: Wait + Drop, R: Wait + Abort>(
     rt: &R,
     transaction: Transaction<'a, S, O, Global>,
 ) -> Planner<'a, S, O, Global> {
-    match transaction.abort(rt) {
-        Ok(planner) => planner,
-        Err((transaction, _)) => {
-            transaction.abandon();
-            panic!(rt; "stopped")
-        }
-    }
+    let (planner, is_answered) = withdrawn(rt, transaction);
+    assert!(rt; is_answered);
+    planner
 }
 
 /// Whether each block that an entry noted was noted as it was after so many commits as the entry had seen.

@@ -1,5 +1,5 @@
 use Rattle.pit_share.specs.declared.blank.TheConstants.{PLANNERS_MAX}
-use Rattle.pit_run_tests.proofs.tests.report_of.Given as goal
+use Rattle.pit_run_tests.proofs.tests.counted.Given as goal
 
 -- the count of what is blank
 abbrev pub ghosts-play-S-Ledger : goal.ghosts-play-S-Ledger
