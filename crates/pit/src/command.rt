@@ -188,7 +188,7 @@ fn replay_command<'a>(alloc: Global) -> Result<Command<'a>, AllocError>
     ensures { IfOk result (IsSubcommand replay_shape) }
 {
     Command::new(alloc, REPLAY)
-        .about("Audits a history, and prints what the schedule is worth that it leaves")
+        .about("Audits a history, and prints the value of the schedule that it leaves")
         .after_help(REPLAY_NOTES)
         .arg(file(alloc, Input::Model))?
         .arg(file(alloc, Input::Precedence))?

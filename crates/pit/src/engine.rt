@@ -15,7 +15,7 @@ pub enum Engine {
     Check,
     /// Has planners do their scripts on one schedule, and prints the solution that is left.
     Plan,
-    /// Audits a history, and prints what it leaves is worth.
+    /// Audits a history, and prints the value of the schedule that it leaves.
     Replay,
 }
 
