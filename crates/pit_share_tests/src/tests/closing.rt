@@ -2,8 +2,8 @@
 use super::places::Step::{Begin, Commit, Put};
 use super::rows::{Doing, assert_played, play_over, played};
 use super::threads::seated;
-use super::{Heap, empty_desk, heap_of};
-use pit_book::{Desk, Reply};
+use super::{Answered, Heap, assert_legal, empty_desk, heap_of, is_history};
+use pit_book::{Desk, EntryReply, Reply};
 use pit_share::{OpenError, PLANNERS_MAX};
 use std::alloc::Global;
 use std::process::Abort;
@@ -49,6 +49,11 @@ const SECOND: &[Doing] = &[
     (1, Commit(Reply::Committed { number: 2 })),
 ];
 
+const ANSWERS: &[Answered] = &[
+    (1, EntryReply::Committed { number: 1 }),
+    (1, EntryReply::Committed { number: 2 }),
+];
+
 /// Without a log of each planner it isn't closed, and all comes back. A desk is opened again with the history that it has.
 #[test]
 fn closes_by_all_logs(rt: HostRuntime) {
@@ -62,6 +67,7 @@ fn closes_by_all_logs(rt: HostRuntime) {
     );
     assert_played(&rt, rt.alloc(), &desk, 0, FIRST);
     let desk = played(&rt, &heap, rt.alloc(), desk, SECOND);
-    assert_played(&rt, rt.alloc(), &desk, 1, SECOND);
+    assert_legal(&rt, rt.alloc(), &desk);
+    assert!(rt; is_history(desk.history(), 0, ANSWERS));
     drop(desk);
 }

@@ -424,7 +424,7 @@ fn room_for_two<S: Session, A: Allocator + Copy + Drop>(
     }
 }
 
-/// Closes it by one log, and then by both, which takes no memory.
+/// Closes it by one log, and then by both, the second planner's first, which takes no memory.
 fn close_twice<S: Session, R: Wait + Drop, A: Allocator + Copy + Drop>(
     rt: &impl Abort,
     heap: &Heap,
@@ -436,7 +436,9 @@ fn close_twice<S: Session, R: Wait + Drop, A: Allocator + Copy + Drop>(
     let (first, second) = logs;
     let logs = with_log(rt, room, first);
     let (workspace, logs) = unclosed(rt, workspace, logs);
-    let desk = closed(rt, workspace, with_log(rt, logs, second));
+    let mut logs = with_log(rt, logs, second);
+    logs.reverse();
+    let desk = closed(rt, workspace, logs);
     assert!(rt; heap.count() == before);
     desk
 }
