@@ -353,18 +353,20 @@ fn give_up_twice<S: Session, R: Wait + Drop, A: Allocator + Copy + Drop>(
 /// Copies changes, and copies them again where memory was refused.
 fn copy_twice<A: Allocator + Copy + Drop>(rt: &impl Abort, heap: Heap<'_>, alloc: A) {
     let before = (heap.count(), heap.used());
-    if !is_copied(alloc) {
+    if !is_copied(rt, alloc) {
         assert_refused(rt, heap, before);
-        assert!(rt; is_copied(alloc), "no memory twice");
+        assert!(rt; is_copied(rt, alloc), "no memory twice");
     }
 }
 
-/// Whether there was memory for a copy of the changes, which has the writes then.
-fn is_copied<A: Allocator + Copy + Drop>(alloc: A) -> bool {
-    match Changes::copied(alloc, WRITES, REVISES) {
-        Ok(changes) => changes.writes() == WRITES,
-        Err(_) => false,
-    }
+/// Whether there was memory for a copy of the changes, which then has the writes.
+fn is_copied<A: Allocator + Copy + Drop>(rt: &impl Abort, alloc: A) -> bool {
+    let Ok(changes) = Changes::copied(alloc, WRITES, REVISES) else {
+        return false;
+    };
+    assert!(rt; changes.writes() == WRITES);
+    drop(changes);
+    true
 }
 
 /// Whatever is asked of a reader and of fronts takes no memory.
