@@ -19,6 +19,9 @@ pub trait Session: Ledger {
     /// The history with which the workspace was opened.
     ghost opening: { List Answered };
 
+    /// How many entries the history may have.
+    ghost max_entries: { ℕ };
+
     /// How many planners there are.
     ghost planners: { ℕ };
 }
@@ -29,6 +32,8 @@ impl Session for Brand {
     ghost instance = { record { blocks = 0; periods = 0; resources = 0; rate = 0; profits = []; coefs = []; preds = []; bounds = []; places = [] } };
 
     ghost opening = { [] };
+
+    ghost max_entries = { 0 };
 
     ghost planners = { 0 };
 }

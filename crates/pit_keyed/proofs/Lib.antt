@@ -1,3 +1,4 @@
 pub mod Absent
 pub mod Placed
+mod Filters
 pub mod CallerLemmas

@@ -103,6 +103,11 @@ insert_key-next {K} {V} {eq} laws pairs i p distinct within is =
     ap (λ x. cond x (take i (keys_of pairs)) (take i (keys_of pairs) ++ p.0 ∷ [])) apart
     ∙ ap (λ q. take i (keys_of pairs) ++ q ∷ []) at ∙ sym (take_more (keys_of pairs) i p.0 below)
 
+-- no key stands twice where there is none
+pub IsDistinct-none : {K : Type 0} (eq : K → K → Bool) → IsDistinct {K = K} eq []
+unfolding IsDistinct
+IsDistinct-none eq = tt
+
 -- a value that is written leaves the keys
 pub keys_of-set : {K V : Type 0} (pairs : List (K × V)) (i : ℕ) (d : K × V) (value : V) → keys_of (set pairs i ((get_or pairs i d).0, value)) ≡ keys_of pairs
 keys_of-set [] i d value = refl

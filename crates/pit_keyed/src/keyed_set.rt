@@ -64,6 +64,13 @@ impl<K: Eq + Hash + Copy, V: Copy, A: Allocator + Copy + Drop> KeyedSet<K, V, A>
         pairs
     }
 
+    /// Takes all pairs out. Their room stays.
+    pub fn clear(&mut self)
+        ensures { self.new ≡ [] }
+    {
+        self.pairs.clear();
+    }
+
     /// The value of a key, if it is there.
     pub fn get(&self, key: K) -> Option<V>
         ensures { result ≡ at_key K.eq self.now key }

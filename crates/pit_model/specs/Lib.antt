@@ -1,7 +1,6 @@
 pub mod Pit
 pub mod Refusals
 pub mod Places
-pub mod Bits
 pub mod BlockSet
 pub mod Profits
 pub mod CoefficientRows

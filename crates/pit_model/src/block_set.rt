@@ -1,8 +1,7 @@
 //! Sets of blocks.
 ghost use Rattle.std.specs.Prelude.{◌≡◌, ℕ, ◌<◌, ◌≤◌, [], true, false, length, slice_index_or, slice_set, OnOk};
 
-use crate::bits::{has_bit, with_bit};
-use pit_num::NoMemory;
+use pit_num::{NoMemory, has_bit, with_bit};
 use std::alloc::Allocator;
 use std::marker::Model;
 

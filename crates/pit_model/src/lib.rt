@@ -4,7 +4,6 @@
 //! then the record is as it was; each reader is a function of the record.
 #![tactic(auto)]
 
-mod bits;
 mod block_set;
 mod bounds;
 mod builder;

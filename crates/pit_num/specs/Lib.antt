@@ -5,3 +5,4 @@ pub mod Printed
 pub mod Least
 pub mod Refused
 pub mod Fitting
+pub mod Bits

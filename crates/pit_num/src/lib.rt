@@ -5,6 +5,7 @@
 //! device is known by the bytes that it holds or has left, and by whether it has failed.
 #![tactic(auto)]
 
+mod bits;
 mod device;
 mod discount;
 mod limits;
@@ -15,6 +16,7 @@ mod rounding;
 mod sink;
 mod source;
 
+pub use bits::{has_bit, with_bit};
 pub use device::Failed;
 pub use discount::{Discount, factor_is_greatest};
 pub use limits::{BLOCKS_MAX, MICRO_LIMIT, PERIODS_MAX, RATE_MAX, RESOURCES_MAX};

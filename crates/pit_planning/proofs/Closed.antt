@@ -4,6 +4,7 @@ use Rattle.pit_model.specs.Pit.{Pit}
 use Rattle.pit_book.specs.History.{Answered}
 use Rattle.pit_book.specs.Opened.{IsGoodStart, opening_history}
 use Rattle.pit_book.specs.State.{State}
+use Rattle.pit_book.specs.declared.entry.TheConstants.{ENTRIES_MAX}
 use Rattle.pit_run.specs.Reports.{RunState, IsReport}
 use Rattle.pit_run.proofs.CallerLemmas.{each-planner, of-one-thread, one-by-one}
 use Rattle.pit_cli.specs.Devices.{Writing}
@@ -20,16 +21,17 @@ one-history texts retries closed runs run =
     let pit : Pit = closed.plan.pit in
     let opening : List Answered = opening_history run.start in
     let same : run.pit ≡ pit = sym run.run.report.closed.goes_on.same_pit in
-    let report : IsReport pit opening retries run.scripts closed runs = subst (λ (p : Pit). IsReport p opening retries run.scripts closed runs) same run.run.report in
+    let report : IsReport pit opening ENTRIES_MAX retries run.scripts closed runs = subst (λ (p : Pit). IsReport p opening ENTRIES_MAX retries run.scripts closed runs) same run.run.report in
     record {
       start = run.start;
       scripts = run.scripts;
       stand = subst (λ (p : Pit). AreTextsOf texts p run.start run.scripts) same run.stand;
       good_start = subst (λ (p : Pit). IsGoodStart p run.start) same run.run.good;
       begins = report.closed.goes_on.begins;
-      one_thread = of-one-thread pit opening retries run.scripts closed runs report;
-      one_by_one = one-by-one pit opening retries run.scripts closed runs report;
-      each = each-planner pit opening retries run.scripts closed runs report;
+      limit = report.closed.goes_on.limit;
+      one_thread = of-one-thread pit opening ENTRIES_MAX retries run.scripts closed runs report;
+      one_by_one = one-by-one pit opening ENTRIES_MAX retries run.scripts closed runs report;
+      each = each-planner pit opening ENTRIES_MAX retries run.scripts closed runs report;
     }
 
 told-one : (texts : Texts) (retries : ℕ) (out lines : Writing) (kept : Option Writing) (result : Result Status PlanFault) → IsTold texts retries out lines kept result

@@ -44,7 +44,7 @@ desk_due pit start desk.NoMemory some is = absurd (some refl)
 abbrev IsWrongCount : List (List Job) → PlanFault → Type 0
 IsWrongCount scripts fault = (fault ≡ plan.PlannerCount) × (IsPlannerCount (length scripts) → ⊥)
 
-count_in : (pit : Pit) (start : List (ℕ × ℕ)) (retries : ℕ) (scripts : List (List Job)) (fault : PlanFault) → IsOfInputs fault → IsRunFault pit (opening_history start) retries scripts fault
+count_in : (pit : Pit) (start : List (ℕ × ℕ)) (retries : ℕ) (scripts : List (List Job)) (fault : PlanFault) → IsOfInputs fault → IsRunFault pit (opening_history start) ENTRIES_MAX retries scripts fault
     → IsWrongCount scripts fault
 count_in pit start retries scripts (plan.Cli why) due p = absurd (no_memory_due (plan.Cli why) (ap (λ f. plan.Cli f) p.0) due)
 count_in pit start retries scripts (plan.Script n error) due p = absurd p
@@ -108,7 +108,7 @@ may_run : (texts : Texts) (pit : Pit) (start : List (ℕ × ℕ)) (scripts : Lis
 may_run texts pit start scripts stand good count = record { pit = pit; start = start; scripts = scripts; stand = stand; good = good; count = count }
 
 run_kind : (texts : Texts) (pit : Pit) (start : List (ℕ × ℕ)) (scripts : List (List Job)) (retries : ℕ) (fault : PlanFault) → AreTextsOf texts pit start scripts → IsGoodStart pit start
-    → IsRunFault pit (opening_history start) retries scripts fault → IsKind texts fault
+    → IsRunFault pit (opening_history start) ENTRIES_MAX retries scripts fault → IsKind texts fault
 run_kind texts pit start scripts retries (plan.Cli why) stand good p = no_memory (ap (λ f. plan.Cli f) p.0)
 run_kind texts pit start scripts retries (plan.Script n error) stand good p = absurd p
 run_kind texts pit start scripts retries (plan.LimitBelowZero resource period) stand good p = absurd p

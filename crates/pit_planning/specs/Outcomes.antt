@@ -8,6 +8,7 @@ use Rattle.pit_book.specs.History.{commits_of}
 use Rattle.pit_book.specs.OneThread.{IsOfOneThread}
 use Rattle.pit_book.specs.Opened.{IsGoodStart, opening_history}
 use Rattle.pit_book.specs.State.{State}
+use Rattle.pit_book.specs.declared.entry.TheConstants.{ENTRIES_MAX}
 use Rattle.pit_script.specs.Jobs.{Job}
 use Rattle.pit_share.specs.Opening.{IsPlannerCount}
 use Rattle.pit_share.specs.Logs.{entries_of}
@@ -63,14 +64,16 @@ pub record IsTold (texts : Texts) (retries : ℕ) (out lines : Writing) (kept : 
   pub sound : lines.failed ≡ false
   pub history : HasWhole kept (told_of closed runs).history
 
--- The history is one of one thread on the pit of the texts. It begins with their start; behind that each committed entry is a job of a planner's script,
--- done on the schedule that the entries before it leave; and each planner's entries and outcomes are those of its script.
+-- The history is one of one thread on the pit of the texts, and may have as many entries as a history can. It begins with their start; behind that each
+-- committed entry is a job of a planner's script, done on the schedule that the entries before it leave; and each planner's entries and outcomes are
+-- those of its script.
 pub record IsOneHistory (texts : Texts) (retries : ℕ) (closed : State) (runs : List RunState) : Type 0 where
   pub start : List (ℕ × ℕ)
   pub scripts : List (List Job)
   pub stand : AreTextsOf texts closed.plan.pit start scripts
   pub good_start : IsGoodStart closed.plan.pit start
   pub begins : take (length (opening_history start)) closed.history ≡ opening_history start
+  pub limit : closed.max_entries ≡ ENTRIES_MAX
   pub one_thread : IsOfOneThread closed.plan.pit closed.history (value_of closed.plan.pit (held_period (commits_of closed.history)))
   pub one_by_one : IsOneByOne closed.plan.pit (length (opening_history start)) scripts closed.history
   pub each : (place : ℕ) (script : List Job) → slice_get scripts place ≡ Some script → (run : RunState) × (slice_get runs place ≡ Some run)

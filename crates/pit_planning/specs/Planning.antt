@@ -17,11 +17,12 @@ use Rattle.pit_share.specs.Planners.{PlannerState}
 use Rattle.pit_share.specs.declared.error.CloseError.{CloseError}
 use Rattle.pit_run.specs.Reports.{RunState, IsReport, IsUnclosed}
 
--- the start breaks no rule, there are as many scripts as there may be planners, and after the start, in the opening history, planners did their scripts
+-- The start breaks no rule, and there are as many scripts as there may be planners. After the start, in the opening history, planners did their scripts,
+-- on a desk that may have as many entries as a history can.
 pub record IsRunFrom (pit : Pit) (start : List (ℕ × ℕ)) (retries : ℕ) (scripts : List (List Job)) (closed : State) (runs : List RunState) : Type 0 where
   pub good : IsGoodStart pit start
   pub count : IsPlannerCount (length scripts)
-  pub report : IsReport pit (opening_history start) retries scripts closed runs
+  pub report : IsReport pit (opening_history start) ENTRIES_MAX retries scripts closed runs
 
 -- the fault that tells why a desk isn't opened
 abbrev pub opening_fault_of : DeskError → PlanFault
@@ -32,19 +33,19 @@ opening_fault_of desk.Full = plan.Cli NoMemory
 opening_fault_of desk.NoMemory = plan.Cli NoMemory
 
 -- the number of planners is looked at first; then memory or a place may be wanting, or the logs of planners who have ended don't close the workspace
-abbrev pub IsRunFault : Pit → List Answered → ℕ → List (List Job) → PlanFault → Type 0
-IsRunFault pit opening retries scripts (plan.Cli fault) = (fault ≡ NoMemory) × IsPlannerCount (length scripts)
-IsRunFault pit opening retries scripts (plan.Script number error) = ⊥
-IsRunFault pit opening retries scripts (plan.LimitBelowZero resource period) = ⊥
-IsRunFault pit opening retries scripts (plan.StartPrecedence block before) = ⊥
-IsRunFault pit opening retries scripts (plan.StartOver resource period load limit) = ⊥
-IsRunFault pit opening retries scripts plan.PlannerCount = IsPlannerCount (length scripts) → ⊥
-IsRunFault pit opening retries scripts plan.NoPlace = IsPlannerCount (length scripts)
-IsRunFault pit opening retries scripts plan.NotClosed =
-    IsPlannerCount (length scripts) × ((logs : List PlannerState) × (cause : CloseError) × IsUnclosed pit opening retries scripts logs cause)
-IsRunFault pit opening retries scripts plan.Stopped = ⊥
+abbrev pub IsRunFault : Pit → List Answered → ℕ → ℕ → List (List Job) → PlanFault → Type 0
+IsRunFault pit opening max_entries retries scripts (plan.Cli fault) = (fault ≡ NoMemory) × IsPlannerCount (length scripts)
+IsRunFault pit opening max_entries retries scripts (plan.Script number error) = ⊥
+IsRunFault pit opening max_entries retries scripts (plan.LimitBelowZero resource period) = ⊥
+IsRunFault pit opening max_entries retries scripts (plan.StartPrecedence block before) = ⊥
+IsRunFault pit opening max_entries retries scripts (plan.StartOver resource period load limit) = ⊥
+IsRunFault pit opening max_entries retries scripts plan.PlannerCount = IsPlannerCount (length scripts) → ⊥
+IsRunFault pit opening max_entries retries scripts plan.NoPlace = IsPlannerCount (length scripts)
+IsRunFault pit opening max_entries retries scripts plan.NotClosed =
+    IsPlannerCount (length scripts) × ((logs : List PlannerState) × (cause : CloseError) × IsUnclosed pit opening max_entries retries scripts logs cause)
+IsRunFault pit opening max_entries retries scripts plan.Stopped = ⊥
 
 -- first what is wrong with the pit's limits or with the start, then with the number of planners
 pub data IsPlanFault (pit : Pit) (start : List (ℕ × ℕ)) (retries : ℕ) (scripts : List (List Job)) (fault : PlanFault) : Type 0 where
   of_start : (why : DeskError) → IsDeskError pit start ENTRIES_MAX why → fault ≡ opening_fault_of why → IsPlanFault pit start retries scripts fault
-  of_run : IsGoodStart pit start → IsRunFault pit (opening_history start) retries scripts fault → IsPlanFault pit start retries scripts fault
+  of_run : IsGoodStart pit start → IsRunFault pit (opening_history start) ENTRIES_MAX retries scripts fault → IsPlanFault pit start retries scripts fault

@@ -28,7 +28,8 @@ use std::marker::Brand;
 use std::sync::Wait;
 use std::thread::Threads;
 
-/// Opens a desk on a start, and a workspace on the desk; has planners do the scripts, each in a thread of its own, and closes the workspace.
+/// Opens a desk on a start, for `ENTRIES_MAX` entries, and a workspace on the desk; has planners do the scripts, each in a thread of its own, and
+/// closes the workspace.
 pub fn planned_run<R: Threads + Wait + Sync, A: Allocator + Copy + Drop + Send + Sync>(
     alloc: A,
     rt: &R,
@@ -96,8 +97,8 @@ fn run_on<R: Threads + Wait + Sync, A: Allocator + Copy + Drop + Send + Sync>(
     requires in_range { All (AreJobsIn desk.plan.pit) scripts.now }
     requires few { retries ≤ RETRIES_MAX }
     ensures count { OnOk result (IsPlannerCount (length scripts.now)) }
-    ensures ok { IfOk result (λ report. IsReport desk.plan.pit desk.history retries scripts.now report.closed report.runs.items) }
-    ensures err { IfErr result (IsRunFault desk.plan.pit desk.history retries scripts.now) }
+    ensures ok { IfOk result (λ report. IsReport desk.plan.pit desk.history desk.max_entries retries scripts.now report.closed report.runs.items) }
+    ensures err { IfErr result (IsRunFault desk.plan.pit desk.history desk.max_entries retries scripts.now) }
 {
     let Ok(planners) = u32::try_from(scripts.len()) else {
         return Err(PlanFault::PlannerCount);
@@ -135,6 +136,7 @@ fn run_in<
 ) -> Result<Report<A>, PlanFault>
     requires pit { desk.plan.pit ≡ S.instance }
     requires history { desk.history ≡ S.opening }
+    requires limit { desk.max_entries ≡ S.max_entries }
     requires planners { planners ≡ S.planners }
     requires ledger { blank.ledger ≡ S.name }
     requires parts { S.parts ≡ PLANNERS_MAX }
@@ -145,8 +147,8 @@ fn run_in<
     requires in_range { All (AreJobsIn S.instance) scripts.now }
     requires few { retries ≤ RETRIES_MAX }
     ensures count { OnOk result (IsPlannerCount (length scripts.now)) }
-    ensures ok { IfOk result (λ report. IsReport S.instance S.opening retries scripts.now report.closed report.runs.items) }
-    ensures err { IfErr result (IsRunFault S.instance S.opening retries scripts.now) }
+    ensures ok { IfOk result (λ report. IsReport S.instance S.opening S.max_entries retries scripts.now report.closed report.runs.items) }
+    ensures err { IfErr result (IsRunFault S.instance S.opening S.max_entries retries scripts.now) }
 {
     let (workspace, seats) = match Workspace::<S, O, A>::open(own, alloc, desk, planners, blank) {
         Ok(opened) => opened,
@@ -164,8 +166,8 @@ fn run_in<
 
 /// The fault of a workspace that can't be opened.
 fn workspace_fault(error: OpenError) -> PlanFault
-    ensures { (pit : Pit) (opening : List Answered) (retries : ℕ) (scripts : List (List Job)) → IsOpenError (length scripts) error
-        → IsRunFault pit opening retries scripts result }
+    ensures { (pit : Pit) (opening : List Answered) (max_entries retries : ℕ) (scripts : List (List Job)) → IsOpenError (length scripts) error
+        → IsRunFault pit opening max_entries retries scripts result }
 {
     match error {
         OpenError::PlannerCount => PlanFault::PlannerCount,

@@ -50,10 +50,10 @@ did-at pit retries k past (x ∷ ss) (r ∷ rs) (first, rest) (suc p) s at =
     let d = did-at pit retries (k + 1) past ss rs rest p s at in
     (d.0, d.1, subst (λ (n : ℕ). RanScript pit retries s n (entries_of n past) d.0) number d.2)
 
-pub each-planner : (pit : Pit) (opening : List Answered) (retries : ℕ) (scripts : List (List Job)) (desk : State) (runs : List RunState) → IsReport pit opening retries scripts desk runs
+pub each-planner : (pit : Pit) (opening : List Answered) (max_entries retries : ℕ) (scripts : List (List Job)) (desk : State) (runs : List RunState) → IsReport pit opening max_entries retries scripts desk runs
     → (p : ℕ) (script : List Job) → slice_get scripts p ≡ Some script
     → (run : RunState) × (slice_get runs p ≡ Some run) × RanScript pit retries script (1 + p) (entries_of (1 + p) (drop (length opening) desk.history)) run
-each-planner pit opening retries scripts desk runs report p script at = did-at pit retries 1 (drop (length opening) desk.history) scripts runs report.did p script at
+each-planner pit opening max_entries retries scripts desk runs report p script at = did-at pit retries 1 (drop (length opening) desk.history) scripts runs report.did p script at
 
 script-effects : (pit : Pit) (retries k : ℕ) (s : List Job) (es : List Answered) (r : RunState) → RanScript pit retries s k es r → All (λ e. HasOwnEffect pit 1 s e) es
 script-effects pit retries k s es r ran = by ran.ran
@@ -72,9 +72,9 @@ kept-one-thread pit desk kept same =
     (λ others too. total-same (λ b. earned_in desk.plan.pit b (held_period commits b)) (λ b. earned_in desk.plan.pit b (held_period others b)) desk.plan.pit.blocks
     (λ b below. ap (earned_in desk.plan.pit b) (sym (stands.period b below) ∙ too.period b below))))
 
-pub of-one-thread : (pit : Pit) (opening : List Answered) (retries : ℕ) (scripts : List (List Job)) (desk : State) (runs : List RunState) → IsReport pit opening retries scripts desk runs
+pub of-one-thread : (pit : Pit) (opening : List Answered) (max_entries retries : ℕ) (scripts : List (List Job)) (desk : State) (runs : List RunState) → IsReport pit opening max_entries retries scripts desk runs
     → IsOfOneThread pit desk.history (value_of pit (held_period (commits_of desk.history)))
-of-one-thread pit opening retries scripts desk runs report = kept-one-thread pit desk report.closed.kept report.closed.goes_on.same_pit
+of-one-thread pit opening max_entries retries scripts desk runs report = kept-one-thread pit desk report.closed.kept report.closed.goes_on.same_pit
 
 -- one of so many planners has a script
 its-script : (scripts : List (List Job)) (planner : ℕ) → IsPlanner (length scripts) planner → (p : ℕ) × (s : List Job) × (planner ≡ 1 + p) × (slice_get scripts p ≡ Some s)
@@ -82,9 +82,9 @@ its-script scripts zero one = absurd (omega (arith, one.0))
 its-script scripts (suc p) one = (p, get_or scripts p [], omega arith, slice_get-get_or scripts p [] (omega (arith, one.1)))
 
 -- an entry past the opening that was committed made its job's changes to the schedule before it
-pub one-by-one : (pit : Pit) (opening : List Answered) (retries : ℕ) (scripts : List (List Job)) (desk : State) (runs : List RunState) → IsReport pit opening retries scripts desk runs
+pub one-by-one : (pit : Pit) (opening : List Answered) (max_entries retries : ℕ) (scripts : List (List Job)) (desk : State) (runs : List RunState) → IsReport pit opening max_entries retries scripts desk runs
     → IsOneByOne pit (length opening) scripts desk.history
-one-by-one pit opening retries scripts desk runs report = record {
+one-by-one pit opening max_entries retries scripts desk runs report = record {
   each = λ i number e at is.
       let past = drop (length opening) desk.history in
       let got : slice_get past i ≡ Some e = past-at desk.history (length opening) i ∙ at in
@@ -107,7 +107,7 @@ one-by-one pit opening retries scripts desk runs report = record {
           task = has.task;
           number = has.number;
           at = has.at;
-          wrote = committed-effect pit desk.history (value_of pit (held_period (commits_of desk.history))) (of-one-thread pit opening retries scripts desk runs report)
+          wrote = committed-effect pit desk.history (value_of pit (held_period (commits_of desk.history))) (of-one-thread pit opening max_entries retries scripts desk runs report)
               (length opening + i) number e has.task at is has.effect;
         };
       };

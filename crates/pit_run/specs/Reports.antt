@@ -57,18 +57,18 @@ AllDid pit retries planner past (script ∷ scripts) (run ∷ runs) =
     RanScript pit retries script planner (entries_of planner past) run × AllDid pit retries (planner + 1) past scripts runs
 
 -- the workspace was closed by logs, so no entry past the opening ones is another's, and each planner did its script, with its own of those entries
-pub record IsReport (pit : Pit) (opening : List Answered) (retries : ℕ) (scripts : List (List Job)) (desk : State) (runs : List RunState) : Type 0 where
+pub record IsReport (pit : Pit) (opening : List Answered) (max_entries retries : ℕ) (scripts : List (List Job)) (desk : State) (runs : List RunState) : Type 0 where
   pub logs : List PlannerState
-  pub closed : IsClosed pit opening (length scripts) logs desk
+  pub closed : IsClosed pit opening max_entries (length scripts) logs desk
   pub did : AllDid pit retries 1 (drop (length opening) desk.history) scripts runs
 
 -- each planner did its script, and the workspace was not closed by their logs
-pub record IsUnclosed (pit : Pit) (opening : List Answered) (retries : ℕ) (scripts : List (List Job)) (logs : List PlannerState) (cause : CloseError) : Type 0 where
+pub record IsUnclosed (pit : Pit) (opening : List Answered) (max_entries retries : ℕ) (scripts : List (List Job)) (logs : List PlannerState) (cause : CloseError) : Type 0 where
   pub runs : List RunState
   pub ran : AllRan pit retries 1 scripts logs runs
-  pub refused : IsCloseError pit opening (length scripts) logs cause
+  pub refused : IsCloseError pit opening max_entries (length scripts) logs cause
 
 -- what is handed back where there is no report: the seats as they were, or the logs of planners who have ended
-abbrev pub IsRunError : {S R A : Type 0} → Pit → List Answered → ℕ → List (List Job) → List ℕ → RunError S R A → Type 0
-IsRunError pit opening retries scripts seats (error.NoMemory workspace left) = left.items ≡ seats
-IsRunError pit opening retries scripts seats (error.NotClosed workspace logs cause) = IsUnclosed pit opening retries scripts logs.items cause
+abbrev pub IsRunError : {S R A : Type 0} → Pit → List Answered → ℕ → ℕ → List (List Job) → List ℕ → RunError S R A → Type 0
+IsRunError pit opening max_entries retries scripts seats (error.NoMemory workspace left) = left.items ≡ seats
+IsRunError pit opening max_entries retries scripts seats (error.NotClosed workspace logs cause) = IsUnclosed pit opening max_entries retries scripts logs.items cause

@@ -12,7 +12,7 @@ ghost use Rattle.pit_run.specs.Laws.{IsOneByOne};
 
 /// A law of reports: the run of each planner is that of its own script and of its own entries past the opening ones.
 pub fn each_planner()
-    ensures { (pit : Pit) (opening : List Answered) (retries : ℕ) (scripts : List (List Job)) (desk : State) (runs : List RunState) → IsReport pit opening retries scripts desk runs
+    ensures { (pit : Pit) (opening : List Answered) (max_entries retries : ℕ) (scripts : List (List Job)) (desk : State) (runs : List RunState) → IsReport pit opening max_entries retries scripts desk runs
         → (p : ℕ) (script : List Job) → slice_get scripts p ≡ Some script
         → (run : RunState) × (slice_get runs p ≡ Some run) × RanScript pit retries script (1 + p) (entries_of (1 + p) (drop (length opening) desk.history)) run }
 {}
@@ -21,8 +21,8 @@ pub fn each_planner()
 /// committed entry past that is of one of the planners, and made the changes that its own job makes to the schedule after the entries before it.
 /// The stated value is that of the schedule that is left, in units of 10^-18.
 pub fn one_after_another()
-    ensures one_thread { (pit : Pit) (opening : List Answered) (retries : ℕ) (scripts : List (List Job)) (desk : State) (runs : List RunState) → IsReport pit opening retries scripts desk runs
+    ensures one_thread { (pit : Pit) (opening : List Answered) (max_entries retries : ℕ) (scripts : List (List Job)) (desk : State) (runs : List RunState) → IsReport pit opening max_entries retries scripts desk runs
         → IsOfOneThread pit desk.history (value_of pit (held_period (commits_of desk.history))) }
-    ensures one_by_one { (pit : Pit) (opening : List Answered) (retries : ℕ) (scripts : List (List Job)) (desk : State) (runs : List RunState) → IsReport pit opening retries scripts desk runs
+    ensures one_by_one { (pit : Pit) (opening : List Answered) (max_entries retries : ℕ) (scripts : List (List Job)) (desk : State) (runs : List RunState) → IsReport pit opening max_entries retries scripts desk runs
         → IsOneByOne pit (length opening) scripts desk.history }
 {}

@@ -44,8 +44,8 @@ pub fn run<
     requires seats { AreSeats S.planners seats.items }
     requires each { length scripts.now ≡ S.planners }
     requires planners { S.planners ≤ PLANNERS_MAX }
-    ensures ok { IfOk result (λ report. IsReport S.instance S.opening retries scripts.now report.closed report.runs.items) }
-    ensures err { IfErr result (IsRunError S.instance S.opening retries scripts.now seats.items) }
+    ensures ok { IfOk result (λ report. IsReport S.instance S.opening S.max_entries retries scripts.now report.closed report.runs.items) }
+    ensures err { IfErr result (IsRunError S.instance S.opening S.max_entries retries scripts.now seats.items) }
 {
     let Ok(logs) = Vec::with_capacity(alloc, seats.len()) else {
         return Err(RunError::NoMemory { workspace, seats });

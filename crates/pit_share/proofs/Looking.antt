@@ -13,24 +13,21 @@ use Rattle.pit_book.specs.History.{Answered}
 use Rattle.pit_board.specs.Boards.{slot_of}
 use Rattle.pit_board.specs.Fronts.{AreLawful}
 use Rattle.pit_board.specs.declared.slot.Slot.{Slot}
-use Rattle.pit_share.specs.Accounts.{AreSizes}
 use Rattle.pit_share.specs.Snapshots.{AreHeld}
-use Rattle.pit_share.specs.Planners.{PlannerState, TransactionState, planner_of, SeesOn, IsTransactionKept}
+use Rattle.pit_share.specs.Planners.{PlannerState, TransactionState, planner_of, empty_sets, SeesOn, IsTransactionKept}
 use Rattle.pit_share.specs.Reads.{IsNoted}
-use Rattle.pit_share.specs.declared.account.Sizes.{Sizes}
 use Rattle.pit_share.proofs.Noted.{of-start-grows}
 
 -- ---- what is so of each transaction
 
 -- at its beginning
-pub kept-begun : (pit : Pit) (planner : PlannerState) (job start : ℕ) (sizes : Sizes) (work : Sets) → AreSizes pit sizes → start ≡ length planner.seen
-    → work ≡ record { planner = planner.number; job = job; start = start; blocks = sizes.blocks; periods = sizes.periods; resources = sizes.resources; reads = []; writes = []; revises = [] }
-    → IsTransactionKept pit (record { planner = planner; work = work })
-kept-begun pit planner job start sizes work are seen is = record {
+pub kept-begun : (pit : Pit) (planner : PlannerState) (job start : ℕ) (work : Sets) → start ≡ length planner.seen
+    → work ≡ empty_sets pit planner.number job start → IsTransactionKept pit (record { planner = planner; work = work })
+kept-begun pit planner job start work seen is = record {
   fits = record {
-    blocks = ap (λ (w : Sets). w.blocks) is ∙ are.blocks;
-    periods = ap (λ (w : Sets). w.periods) is ∙ are.periods;
-    resources = ap (λ (w : Sets). w.resources) is ∙ are.resources;
+    blocks = ap (λ (w : Sets). w.blocks) is;
+    periods = ap (λ (w : Sets). w.periods) is;
+    resources = ap (λ (w : Sets). w.resources) is;
   };
   planner = ap (λ (w : Sets). w.planner) is;
   reads = record {

@@ -11,18 +11,18 @@ use Rattle.pit_share.specs.declared.error.CloseError.{CloseError}
 use Rattle.pit_share.specs.declared.error.CloseError.TheVariants as error
 
 -- the desk keeps what each does, so its history is legal; it goes on from the opening one, by as many entries as the logs have, and of each planner by those of its log
-pub record IsClosed (pit : Pit) (opening : List Answered) (planners : ℕ) (logs : List PlannerState) (desk : State) : Type 0 where
+pub record IsClosed (pit : Pit) (opening : List Answered) (max_entries planners : ℕ) (logs : List PlannerState) (desk : State) : Type 0 where
   pub kept : IsDeskKept desk
-  pub goes_on : GoesOn pit opening planners desk
+  pub goes_on : GoesOn pit opening max_entries planners desk
   pub count : length desk.history ≡ length opening + entries_in logs
   pub whole : HasEachLog planners logs
   pub logged : AreLogged planners (drop (length opening) desk.history) logs
 
 -- no log is missing, and the planner is the least whose entries in such a history, past the opening one, aren't its log
-pub record IsFirstDiffering (pit : Pit) (opening : List Answered) (planners : ℕ) (logs : List PlannerState) (planner : ℕ) : Type 0 where
+pub record IsFirstDiffering (pit : Pit) (opening : List Answered) (max_entries planners : ℕ) (logs : List PlannerState) (planner : ℕ) : Type 0 where
   pub whole : HasEachLog planners logs
   pub desk : State
-  pub goes_on : GoesOn pit opening planners desk
+  pub goes_on : GoesOn pit opening max_entries planners desk
   pub least : IsLeastOf ◌<◌ (IsDiffering planners (drop (length opening) desk.history) logs) planner
 
 -- the first refusal that applies to logs beside the entries past the opening history
@@ -31,6 +31,6 @@ IsRefusedBeside past planners logs (error.Missing planner) = IsLeastOf ◌<◌ (
 IsRefusedBeside past planners logs (error.Differs planner) = HasEachLog planners logs × IsLeastOf ◌<◌ (IsDiffering planners past logs) planner
 
 -- the same, of some such history
-abbrev pub IsCloseError : Pit → List Answered → ℕ → List PlannerState → CloseError → Type 0
-IsCloseError pit opening planners logs (error.Missing planner) = IsLeastOf ◌<◌ (IsMissing planners logs) planner
-IsCloseError pit opening planners logs (error.Differs planner) = IsFirstDiffering pit opening planners logs planner
+abbrev pub IsCloseError : Pit → List Answered → ℕ → ℕ → List PlannerState → CloseError → Type 0
+IsCloseError pit opening max_entries planners logs (error.Missing planner) = IsLeastOf ◌<◌ (IsMissing planners logs) planner
+IsCloseError pit opening max_entries planners logs (error.Differs planner) = IsFirstDiffering pit opening max_entries planners logs planner

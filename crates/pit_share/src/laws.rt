@@ -22,7 +22,7 @@ pub fn one_shared_history<S: Session, R: Wait + Drop, A: Allocator + Copy + Drop
     rt: &W,
     workspace: &Workspace<S, R, A>,
 ) -> i128
-    ensures { IsShared S.instance S.opening S.planners result }
+    ensures { IsShared S.instance S.opening S.max_entries S.planners result }
 {
     workspace.floor().lock(rt).value()
 }

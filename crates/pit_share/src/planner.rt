@@ -9,7 +9,6 @@ use crate::log::PlannerLog;
 use crate::transaction::Transaction;
 use pit_board::Session;
 use pit_num::NoMemory;
-use pit_tx::Work;
 use std::alloc::Allocator;
 use std::marker::Model;
 use std::sync::{Mutex, Wait};
@@ -60,16 +59,7 @@ impl<'a, S: Session, R: Wait + Drop, A: Allocator + Copy + Drop> Planner<'a, S, 
     {
         let Planner { floor, mut account } = self;
         let start = account.begin();
-        let sizes = account.sizes();
-        match Work::new(
-            account.allocator(),
-            account.number(),
-            job,
-            start,
-            sizes.blocks,
-            sizes.periods,
-            sizes.resources,
-        ) {
+        match account.work(job, start) {
             Ok(work) => Ok(Transaction::new(floor, account, work)),
             Err(error) => Err((Planner { floor, account }, error)),
         }

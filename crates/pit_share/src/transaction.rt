@@ -194,15 +194,16 @@ impl<'a, S: Session, R: Wait + Drop, A: Allocator + Copy + Drop> Transaction<'a,
         }
     }
 
-    /// Gives it up. Makes no entry and no item, takes no memory, and waits for nobody.
+    /// Gives it up. Makes no entry and no item, takes no memory, and waits for nobody. The planner's next transaction gets the memory of the sets.
     pub fn abandon(self) -> Planner<'a, S, R, A>
         ensures { result ≡ self.entry.planner }
     {
         let Transaction {
             floor,
-            account,
-            work: _work,
+            mut account,
+            work,
         } = self;
+        account.keep(work);
         Planner::new(floor, account)
     }
 

@@ -27,9 +27,9 @@ pub struct Workspace<S: Session, R: Wait + Drop, A: Allocator + Copy + Drop> {
 }
 
 impl<S: Session, R: Wait + Drop, A: Allocator + Copy + Drop> Workspace<S, R, A> {
-    /// Opens a workspace on a desk, with a seat for each of so many planners, 1 to `PLANNERS_MAX`. The session names the desk's pit and history,
-    /// the number of planners, and what is blank. The handle is kept, since who ends the board waits for its readers. On a refusal the desk is
-    /// handed back, and the rest is freed.
+    /// Opens a workspace on a desk, with a seat for each of so many planners, 1 to `PLANNERS_MAX`. The session names the desk's pit, its history
+    /// and its limit of entries, the number of planners, and what is blank. The handle is kept, since who ends the board waits for its readers. On
+    /// a refusal the desk is handed back, and the rest is freed.
     pub fn open(
         rt: R,
         alloc: A,
@@ -39,6 +39,7 @@ impl<S: Session, R: Wait + Drop, A: Allocator + Copy + Drop> Workspace<S, R, A> 
     ) -> Result<(Workspace<S, R, A>, Vec<Seat<S, A>, A>), (Desk<A>, OpenError)>
         requires pit { desk.plan.pit ≡ S.instance }
         requires history { desk.history ≡ S.opening }
+        requires limit { desk.max_entries ≡ S.max_entries }
         requires planners { planners ≡ S.planners }
         requires ledger { blank.ledger ≡ S.name }
         requires parts { S.parts ≡ PLANNERS_MAX }
@@ -73,9 +74,9 @@ impl<S: Session, R: Wait + Drop, A: Allocator + Copy + Drop> Workspace<S, R, A> 
         self,
         logs: Vec<PlannerLog<S, A>, A>,
     ) -> Result<Closed<A>, (Workspace<S, R, A>, Vec<PlannerLog<S, A>, A>, CloseError)>
-        ensures ok { IfOk result (IsClosed S.instance S.opening S.planners logs.items) }
+        ensures ok { IfOk result (IsClosed S.instance S.opening S.max_entries S.planners logs.items) }
         ensures logs { IfErr result (λ refused. refused.1 ≡ logs) }
-        ensures err { IfErr result (λ refused. IsCloseError S.instance S.opening S.planners logs.items refused.2) }
+        ensures err { IfErr result (λ refused. IsCloseError S.instance S.opening S.max_entries S.planners logs.items refused.2) }
     {
         let Workspace { floor } = self;
         let floor = floor.into_inner();

@@ -7,7 +7,7 @@ ghost use Rattle.pit_tx.specs.Refusals.{refusal_of, revision_refusal_of};
 ghost use Rattle.pit_tx.specs.Sets.{known_of, AreSound};
 
 use crate::error::WorkError;
-use pit_keyed::KeyedSet;
+use pit_keyed::{FilteredSet, KeyedSet};
 use pit_num::{BLOCKS_MAX, NoMemory, PERIODS_MAX, RESOURCES_MAX};
 use std::alloc::Allocator;
 use std::marker::Model;
@@ -26,7 +26,7 @@ pub struct Work<A: Allocator + Copy + Drop> {
     blocks: u32,
     periods: u32,
     resources: u32,
-    reads: KeyedSet<u32, Option<u32>, A>,
+    reads: FilteredSet<Option<u32>, A>,
     writes: KeyedSet<u32, Option<u32>, A>,
     revises: KeyedSet<(u32, u32), Option<i64>, A>,
 }
@@ -89,7 +89,7 @@ impl<A: Allocator + Copy + Drop> Work<A> {
           revises = [];
         }) }
     {
-        let reads = KeyedSet::new(alloc, FIRST_ROOM)?;
+        let reads = FilteredSet::new(alloc, FIRST_ROOM)?;
         let writes = KeyedSet::new(alloc, FIRST_ROOM)?;
         let revises = KeyedSet::new(alloc, FIRST_ROOM)?;
         Ok(Work {
@@ -103,6 +103,55 @@ impl<A: Allocator + Copy + Drop> Work<A> {
             writes,
             revises,
         })
+    }
+
+    /// The same as `new`, in the memory of this work's sets.
+    pub fn emptied(
+        self,
+        planner: u32,
+        job: u32,
+        start: u32,
+        blocks: u32,
+        periods: u32,
+        resources: u32,
+    ) -> Work<A>
+        requires some_block { 1 ≤ blocks }
+        requires few_blocks { blocks ≤ BLOCKS_MAX }
+        requires some_period { 1 ≤ periods }
+        requires few_periods { periods ≤ PERIODS_MAX }
+        requires few_resources { resources ≤ RESOURCES_MAX }
+        ensures { result ≡ record {
+          planner = planner;
+          job = job;
+          start = start;
+          blocks = blocks;
+          periods = periods;
+          resources = resources;
+          reads = [];
+          writes = [];
+          revises = [];
+        } }
+    {
+        let Work {
+            mut reads,
+            mut writes,
+            mut revises,
+            ..
+        } = self;
+        reads.clear();
+        writes.clear();
+        revises.clear();
+        Work {
+            planner,
+            job,
+            start,
+            blocks,
+            periods,
+            resources,
+            reads,
+            writes,
+            revises,
+        }
     }
 
     /// Who plans, numbered from 1. 0 is the opening schedule.

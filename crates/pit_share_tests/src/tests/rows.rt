@@ -289,6 +289,7 @@ fn play<S: Session, R: Wait + Drop, W: Wait + Abort, A: Allocator + Copy + Drop>
 ) -> Played<A>
     requires pit { desk.plan.pit ≡ S.instance }
     requires history { desk.history ≡ S.opening }
+    requires limit { desk.max_entries ≡ S.max_entries }
     requires planners { planners ≡ S.planners }
     requires ledger { blank.ledger ≡ S.name }
     requires parts { S.parts ≡ PLANNERS_MAX }

@@ -4,5 +4,5 @@ use Rattle.pit_planning.proofs.planning.run_in.Goals as goal
 
 pub returns-in-Err-clause-err : goal.returns-in-Err-clause-err
 returns-in-Err-clause-err g c =
-    c.workspace_fault.ensures g.S.Session.instance g.S.Session.opening c.args.retries c.args.scripts.now
+    c.workspace_fault.ensures g.S.Session.instance g.S.Session.opening g.S.Session.max_entries c.args.retries c.args.scripts.now
     (subst (λ (n : ℕ). IsOpenError n c.in-Err.error) (sym c.requires.each) c.in-Err.ensures.err)

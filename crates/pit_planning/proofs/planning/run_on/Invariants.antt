@@ -7,4 +7,4 @@ ghosts-run_in-S-Ledger g a = record { name = a.blank.ledger; parts = PLANNERS_MA
 
 -- its list, and the desk that is at hand
 abbrev pub ghosts-run_in-S-Session : goal.ghosts-run_in-S-Session
-ghosts-run_in-S-Session g a = record { book = a.blank.book; instance = a.desk.plan.pit; opening = a.desk.history; planners = a.planners }
+ghosts-run_in-S-Session g a = record { book = a.blank.book; instance = a.desk.plan.pit; opening = a.desk.history; max_entries = a.desk.max_entries; planners = a.planners }

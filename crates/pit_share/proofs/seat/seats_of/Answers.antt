@@ -25,3 +25,10 @@ loop-before-preserved g c =
       many = omega (arith, c.in-Ok.ensures.len, kept.many);
       each = λ k less. subst (λ (xs : List ℕ). slice_index xs k ≡ k + 1) (sym items) (omega (arith, row k (omega (arith, less, many))));
     }
+
+pub returns-clause-seats : goal.returns-clause-seats
+returns-clause-seats g c =
+    let kept = c.loop-before.invariant in
+    let end : c.loop-before.before ≡ c.args.planners = omega (arith, c.loop-before.auto.before-end, c.loop-before-test.false) in
+    let many : length c.loop-before.seats.items ≡ c.args.planners = omega (arith, kept.many, end) in
+    record { many = many; each = λ k less. kept.each k (omega (arith, less, end)) }

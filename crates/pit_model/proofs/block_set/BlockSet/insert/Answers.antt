@@ -1,6 +1,6 @@
 use Rattle.std.proofs.Common.{◌≡◌, ◌<◌, ◌/◌, ◌%◌, ℕ, ap, length, get_or, subst, arith}
 use Rattle.std.proofs.lemmas.List.{get_or_read}
-use Rattle.pit_model.specs.Bits.{IsWithBit}
+use Rattle.pit_num.specs.Bits.{IsWithBit}
 use Rattle.pit_model.proofs.BlockSets.{length-blocks_in, blocks_in-set}
 use Rattle.pit_model.proofs.block_set.BlockSet.insert.Goals as goal
 

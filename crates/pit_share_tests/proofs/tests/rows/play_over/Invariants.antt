@@ -7,4 +7,4 @@ ghosts-play-S-Ledger g a = record { name = a.blank.ledger; parts = PLANNERS_MAX 
 
 -- its list, and the desk that is at hand
 abbrev pub ghosts-play-S-Session : goal.ghosts-play-S-Session
-ghosts-play-S-Session g a = record { book = a.blank.book; instance = a.desk.plan.pit; opening = a.desk.history; planners = a.planners }
+ghosts-play-S-Session g a = record { book = a.blank.book; instance = a.desk.plan.pit; opening = a.desk.history; max_entries = a.desk.max_entries; planners = a.planners }

@@ -1,6 +1,6 @@
 use Rattle.std.proofs.Common.{w64, arith}
 use Rattle.std.proofs.lemmas.Nat.Bits.{bit_at_set_same, bit_at_set_other}
-use Rattle.pit_model.proofs.bits.with_bit.Goals as goal
+use Rattle.pit_num.proofs.bits.with_bit.Goals as goal
 
 pub returns : goal.returns
 returns c = record {

@@ -1,0 +1,98 @@
+//! Sets of numbers, each with a value, of which most that are looked for aren't there.
+ghost use Rattle.std.specs.Prelude.{◌≡◌, ◌≤◌, [], ◌∷◌, ◌++◌, None, nat_eq, OnOk, OnErr, IfOk};
+ghost use Rattle.pit_keyed.specs.Keyed.{IsFurther, at_key, with_read};
+
+use crate::keyed_set::KeyedSet;
+use pit_num::{NoMemory, has_bit, with_bit};
+use std::alloc::Allocator;
+use std::marker::Model;
+
+/// A `KeyedSet` of numbers with a filter (Bloom 1970): the bit of each number that is there is set, so one whose bit isn't set needs no search.
+/// Contracts see it as the list of its pairs.
+#[derive(Drop)]
+pub struct FilteredSet<V: Copy, A: Allocator + Copy + Drop> {
+    set: KeyedSet<u32, V, A>,
+    filter: u64,
+}
+
+impl<V: Copy, A: Allocator + Copy + Drop> Model for FilteredSet<V, A> {
+    ghost use Rattle.std.specs.Prelude.{List, ℕ};
+
+    ghost Value = { List (ℕ × V) };
+
+    ghost use Rattle.pit_keyed.specs.Filter.{IsFilterOf};
+
+    ghost view = { λ s. s.set };
+
+    ghost invariant = { λ s. IsFilterOf s.set s.filter };
+}
+
+impl<V: Copy, A: Allocator + Copy + Drop> FilteredSet<V, A> {
+    /// An empty set with room for so many pairs. Takes memory once, for these.
+    pub fn new(alloc: A, room: usize) -> Result<Self, NoMemory>
+        requires { 1 ≤ room }
+        ensures { IfOk result (λ set. set ≡ []) }
+    {
+        Ok(FilteredSet {
+            set: KeyedSet::new(alloc, room)?,
+            filter: 0,
+        })
+    }
+
+    /// The pairs, in their order.
+    pub fn pairs(&self) -> &[(u32, V)]
+        ensures { result.now ≡ self.now }
+    {
+        self.set.pairs()
+    }
+
+    /// The pairs, in their order. Takes no memory.
+    pub fn into_pairs(self) -> Vec<(u32, V), A>
+        ensures { result.items ≡ self }
+    {
+        let FilteredSet { set, .. } = self;
+        set.into_pairs()
+    }
+
+    /// Takes all pairs out. Their room stays.
+    pub fn clear(&mut self)
+        ensures { self.new ≡ [] }
+    {
+        self.set.clear();
+        self.filter = 0;
+    }
+
+    /// The value of a number, if it is there.
+    pub fn get(&self, key: u32) -> Option<V>
+        ensures { result ≡ at_key nat_eq self.now key }
+    {
+        if !has_bit(self.filter, key % 64) {
+            return None;
+        }
+        self.set.get(key)
+    }
+
+    /// Notes a number with a value, unless the number is there.
+    pub fn note(&mut self, key: u32, value: V) -> Result<(), NoMemory>
+        ensures ok { OnOk result (self.new ≡ with_read nat_eq self.old key value) }
+        ensures err { OnErr result (self.new ≡ self.old) }
+        ensures memory { OnErr result (IsFurther nat_eq self.old key) }
+    {
+        match self.get(key) {
+            Some(_) => Ok(()),
+            None => self.add(key, value),
+        }
+    }
+
+    /// Puts a number last that isn't there. Takes memory where the set has others.
+    pub fn add(&mut self, key: u32, value: V) -> Result<(), NoMemory>
+        requires { at_key nat_eq self.old key ≡ None }
+        ensures ok { OnOk result (self.new ≡ self.old ++ (key, value) ∷ []) }
+        ensures err { OnErr result (self.new ≡ self.old) }
+        ensures memory { OnErr result (IsFurther nat_eq self.old key) }
+    {
+        self.set.add(key, value)?;
+        self.filter = with_bit(self.filter, key % 64);
+        Ok(())
+    }
+}
