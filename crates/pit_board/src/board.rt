@@ -1,26 +1,27 @@
 //! The board that readers see.
-ghost use Rattle.std.specs.Prelude.{◌≡◌, ◌<◌, ℕ, length, IfOk, slice_index_or, nat_eq, if◌then◌else◌};
+ghost use Rattle.std.specs.Prelude.{◌≡◌, ◌<◌, ◌≤◌, ℕ, length, All, IfSome, slice_index_or, nat_eq, if◌then◌else◌};
+ghost use Rattle.pit_num.specs.declared.limits.TheConstants.{PERIODS_MAX};
 ghost use Rattle.pit_board.specs.Boards.{ShowsAll, slot_after};
 ghost use Rattle.pit_board.specs.declared.slot.Slot.{Slot};
 
 use crate::front::Front;
 use crate::session::Session;
-use crate::slot::Slot;
+use crate::slot::{KeptSlot, Slot};
 use crate::stamp::{Operation, Stamp};
 use left_right::Absorb;
-use pit_num::NoMemory;
 use std::alloc::{AllocError, Allocator};
 use std::marker::Model;
 
 /// A slot for each block, and the front whose commits they show. Contracts see the commits.
 #[derive(Drop)]
 pub struct Board<S: Session, A: Allocator + Copy + Drop> {
-    slots: Vec<Slot, A>,
+    slots: Vec<KeptSlot, A>,
     front: Front<S>,
 }
 
 impl<S: Session, A: Allocator + Copy + Drop> Model for Board<S, A> {
-    ghost use Rattle.std.specs.Prelude.{List};
+    ghost use Rattle.std.specs.Prelude.{◌≤◌, List};
+    ghost use Rattle.pit_num.specs.declared.limits.TheConstants.{PERIODS_MAX};
     ghost use Rattle.pit_plan.specs.Schedule.{Commit};
     ghost use Rattle.pit_board.specs.Boards.{ShowsAll};
 
@@ -28,19 +29,20 @@ impl<S: Session, A: Allocator + Copy + Drop> Model for Board<S, A> {
 
     ghost view = { λ b. b.front };
 
-    ghost invariant = { λ b. ShowsAll S.instance.blocks b.front b.slots.items };
+    ghost invariant = { λ b. (S.instance.periods ≤ PERIODS_MAX) × ShowsAll S.instance.blocks b.front b.slots.items };
 }
 
 impl<S: Session, A: Allocator + Copy + Drop> Board<S, A> {
-    /// A board that shows a front by a copy of these slots.
-    pub(crate) fn new(alloc: A, slots: &[Slot], front: &Front<S>) -> Result<Board<S, A>, NoMemory>
-        requires { ShowsAll S.instance.blocks front.now slots.now }
-        ensures { IfOk result (λ board. board ≡ front.now) }
+    /// A board that shows a front by these slots.
+    pub(crate) fn new(slots: Vec<KeptSlot, A>, front: &Front<S>) -> Board<S, A>
+        requires few_periods { S.instance.periods ≤ PERIODS_MAX }
+        requires slots { ShowsAll S.instance.blocks front.now slots.items }
+        ensures { result ≡ front.now }
     {
-        Ok(Board {
-            slots: Vec::from_slice(alloc, slots)?,
+        Board {
+            slots,
             front: front.again(),
-        })
+        }
     }
 
     /// The commits that it shows.
@@ -51,7 +53,7 @@ impl<S: Session, A: Allocator + Copy + Drop> Board<S, A> {
     }
 
     /// A slot for each block.
-    pub(crate) fn slots(&self) -> &[Slot]
+    pub(crate) fn slots(&self) -> &[KeptSlot]
         ensures { ShowsAll S.instance.blocks self.now result.now }
     {
         self.slots.as_slice()
@@ -69,10 +71,11 @@ impl<S: Session, A: Allocator + Copy + Drop> Board<S, A> {
 
 /// Writes each block's slot, and a block's first write last.
 fn write_slots<A: Allocator + Copy + Drop>(
-    slots: &mut Vec<Slot, A>,
+    slots: &mut Vec<KeptSlot, A>,
     number: u32,
     writes: &[(u32, Option<u32>)],
 )
+    requires { All (λ write. IfSome write.1 (λ t. t < PERIODS_MAX)) writes.now }
     ensures many { length slots.new.items ≡ length slots.old.items }
     ensures each { (b : ℕ) (d : Slot) → b < length slots.old.items
         → slice_index_or slots.new.items b d ≡ slot_after number writes.now b (slice_index_or slots.old.items b d) }
@@ -85,12 +88,12 @@ fn write_slots<A: Allocator + Copy + Drop>(
             period,
             version: number,
         };
-        write_slot(slots, block, slot);
+        write_slot(slots, block, KeptSlot::new(slot));
     }
 }
 
 /// Writes the slot of a block, if there is one.
-fn write_slot<A: Allocator + Copy + Drop>(slots: &mut Vec<Slot, A>, block: u32, slot: Slot)
+fn write_slot<A: Allocator + Copy + Drop>(slots: &mut Vec<KeptSlot, A>, block: u32, slot: KeptSlot)
     ensures many { length slots.new.items ≡ length slots.old.items }
     ensures each { (b : ℕ) (d : Slot) → b < length slots.old.items
         → slice_index_or slots.new.items b d ≡ (if nat_eq b block then slot else slice_index_or slots.old.items b d) }
@@ -120,6 +123,18 @@ impl<S: Session, A: Allocator + Copy + Drop> Absorb<Operation<S, A>> for Board<S
             if let Some(stamp) = &*cell {
                 self.take_in(stamp);
             }
+        }
+        Ok(())
+    }
+
+    // By now nothing else holds the operation's cell.
+    fn absorb_second(
+        &mut self,
+        operation: Operation<S, A>,
+        _other: &Board<S, A>,
+    ) -> Result<(), Operation<S, A>> {
+        if let Some(stamp) = operation.into_stamp() {
+            self.take_in(&stamp);
         }
         Ok(())
     }

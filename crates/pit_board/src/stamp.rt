@@ -61,8 +61,9 @@ impl<S: Session, A: Allocator + Copy + Drop> Operation<S, A> {
         })
     }
 
-    /// Gives the cell its stamp. Of a cell that another thread has locked it would not; what is published then lags, and the hall waits.
-    pub(crate) fn fill(&self, stamp: Stamp<S, A>) {
+    /// Gives the cell its stamp, and lets go of the cell. Of a cell that another thread has locked it would not; what is published then lags, and
+    /// the hall waits.
+    pub(crate) fn fill(self, stamp: Stamp<S, A>) {
         if let Some(mut cell) = self.cell.try_lock() {
             *cell = Some(stamp);
         }
@@ -71,5 +72,11 @@ impl<S: Session, A: Allocator + Copy + Drop> Operation<S, A> {
     /// The cell, where no other thread has locked it, with its stamp once it has one.
     pub(crate) fn stamp(&self) -> Option<MutexGuard<'_, Option<Stamp<S, A>>>> {
         self.cell.try_lock()
+    }
+
+    /// The stamp, taken out of the cell with no lock. Of a cell that another operation still holds there is none.
+    pub(crate) fn into_stamp(self) -> Option<Stamp<S, A>> {
+        let Operation { cell } = self;
+        Arc::into_inner(cell)?.into_inner()
     }
 }

@@ -129,7 +129,7 @@ impl<S: Session, A: Allocator + Copy + Drop> View<S, A> {
         if !front.begins(guard.front()) {
             return None;
         }
-        let slot = guard.slots()[block as usize];
+        let slot = guard.slots()[block as usize].slot();
         *front = guard.front().again();
         Some(slot)
     }

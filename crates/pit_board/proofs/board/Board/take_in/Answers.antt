@@ -1,6 +1,8 @@
-use Rattle.std.proofs.Common.{◌≡◌, ◌+◌, ◌<◌, ◌++◌, ◌∷◌, [], List, length, ap, sym, refl, ◌∙◌, arith, length-append}
+use Rattle.std.proofs.Common.{◌≡◌, ◌+◌, ◌<◌, ◌++◌, ◌∷◌, [], List, length, ap, sym, subst, refl, ◌∙◌, arith, length-append}
 use Rattle.pit_plan.specs.Schedule.{Commit}
 use Rattle.pit_board.specs.Boards.{slot_after, slot_of}
+use Rattle.pit_board.specs.Fronts.{AreLawful}
+use Rattle.pit_board.proofs.Lawful.{last-periods}
 use Rattle.pit_board.proofs.Slots.{slot_of-push}
 use Rattle.pit_board.proofs.board.Board.take_in.Goals as goal
 
@@ -10,12 +12,20 @@ invariant_of-self g c =
     let w : Commit = c.stamp.inside.changes in
     let same : old ≡ c.stamp.inside.before = c.if-is_same.ensures.0 refl in
     let after : c.again-front.result ≡ old ++ w ∷ [] = c.again-front.ensures ∙ (c.stamp.invariant ∙ sym (ap (λ (l : List Commit). l ++ w ∷ []) same)) in
-    let number : c.count.result ≡ length old + 1 = omega (arith, c.count.ensures.count, ap (λ (l : List Commit). length l) after, length-append old (w ∷ [])) in
-    record {
-      many = c.write_slots.ensures.many ∙ c.self.invariant.many;
-      each = λ b d below.
-          let there : b < length c.self.inside.slots.items = omega (arith, below, c.self.invariant.many) in
-          c.write_slots.ensures.each b d there
-          ∙ ((λ i. slot_after (number i) (c.writes.ensures i) b (c.self.invariant.each b d below i))
-          ∙ (sym (slot_of-push b old w) ∙ (λ i. slot_of (sym after i) b)));
-    }
+    let number : c.count.result ≡ length old + 1 = omega (arith, c.count.ensures.count, ap (λ (l : List Commit). length l) after, length-append old (w ∷ [])) in (
+      c.self.invariant.0,
+      record {
+        many = c.write_slots.ensures.many ∙ c.self.invariant.1.many;
+        each = λ b d below.
+            let there : b < length c.self.inside.slots.items = omega (arith, below, c.self.invariant.1.many) in
+            c.write_slots.ensures.each b d there
+            ∙ ((λ i. slot_after (number i) (c.writes.ensures i) b (c.self.invariant.1.each b d below i))
+            ∙ (sym (slot_of-push b old w) ∙ (λ i. slot_of (sym after i) b)));
+      },
+    )
+
+pub write_slots-requires : goal.write_slots-requires
+write_slots-requires g c =
+    let pit = g.S.Session.instance in
+    let lawful = subst (AreLawful pit) (c.again-front.ensures ∙ c.stamp.invariant) c.count.ensures.lawful in
+    rw c.writes.ensures (last-periods pit c.stamp.inside.before c.stamp.inside.changes lawful c.self.invariant.0)
