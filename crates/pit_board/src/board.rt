@@ -127,7 +127,7 @@ impl<S: Session, A: Allocator + Copy + Drop> Absorb<Operation<S, A>> for Board<S
         Ok(())
     }
 
-    // By now nothing else holds the operation's cell.
+    // By now nothing else holds the operation's cell. That isn't proved; where another did, the board would lag, and the hall wait.
     fn absorb_second(
         &mut self,
         operation: Operation<S, A>,

@@ -76,9 +76,10 @@ fn assert_fault(
     status: u8,
 ) -> Result<(), Fail> {
     let Err(fault) = answer else {
-        return Err(Fail::from("no fault"));
+        panic!(rt; "no fault for {line}");
     };
-    assert!(rt; fault.status() == status, "of {line}");
+    let found = fault.status();
+    assert!(rt; found == status, "{found} for {status} of {line}");
     let shown = format!(in alloc; "{fault}")?;
     assert!(rt; shown.as_str() == line, "{shown} for {line}");
     drop(shown);

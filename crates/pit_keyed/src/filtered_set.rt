@@ -1,4 +1,4 @@
-//! Sets of numbers, each with a value, of which most that are looked for aren't there.
+//! Sets of numbers, each with a value, for callers who mostly look for numbers that aren't there.
 ghost use Rattle.std.specs.Prelude.{◌≡◌, ◌≤◌, [], ◌∷◌, ◌++◌, None, nat_eq, OnOk, OnErr, IfOk};
 ghost use Rattle.pit_keyed.specs.Keyed.{IsFurther, at_key, with_read};
 
@@ -7,7 +7,8 @@ use pit_num::{NoMemory, has_bit, with_bit};
 use std::alloc::Allocator;
 use std::marker::Model;
 
-/// A `KeyedSet` of numbers with a filter (Bloom 1970): the bit of each number that is there is set, so one whose bit isn't set needs no search.
+/// A `KeyedSet` of numbers with a filter (Bloom 1970): bit `n % 64` is set for each number `n` that is there, so a number whose bit isn't set needs
+/// no search.
 /// Contracts see it as the list of its pairs.
 #[derive(Drop)]
 pub struct FilteredSet<V: Copy, A: Allocator + Copy + Drop> {
@@ -54,7 +55,7 @@ impl<V: Copy, A: Allocator + Copy + Drop> FilteredSet<V, A> {
         set.into_pairs()
     }
 
-    /// Takes all pairs out. Their room stays.
+    /// Takes all pairs out. Their room stays. Takes no memory.
     pub fn clear(&mut self)
         ensures { self.new ≡ [] }
     {

@@ -2,7 +2,7 @@
 ghost use Rattle.std.specs.Prelude.{◌≡◌, ◌<◌, ◌≤◌, [], ◌∷◌, ◌++◌, None, length, position, OnOk, OnErr, IfOk};
 ghost use Rattle.std.specs.List.{IsDistinct};
 ghost use Rattle.std.specs.Map.{keys_of};
-ghost use Rattle.pit_keyed.specs.Keyed.{IsFurther, at_key, with_read, with_write};
+ghost use Rattle.pit_keyed.specs.Keyed.{IsFurther, at_key, with_write};
 
 use indexmap::IndexSet;
 use pit_num::NoMemory;
@@ -64,7 +64,7 @@ impl<K: Eq + Hash + Copy, V: Copy, A: Allocator + Copy + Drop> KeyedSet<K, V, A>
         pairs
     }
 
-    /// Takes all pairs out. Their room stays.
+    /// Takes all pairs out. Their room stays. Takes no memory.
     pub fn clear(&mut self)
         ensures { self.new ≡ [] }
     {
@@ -75,20 +75,11 @@ impl<K: Eq + Hash + Copy, V: Copy, A: Allocator + Copy + Drop> KeyedSet<K, V, A>
     pub fn get(&self, key: K) -> Option<V>
         ensures { result ≡ at_key K.eq self.now key }
     {
+        if self.pairs.is_empty() {
+            return None;
+        }
         let at = self.place(key)?;
         Some(self.pairs[at].1)
-    }
-
-    /// Notes a key with a value, unless the key is there.
-    pub fn note(&mut self, key: K, value: V) -> Result<(), NoMemory>
-        ensures ok { OnOk result (self.new ≡ with_read K.eq self.old key value) }
-        ensures err { OnErr result (self.new ≡ self.old) }
-        ensures memory { OnErr result (IsFurther K.eq self.old key) }
-    {
-        match self.place(key) {
-            Some(_) => Ok(()),
-            None => self.add(key, value),
-        }
     }
 
     /// Writes a key with a value. A key that is there keeps its place.

@@ -1,10 +1,15 @@
-//! Workspaces over the small pit.
+//! Workspaces over the small pit, with a second resource that no block takes.
 ghost use Rattle.std.specs.Prelude.{◌<◌};
 
+mod changes;
 mod closing;
+mod logs;
 mod memory;
 mod places;
+mod playing;
 mod rows;
+mod stage;
+mod steps;
 mod threads;
 
 use linked_list_allocator::LocalHeap;
@@ -13,7 +18,7 @@ use pit_model::Instance;
 use pit_plan::Plan;
 use pit_plan_sample::Reading;
 use pit_refuse::Refusing;
-use pit_sample::{TINY, TINY_SIZE, built};
+use pit_sample::{Size, TINY, TINY_SIZE, built};
 use std::alloc::{Allocator, Global};
 use std::process::Abort;
 
@@ -28,9 +33,15 @@ fn heap_of(rt: &impl Abort, alloc: Global, number: u64) -> Heap {
     Refusing::over_heap(alloc, BYTES, number).expect(rt, "a heap")
 }
 
+/// Of two resources in two periods more limits may be revised than a transaction has room for at first.
+const SIZE: Size = Size {
+    resources: 2,
+    ..TINY_SIZE
+};
+
 /// The small pit.
 fn tiny<A: Allocator + Copy + Drop>(rt: &impl Abort, alloc: A) -> Instance<A> {
-    built(alloc, TINY_SIZE, TINY).expect(rt, "a pit")
+    built(alloc, SIZE, TINY).expect(rt, "a pit")
 }
 
 /// A desk of the small pit, with no start, that may have so many entries.
@@ -59,7 +70,9 @@ fn audited<A: Allocator + Copy + Drop>(
     history: &[Entry<A>],
 ) -> Option<Reading> {
     let pit = tiny(rt, alloc);
-    assert!(rt; pit.unmeetable().is_none());
+    let None = pit.unmeetable() else {
+        panic!(rt; "unmeetable");
+    };
     assert!(rt; history.len() < 1_000_000);
     let answer: Result<Plan<Global>, AuditFault> = audit(alloc, pit, history);
     match answer {
@@ -78,7 +91,7 @@ fn reading(plan: Plan<Global>) -> Option<Reading> {
 fn assert_legal<A: Allocator + Copy + Drop>(rt: &impl Abort, alloc: Global, desk: &Desk<A>) {
     let reading = audited(rt, alloc, desk.history());
     assert!(rt; reading.is_some());
-    assert_eq!(rt; reading, Reading::of(desk.plan()));
+    assert!(rt; reading == Reading::of(desk.plan()));
 }
 
 /// An entry's planner and its reply.

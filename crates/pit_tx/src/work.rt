@@ -105,7 +105,7 @@ impl<A: Allocator + Copy + Drop> Work<A> {
         })
     }
 
-    /// The same as `new`, in the memory of this work's sets.
+    /// Empty sets, as `new` makes them, in the memory of this work's sets. Takes no memory.
     pub fn emptied(
         self,
         planner: u32,

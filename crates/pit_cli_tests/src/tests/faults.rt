@@ -10,12 +10,12 @@ use std::test::Fail;
 
 /// Nothing is written, and the fault has this line and the status of a refused input.
 fn assert_refused(rt: &impl Abort, alloc: Global, texts: Texts, line: &str) -> Result<(), Fail> {
-    let answer = answer_of(rt, alloc, texts);
+    let answer = answer_of(rt, alloc, texts, line);
     assert_fault(rt, alloc, answer, line, 2)
 }
 
-/// What `check` answers, which writes nothing.
-fn answer_of(rt: &impl Abort, alloc: Global, texts: Texts) -> Result<Status, CliFault> {
+/// What `check` answers to texts that have the fault of this line. It writes nothing.
+fn answer_of(rt: &impl Abort, alloc: Global, texts: Texts, line: &str) -> Result<Status, CliFault> {
     let (model, precedence, solution) = texts;
     let (answer, written) = checked(
         alloc,
@@ -23,7 +23,7 @@ fn answer_of(rt: &impl Abort, alloc: Global, texts: Texts) -> Result<Status, Cli
         &mut In::new(precedence),
         &mut In::new(solution),
     );
-    assert!(rt; written.is_empty());
+    assert!(rt; written.is_empty(), "of {line}");
     drop(written);
     answer
 }

@@ -1,8 +1,10 @@
 //! How workspaces are opened and closed.
-use super::places::Step::{Begin, Commit, Put};
-use super::rows::{Doing, assert_played, play_over, played};
+use super::playing::{assert_played, play_over, played};
+use super::stage::Stage;
+use super::steps::Doing;
+use super::steps::Step::{Begin, Commit, Put};
 use super::threads::seated;
-use super::{Answered, Heap, assert_legal, empty_desk, heap_of, is_history};
+use super::{Answered, assert_legal, empty_desk, heap_of, is_history};
 use pit_book::{Desk, EntryReply, Reply};
 use pit_share::{OpenError, PLANNERS_MAX};
 use std::alloc::Global;
@@ -17,19 +19,29 @@ const NUMBERS: &[(u32, u32)] = &[(0, 1), (PLANNERS_MAX + 1, 2), (u32::MAX, PLANN
 fn seats_1_to_64_planners(rt: HostRuntime) {
     for (refused, fine) in NUMBERS {
         let heap = heap_of(&rt, rt.alloc(), 0);
-        let desk = handed_back(&rt, rt.alloc(), &heap, *refused);
+        let stage = Stage {
+            heap: &heap,
+            row: "refused numbers",
+        };
+        let desk = handed_back(&rt, rt.alloc(), stage, *refused);
         let desk = seated(&rt, rt.alloc(), desk, *fine);
-        assert!(rt; desk.history().is_empty());
+        assert!(rt; desk.history().is_empty(), "of {fine}");
         drop(desk);
+        drop(heap);
     }
 }
 
-fn handed_back<W: Wait + Abort>(rt: &W, alloc: Global, heap: &Heap, planners: u32) -> Desk<Global> {
+fn handed_back<W: Wait + Abort>(
+    rt: &W,
+    alloc: Global,
+    stage: Stage<'_>,
+    planners: u32,
+) -> Desk<Global> {
     let desk = empty_desk(rt, alloc, 100);
-    match play_over(rt, heap, alloc, desk, planners, &[]) {
-        Ok(_) => panic!(rt; "opened"),
+    match play_over(rt, stage, alloc, desk, planners, &[]) {
+        Ok(_) => panic!(rt; "opened for {planners}"),
         Err((desk, error)) => {
-            assert_eq!(rt; error, OpenError::PlannerCount);
+            assert!(rt; error == OpenError::PlannerCount, "for {planners}");
             desk
         }
     }
@@ -58,16 +70,16 @@ const ANSWERS: &[Answered] = &[
 #[test]
 fn closes_by_all_logs(rt: HostRuntime) {
     let heap = heap_of(&rt, rt.alloc(), 0);
-    let desk = played(
-        &rt,
-        &heap,
-        rt.alloc(),
-        empty_desk(&rt, rt.alloc(), 100),
-        FIRST,
-    );
-    assert_played(&rt, rt.alloc(), &desk, 0, FIRST);
-    let desk = played(&rt, &heap, rt.alloc(), desk, SECOND);
+    let stage = Stage {
+        heap: &heap,
+        row: "two workspaces",
+    };
+    let desk = empty_desk(&rt, rt.alloc(), 100);
+    let desk = played(&rt, stage, rt.alloc(), desk, FIRST);
+    assert_played(&rt, rt.alloc(), stage, &desk, 0, FIRST);
+    let desk = played(&rt, stage, rt.alloc(), desk, SECOND);
     assert_legal(&rt, rt.alloc(), &desk);
     assert!(rt; is_history(desk.history(), 0, ANSWERS));
     drop(desk);
+    drop(heap);
 }

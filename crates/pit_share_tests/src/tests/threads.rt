@@ -2,13 +2,13 @@
 ghost use Rattle.std.specs.Prelude.{◌≡◌, ◌<◌};
 ghost use Rattle.pit_share.specs.declared.blank.TheConstants.{PLANNERS_MAX};
 
+use super::logs::closed;
 use super::places::{Place, answered, opened, withdrawn};
-use super::rows::closed;
 use super::{assert_legal, started_desk};
 use pit_board::Session;
 use pit_book::{Desk, Entry, EntryReply};
 use pit_sample::Series;
-use pit_share::{Blank, Planner, PlannerLog, ReadStop, Seat, Transaction, Workspace};
+use pit_share::{Blank, Planner, PlannerLog, Seat, Transaction, Workspace};
 use std::alloc::{AllocError, Global};
 use std::marker::Brand;
 use std::process::Abort;

@@ -1,5 +1,5 @@
 use Rattle.pit_share.specs.declared.blank.TheConstants.{PLANNERS_MAX}
-use Rattle.pit_share_tests.proofs.tests.rows.play_over.Given as goal
+use Rattle.pit_share_tests.proofs.tests.playing.play_over.Given as goal
 
 -- the count of what is blank
 abbrev pub ghosts-play-S-Ledger : goal.ghosts-play-S-Ledger
