@@ -219,6 +219,20 @@ check 'plan, a history with revised limits' 1 '0 0
 planner 1 job 2 committed 3 tries 1
 value 15.500000000000000000
 short 0 1 0.000000 1.000000' plan --start solution model precedence revised --history second_format
+printf 'begin\nput 0 0\nput 1 0\ncommit\nbegin\nput 3 0\nrevise 0 0 5\ncommit\nbegin\nrevise 0 0 4\ncommit\n' >revising
+check 'plan, a limit is revised, and lowered in vain' 1 '0 0
+1 0
+3 0' 'planner 1 job 1 committed 1 tries 1
+planner 1 job 2 committed 2 tries 1
+planner 1 job 3 refused over 0 0 5.000000 4.000000 tries 1
+value 15.500000000000000000
+short 0 1 0.000000 1.000000' plan model precedence revising --history third
+kept 'the history of revised limits' third '{"format":2}
+{"act":"commit","job":1,"planner":1,"reads":[],"reply":{"committed":1},"revises":[],"start":0,"writes":[[0,0],[1,0]]}
+{"act":"commit","job":2,"planner":1,"reads":[],"reply":{"committed":2},"revises":[[0,0,"5000000"]],"start":1,"writes":[[3,0]]}
+{"act":"commit","job":3,"planner":1,"reads":[],"reply":{"over":[0,0,"5000000","4000000"]},"revises":[[0,0,"4000000"]],"start":2,"writes":[]}'
+check 'replay, a limit is revised, and lowered in vain' 0 'legal 3 2
+value 15.500000000000000000' '' replay model precedence third
 check 'replay' 0 "$LEGAL" '' replay model precedence kept
 check 'replay, revised limits' 0 'legal 3 3
 value 15.500000000000000000' '' replay model precedence second_format
@@ -304,6 +318,17 @@ compare 'plan to a closed output' 3 '' 'pit: cannot write'
 "$pit" plan model precedence empty 2>err >&-
 status=$?
 compare 'plan of nothing to a closed output' 1 '' "$NOTHING"
+echo old >before
+"$pit" plan --history before model precedence script 2>err >/dev/full
+status=$?
+: >out
+compare 'plan with a history to a full output' 3 '' 'pit: cannot write'
+kept 'the old history is there' before old
+"$pit" plan --history before model precedence script 2>/dev/full >out
+status=$?
+: >err
+compare 'plan with a history and a full standard error' 3 "$PLANNED" ''
+kept 'the old history is still there' before old
 : >err
 "$pit" plan model precedence script >out 2>&-
 status=$?

@@ -1,7 +1,8 @@
 #!/usr/bin/env bash
 # Refuses each request of a built `pit` for memory in turn, those of the command line's parser too. A run with a refused
 # request has to print `pit: no memory` alone, with status 3, or to end as the run in which nothing is refused; or a planner
-# stops for it, and the report says so, with status 3. What a plan was to keep of its history is then not there, or as it was, or that of the report.
+# stops for it, and the report says so, with status 3. The file of a plan's history is then as it was; or it has a history, where a planner stopped.
+# It also refuses each thread of a plan in turn: that planner isn't started, and the others do their scripts.
 # usage: tests/no_memory.sh PIT FOLDER      PIT is the path of the program, FOLDER has the small example. Wants a C compiler.
 set -u
 
@@ -17,7 +18,10 @@ cd "$work" || exit 2
 failures=0
 
 cat >refuse.c <<'TEXT'
+#define _GNU_SOURCE
+#include <dlfcn.h>
 #include <errno.h>
+#include <pthread.h>
 #include <stdlib.h>
 extern void *__libc_malloc(size_t);
 extern void *__libc_realloc(void *, size_t);
@@ -37,36 +41,74 @@ void *realloc(void *at, size_t size) {
     if (is_refused()) { errno = ENOMEM; return 0; }
     return __libc_realloc(at, size);
 }
+typedef int (*starts)(pthread_t *, const pthread_attr_t *, void *(*)(void *), void *);
+static starts start;
+__attribute__((constructor)) static void find(void) { *(void **)&start = dlsym(RTLD_NEXT, "pthread_create"); }
+int pthread_create(pthread_t *thread, const pthread_attr_t *how, void *(*does)(void *), void *with) {
+    static long threads;
+    const char *text = getenv("REFUSED_THREAD");
+    return text && ++threads == atol(text) ? EAGAIN : start(thread, how, does, with);
+}
 TEXT
-${CC:-cc} -shared -fPIC -o refuse.so refuse.c || exit 2
+${CC:-cc} -shared -fPIC -o refuse.so refuse.c -ldl || exit 2
+
+# is_told WORD..: where the words have a history to keep, what was kept is legal.
+is_told() { [[ " $* " != *' kept '* ]] || "$pit" replay "$data/tiny.cpit" "$data/tiny.prec" kept >/dev/null; }
 
 # each NAME WORD..: runs the program with the words, once for each request.
 each() {
-    local name=$1 refused=0 number status whole
+    local name=$1 refused=0 before=0 number status whole
     shift
-    rm -f kept
+    echo before >kept
     "$pit" "$@" >whole.out 2>whole.err
     whole=$?
-    [ ! -e kept ] || mv kept whole.kept
+    cp kept whole.kept
     for number in {1..300}; do
-        rm -f kept
+        echo before >kept
         REFUSED_REQUEST=$number LD_PRELOAD=./refuse.so "$pit" "$@" >out 2>err
         status=$?
-        if [ "$status" = 3 ] && [ ! -s out ] && [ ! -s kept ] && [ "$(cat err)" = 'pit: no memory' ]; then
+        before=$refused
+        if [ "$status" = 3 ] && [ ! -s out ] && [ "$(cat kept)" = before ] && [ "$(cat err)" = 'pit: no memory' ]; then
             refused=$((refused + 1))
-        elif [ "$status" = 3 ] && grep -q '^planner [0-9]* \(stopped at job [0-9]*: no memory\|not started\)$' err; then
+        elif [ "$status" = 3 ] && grep -q '^planner [0-9]* \(stopped at job [0-9]*: no memory\|not started\)$' err && is_told "$@"; then
             refused=$((refused + 1))
-        elif [ "$status" != "$whole" ] || ! cmp -s out whole.out || ! cmp -s err whole.err || { [ -e kept ] && ! cmp -s kept whole.kept; }; then
+        elif [ "$status" != "$whole" ] || ! cmp -s out whole.out || ! cmp -s err whole.err || ! cmp -s kept whole.kept; then
             echo "FAIL  $name: request $number refused: status $status"
             failures=$((failures + 1))
         fi
     done
-    if [ "$refused" -eq 0 ] || [ "$refused" -eq 300 ]; then
-        echo "FAIL  $name: $refused of 300 runs had no memory"
+    # In the last run nothing is left to refuse.
+    if [ "$refused" -eq 0 ] || [ "$refused" -ne "$before" ]; then
+        echo "FAIL  $name: $refused of 300 runs had no memory: none, or the last one too"
         failures=$((failures + 1))
     else
         echo "ok    $name: $refused requests refused"
     fi
+}
+
+# threads COUNT: plans by so many planners, once for each of their threads, which is refused.
+threads() {
+    local count=$1 before=$failures scripts=() number status
+    printf 'begin\nput 3 1\ncommit\n' >late
+    for number in $(seq "$count"); do scripts+=(late); done
+    for number in $(seq "$count"); do
+        echo before >kept
+        REFUSED_THREAD=$number LD_PRELOAD=./refuse.so "$pit" plan --history kept "$data/tiny.cpit" "$data/tiny.prec" "${scripts[@]}" >out 2>err
+        status=$?
+        # The thread of the last planner is started first.
+        awk -v count="$count" -v refused=$((count + 1 - number)) '
+            NR == refused && $0 == "planner " NR " not started" { next }
+            NR != refused && NR <= count && $0 ~ "^planner " NR " job 1 committed [0-9]+ tries 1$" { next }
+            NR == count + 1 && $0 == "value 4.545454545455000000" { next }
+            { other = 1 }
+            END { exit other || NR != count + 1 }' err || status=lacking
+        if [ "$status" != 3 ] || [ "$(cat out)" != '3 1' ] ||
+            [ "$("$pit" replay "$data/tiny.cpit" "$data/tiny.prec" kept | head -1)" != "legal $((count - 1)) $((count - 1))" ]; then
+            echo "FAIL  threads: $number of $count refused: status $status"
+            failures=$((failures + 1))
+        fi
+    done
+    [ "$failures" -ne "$before" ] || echo "ok    threads: each of $count refused"
 }
 
 each 'value' value "$data/tiny.cpit" "$data/tiny.sol"
@@ -77,12 +119,14 @@ printf 'begin\nread 3\nabort\n' >two
 each 'plan' plan "$data/tiny.cpit" "$data/tiny.prec" one
 each 'plan, two planners from a start' plan "$data/tiny.cpit" "$data/tiny.prec" --start "$data/tiny.sol" --retries 0 one two
 each 'plan with a history' plan --history kept "$data/tiny.cpit" "$data/tiny.prec" one
-each 'replay' replay "$data/tiny.cpit" "$data/tiny.prec" whole.kept
+cp whole.kept history
+each 'replay' replay "$data/tiny.cpit" "$data/tiny.prec" history
 # Each line of this one is read by its JSON value.
-sed 's/,/, /g' whole.kept | head -3 >spaced
+sed 's/,/, /g' history | head -3 >spaced
 each 'replay, white space' replay "$data/tiny.cpit" "$data/tiny.prec" spaced
-sed 's/"committed":2/"committed":3/' whole.kept >other
+sed 's/"committed":2/"committed":3/' history >other
 each 'replay, another reply' replay "$data/tiny.cpit" "$data/tiny.prec" other
+threads 4
 each 'help' --help
 each 'help on value' value --help
 each 'help value' help value

@@ -74,7 +74,11 @@ audit() {
     "$pit" plan model precedence --blocks blocks --history history "$@" "${scripts[@]}" >solution 2>report
     status=$?
     # the start may break a limit that was revised
-    [ "$status" != 2 ] || { grep -q '^pit: start: ' report || fail "$(cat report)"; return; }
+    if [ "$status" = 2 ]; then
+        grep -q '^pit: start: ' report || fail "$(cat report)"
+        refused=$((refused + 1))
+        return
+    fi
     [ "$status" -le 1 ] || fail "plan: status $status"
     value=$(grep '^value ' report)
     [ "value $("$pit" value model solution)" = "$value" ] || fail "$value"
@@ -96,6 +100,7 @@ $value"
 }
 
 entries=0
+refused=0
 for ((seed = 1; seed <= runs; seed++)); do
     planners=$(draw "$seed")
     scripts=()
@@ -105,4 +110,5 @@ for ((seed = 1; seed <= runs; seed++)); do
     audit --start start
 done
 [ "$entries" -gt "$((5 * runs))" ] || fail "no more than $entries entries"
-echo "ok    $runs pits, twice each, $entries entries replayed, each of them changed in turn"
+[ "$runs" -lt 20 ] || [ "$((2 * refused))" -lt "$runs" ] || fail "$refused of $runs starts are refused"
+echo "ok    $runs pits, $((2 * runs - refused)) plans, $entries entries replayed, each of them changed in turn"

@@ -1,5 +1,5 @@
 -- Where the pair of a key stands, and the places of pairs.
-use Rattle.std.proofs.Common.{◌≡◌, ℕ, zero, suc, ◌+◌, ◌<◌, ◌≤◌, Bool, true, false, cond, not, nat_lt, List, [], ◌∷◌, ◌++◌, length, get_or, set, take, position, Some, None, is_some, vec_capacity, Vec, refl, sym, ap, subst, ◌∙◌, arith, length-take, length-append}
+use Rattle.std.proofs.Common.{◌≡◌, ℕ, zero, suc, ◌+◌, ◌<◌, ◌≤◌, Bool, true, false, cond, not, nat_lt, List, [], ◌∷◌, ◌++◌, length, get_or, set, take, position, Option, Some, None, is_some, vec_capacity, Vec, refl, sym, ap, subst, ◌∙◌, arith, length-take, length-append}
 use Rattle.std.specs.Cmp.{IsEquivalence}
 use Rattle.std.specs.List.{IsDistinct, list_any, position_or_len}
 use Rattle.std.specs.Map.{keys_of}
@@ -9,9 +9,10 @@ use Rattle.std.proofs.lemmas.List.Folds.{list_any_none}
 use Rattle.std.proofs.lemmas.List.Quantifiers.{position-Some}
 use Rattle.std.proofs.lemmas.Map.Keys.{apart_from_distinct, IsDistinct-push}
 use Rattle.std.proofs.lemmas.Map.Made.{is_some-lookup}
-use Rattle.indexmap.specs.IndexSet.{IndexSet, insert_key}
+use Rattle.indexmap.specs.IndexSet.{insert_key}
+use Rattle.std.specs.Prelude.{MatchOption}
 use Rattle.pit_keyed.specs.Kept.{IsSetKept}
-use Rattle.pit_keyed.specs.Keyed.{at_key, with_read, with_write}
+use Rattle.pit_keyed.specs.Keyed.{at_key, with_write}
 use Rattle.pit_keyed.specs.declared.keyed_set.TheConstants.{FEW}
 
 -- a number is not below one that ends the search
@@ -71,19 +72,9 @@ module _ {K V : Type 0} (eq : K → K → Bool) (key : K) where
     pub at_key-missed : position (λ (p : K × V). eq key p.0) pairs ≡ None → at_key eq pairs key ≡ None
     at_key-missed missed = at_key-past pairs (past (position_or_len (λ (p : K × V). eq key p.0) pairs) (length pairs) missed)
 
-    -- and it is noted last
-    pub with_read-absent : (value : V) → at_key eq pairs key ≡ None → with_read eq pairs key value ≡ pairs ++ (key, value) ∷ []
-    with_read-absent value absent = ap (λ r. cond (is_some r) pairs (pairs ++ (key, value) ∷ [])) absent
-
     -- and its place comes last
     pub insert_key-absent : at_key eq pairs key ≡ None → insert_key eq (keys_of pairs) key ≡ keys_of pairs ++ key ∷ []
     insert_key-absent absent = ap (λ x. cond x (keys_of pairs) (keys_of pairs ++ key ∷ [])) (sym (is_some-lookup (eq key) pairs) ∙ ap is_some absent)
-
-  -- a key that is found is not noted again
-  pub with_read-found : (pairs : List (K × V)) (i : ℕ) (value : V) → position (λ (p : K × V). eq key p.0) pairs ≡ Some i → pairs ≡ with_read eq pairs key value
-  with_read-found [] i value found = absurd cc
-  with_read-found (p ∷ ps) i value found =
-      sym (ap (λ r. cond (is_some r) (p ∷ ps) ((p ∷ ps) ++ (key, value) ∷ [])) (at_key-found (p ∷ ps) i p found))
 
 -- ---- the keys of pairs
 
@@ -119,14 +110,14 @@ keys_of-push [] key value = refl
 keys_of-push (p ∷ ps) key value = ap (λ keys. p.0 ∷ keys) (keys_of-push ps key value)
 
 -- what a set keeps, with one pair more
-pub IsSetKept-add : {K V S A : Type 0} {eq : K → K → Bool} → IsEquivalence eq → (old new : Vec (K × V) A) (places : IndexSet K S) (key : K) (value : V)
+pub IsSetKept-add : {K V A B : Type 0} {eq : K → K → Bool} → IsEquivalence eq → (old new : Vec (K × V) A) (places : Option B) (kept : B → List K) (key : K) (value : V)
     → IsDistinct eq (keys_of old.items) → at_key eq old.items key ≡ None → new.items ≡ old.items ++ (key, value) ∷ [] → 1 ≤ vec_capacity new
-    → (FEW ≤ length old.items → places.keys ≡ keys_of old.items ++ key ∷ []) → IsSetKept eq new places
-IsSetKept-add {eq = eq} laws old new places key value distinct absent is room placed =
+    → (FEW ≤ length old.items → MatchOption places ⊥ (λ b. kept b ≡ keys_of old.items ++ key ∷ [])) → IsSetKept eq new places kept
+IsSetKept-add {eq = eq} laws old new places kept key value distinct absent is room placed =
     let keys : keys_of new.items ≡ keys_of old.items ++ key ∷ [] = ap keys_of is ∙ keys_of-push old.items key value in
     let count : length new.items ≡ length old.items + 1 = ap length is ∙ length-append old.items ((key, value) ∷ []) in
     record {
       room = room;
       distinct = subst (IsDistinct eq) (sym keys) (IsDistinct-push laws (keys_of old.items) key distinct (sym (is_some-lookup (eq key) old.items) ∙ ap is_some absent));
-      placed = λ many. placed (omega (arith, many, count)) ∙ sym keys;
+      placed = λ many. subst (λ ks. MatchOption places ⊥ (λ b. kept b ≡ ks)) (sym keys) (placed (omega (arith, many, count)));
     }

@@ -7,13 +7,14 @@ use pit_num::{NoMemory, has_bit, with_bit};
 use std::alloc::Allocator;
 use std::marker::Model;
 
-/// A `KeyedSet` of numbers with a filter (Bloom 1970): bit `n % 64` is set for each number `n` that is there, so a number whose bit isn't set needs
-/// no search.
+/// A `KeyedSet` of numbers with a filter (Bloom 1970) of two words: for each number `n` that is there bit `n % 64` of the one is set, and bit
+/// `n / 64 % 64` of the other. So a number needs a search only where both its bits are set.
 /// Contracts see it as the list of its pairs.
 #[derive(Drop)]
 pub struct FilteredSet<V: Copy, A: Allocator + Copy + Drop> {
     set: KeyedSet<u32, V, A>,
-    filter: u64,
+    low: u64,
+    high: u64,
 }
 
 impl<V: Copy, A: Allocator + Copy + Drop> Model for FilteredSet<V, A> {
@@ -21,11 +22,11 @@ impl<V: Copy, A: Allocator + Copy + Drop> Model for FilteredSet<V, A> {
 
     ghost Value = { List (ℕ × V) };
 
-    ghost use Rattle.pit_keyed.specs.Filter.{IsFilterOf};
+    ghost use Rattle.pit_keyed.specs.Filter.{AreFiltersOf};
 
     ghost view = { λ s. s.set };
 
-    ghost invariant = { λ s. IsFilterOf s.set s.filter };
+    ghost invariant = { λ s. AreFiltersOf s.set s.low s.high };
 }
 
 impl<V: Copy, A: Allocator + Copy + Drop> FilteredSet<V, A> {
@@ -36,7 +37,8 @@ impl<V: Copy, A: Allocator + Copy + Drop> FilteredSet<V, A> {
     {
         Ok(FilteredSet {
             set: KeyedSet::new(alloc, room)?,
-            filter: 0,
+            low: 0,
+            high: 0,
         })
     }
 
@@ -60,14 +62,18 @@ impl<V: Copy, A: Allocator + Copy + Drop> FilteredSet<V, A> {
         ensures { self.new ≡ [] }
     {
         self.set.clear();
-        self.filter = 0;
+        self.low = 0;
+        self.high = 0;
     }
 
     /// The value of a number, if it is there.
     pub fn get(&self, key: u32) -> Option<V>
         ensures { result ≡ at_key nat_eq self.now key }
     {
-        if !has_bit(self.filter, key % 64) {
+        if !has_bit(self.low, key % 64) {
+            return None;
+        }
+        if !has_bit(self.high, key / 64 % 64) {
             return None;
         }
         self.set.get(key)
@@ -93,7 +99,8 @@ impl<V: Copy, A: Allocator + Copy + Drop> FilteredSet<V, A> {
         ensures memory { OnErr result (IsFurther nat_eq self.old key) }
     {
         self.set.add(key, value)?;
-        self.filter = with_bit(self.filter, key % 64);
+        self.low = with_bit(self.low, key % 64);
+        self.high = with_bit(self.high, key / 64 % 64);
         Ok(())
     }
 }

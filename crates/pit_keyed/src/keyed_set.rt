@@ -1,7 +1,8 @@
 //! Sets of keys, each with a value.
-ghost use Rattle.std.specs.Prelude.{◌≡◌, ◌<◌, ◌≤◌, [], ◌∷◌, ◌++◌, None, length, position, OnOk, OnErr, IfOk};
+ghost use Rattle.std.specs.Prelude.{◌≡◌, ◌<◌, ◌≤◌, [], ◌∷◌, ◌++◌, None, length, position, OnOk, OnErr, IfOk, MatchOption};
 ghost use Rattle.std.specs.List.{IsDistinct};
 ghost use Rattle.std.specs.Map.{keys_of};
+ghost use Rattle.indexmap.specs.IndexSet.{insert_key};
 ghost use Rattle.pit_keyed.specs.Keyed.{IsFurther, at_key, with_write};
 
 use indexmap::IndexSet;
@@ -21,7 +22,8 @@ type Places<K, A> = IndexSet<K, BuildHasherDefault<FoldHasher>, A>;
 #[derive(Drop)]
 pub struct KeyedSet<K: Eq + Hash + Copy, V: Copy, A: Allocator + Copy + Drop> {
     pairs: Vec<(K, V), A>,
-    places: Places<K, A>,
+    // Most sets have none. A set is moved with its transaction, so it is to be small.
+    places: Option<Box<Places<K, A>, A>>,
 }
 
 impl<K: Eq + Hash + Copy, V: Copy, A: Allocator + Copy + Drop> Model for KeyedSet<K, V, A> {
@@ -33,7 +35,7 @@ impl<K: Eq + Hash + Copy, V: Copy, A: Allocator + Copy + Drop> Model for KeyedSe
 
     ghost view = { λ s. s.pairs.items };
 
-    ghost invariant = { λ s. IsSetKept K.eq s.pairs s.places };
+    ghost invariant = { λ s. IsSetKept K.eq s.pairs s.places (λ b. b.value.keys) };
 }
 
 impl<K: Eq + Hash + Copy, V: Copy, A: Allocator + Copy + Drop> KeyedSet<K, V, A> {
@@ -45,7 +47,7 @@ impl<K: Eq + Hash + Copy, V: Copy, A: Allocator + Copy + Drop> KeyedSet<K, V, A>
         let pairs = Vec::with_capacity(alloc, room)?;
         Ok(KeyedSet {
             pairs,
-            places: IndexSet::new(alloc),
+            places: None,
         })
     }
 
@@ -104,7 +106,11 @@ impl<K: Eq + Hash + Copy, V: Copy, A: Allocator + Copy + Drop> KeyedSet<K, V, A>
         if self.pairs.len() <= FEW {
             return place_among(&self.pairs, key);
         }
-        self.places.get_index_of(&key)
+        // There are places: the invariant says so.
+        let Some(places) = &self.places else {
+            return None;
+        };
+        places.get_index_of(&key)
     }
 
     /// Puts a key last that isn't there. Takes memory where the set has others.
@@ -128,27 +134,62 @@ fn place_among<K: Eq + Copy, V: Copy>(pairs: &[(K, V)], key: K) -> Option<usize>
     pairs.iter().position(|pair| key == pair.0)
 }
 
-/// Adds a key to the places of these pairs, where it is past the few. The first such key finds none, and so they are made.
+/// Adds a key to the places of these pairs, where it is past the few. For the first such key they are made anew: there are none, or those from
+/// before a `clear`.
 fn add_place<K: Eq + Hash + Copy, V: Copy, A: Allocator + Copy + Drop>(
-    places: &mut Places<K, A>,
+    places: &mut Option<Box<Places<K, A>, A>>,
     pairs: &Vec<(K, V), A>,
     key: K,
 ) -> Result<(), NoMemory>
     requires distinct { IsDistinct K.eq (keys_of pairs.now.items) }
     requires absent { at_key K.eq pairs.now.items key ≡ None }
-    requires placed { FEW < length pairs.now.items → places.old.keys ≡ keys_of pairs.now.items }
-    ensures ok { OnOk result (FEW ≤ length pairs.now.items → places.new.keys ≡ keys_of pairs.now.items ++ key ∷ []) }
-    ensures err { OnErr result (FEW < length pairs.now.items → places.new.keys ≡ keys_of pairs.now.items) }
+    requires placed { FEW < length pairs.now.items → MatchOption places.old ⊥ (λ b. b.value.keys ≡ keys_of pairs.now.items) }
+    ensures ok { OnOk result (FEW ≤ length pairs.now.items → MatchOption places.new ⊥ (λ b. b.value.keys ≡ keys_of pairs.now.items ++ key ∷ [])) }
+    ensures err { OnErr result (FEW < length pairs.now.items → MatchOption places.new ⊥ (λ b. b.value.keys ≡ keys_of pairs.now.items)) }
     ensures many { OnErr result (FEW ≤ length pairs.now.items) }
 {
     if pairs.len() < FEW {
         return Ok(());
     }
     if pairs.len() == FEW {
-        *places = places_of(*pairs.allocator(), pairs)?;
+        let made = places_with(*pairs.allocator(), pairs, key)?;
+        *places = Some(made);
+        return Ok(());
     }
+    // There are places: the condition says so.
+    match places {
+        Some(places) => add_key(places, key),
+        None => Ok(()),
+    }
+}
+
+/// Adds a key to places that are there.
+fn add_key<K: Eq + Hash + Copy, A: Allocator + Copy + Drop>(
+    places: &mut Box<Places<K, A>, A>,
+    key: K,
+) -> Result<(), NoMemory>
+    ensures ok { OnOk result (places.new.value.keys ≡ insert_key K.eq places.old.value.keys key) }
+    ensures err { OnErr result (places.new.value.keys ≡ places.old.value.keys) }
+{
     places.insert(key)?;
     Ok(())
+}
+
+/// The places of these pairs, and of a key behind them.
+fn places_with<K: Eq + Hash + Copy, V: Copy, A: Allocator + Copy + Drop>(
+    alloc: A,
+    pairs: &[(K, V)],
+    key: K,
+) -> Result<Box<Places<K, A>, A>, NoMemory>
+    requires { IsDistinct K.eq (keys_of pairs.now) }
+    ensures { IfOk result (λ places. places.value.keys ≡ insert_key K.eq (keys_of pairs.now) key) }
+{
+    let mut made = places_of(alloc, pairs)?;
+    made.insert(key)?;
+    let Ok(made) = Box::new(alloc, made) else {
+        return Err(NoMemory);
+    };
+    Ok(made)
 }
 
 /// The places of these pairs, with room for as many more.

@@ -294,7 +294,9 @@ fn audited<A: Allocator + Copy + Drop>(
     history: &[Entry<A>],
 ) -> Option<Reading> {
     let pit = tiny(rt, alloc);
-    assert!(rt; pit.unmeetable().is_none());
+    let None = pit.unmeetable() else {
+        panic!(rt; "unmeetable");
+    };
     assert!(rt; history.len() < 1_000_000);
     let answer: Result<Plan<Global>, AuditFault> = audit(alloc, pit, history);
     match answer {

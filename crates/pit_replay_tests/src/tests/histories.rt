@@ -38,3 +38,11 @@ pub(super) const REVISING: &str = "{\"format\":2}
 
 /// -10 + 20.5 + 5.
 pub(super) const REVISING_LEGAL: &str = "legal 3 2\nvalue 15.500000000000000000\n";
+
+/// A limit is revised by one who gives up.
+pub(super) const GIVING_UP: &str = "{\"format\":2}
+{\"act\":\"withdraw\",\"job\":1,\"planner\":1,\"reads\":[],\"reply\":\"withdrawn\",\"revises\":[[0,0,\"5000000\"]],\"start\":0,\"writes\":[]}
+";
+
+/// Nothing is mined, and nothing revised.
+pub(super) const GIVING_UP_LEGAL: &str = "legal 1 0\nvalue 0.000000000000000000\n";

@@ -1,5 +1,7 @@
 //! Histories of which one thing is changed.
-use super::histories::{LOADING, LOADING_LEGAL, MEETING, MEETING_LEGAL, REVISING};
+use super::histories::{
+    GIVING_UP, GIVING_UP_LEGAL, LOADING, LOADING_LEGAL, MEETING, MEETING_LEGAL, REVISING,
+};
 use super::is_replayed;
 use pit_cli::Status;
 use std::alloc::{AllocError, Global};
@@ -112,6 +114,18 @@ const ENTRIES: &[Change] = &[
         "[[0,0,\"1\"],[0,0,\"5000000\"]]",
         "illegal 2\n",
     ),
+    (
+        GIVING_UP,
+        "[[0,0,\"5000000\"]]",
+        "[[0,0,\"1\"],[0,0,\"5000000\"]]",
+        "illegal 1\n",
+    ),
+    (
+        GIVING_UP,
+        "[[0,0,\"5000000\"]]",
+        "[[1,0,\"5000000\"]]",
+        "illegal 1\n",
+    ),
 ];
 
 /// What no reply depends on: who made the call, and what a withdrawal has seen.
@@ -123,6 +137,12 @@ const NEVER_MIND: &[Change] = &[
         LOADING_LEGAL,
     ),
     (MEETING, "\"start\":2", "\"start\":9", MEETING_LEGAL),
+    (
+        GIVING_UP,
+        "\"start\":0",
+        "\"start\":4294967295",
+        GIVING_UP_LEGAL,
+    ),
 ];
 
 fn is_so(alloc: Global, change: Change, status: Status) -> Result<bool, AllocError> {

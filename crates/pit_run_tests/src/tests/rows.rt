@@ -255,16 +255,39 @@ fn a_job_is_refused_for_a_limit(rt: HostRuntime) {
     assert_entries(&rt, rt.alloc(), REFUSED, 3);
 }
 
-const FULL: &Row = &Row {
-    text: THREE,
-    max_entries: 2,
-    jobs: &[FIRST_ONCE, OVER],
-    ended: RunEnd::Full { job: 3 },
-};
+/// The script, which makes 3 entries, on desks that may have 0, 1, 2 and 3.
+const FULL: &[Row] = &[
+    Row {
+        text: THREE,
+        max_entries: 0,
+        jobs: &[],
+        ended: RunEnd::Full { job: 1 },
+    },
+    Row {
+        text: THREE,
+        max_entries: 1,
+        jobs: &[FIRST_ONCE],
+        ended: RunEnd::Full { job: 2 },
+    },
+    Row {
+        text: THREE,
+        max_entries: 2,
+        jobs: &[FIRST_ONCE, OVER],
+        ended: RunEnd::Full { job: 3 },
+    },
+    Row {
+        text: THREE,
+        max_entries: 3,
+        jobs: &[FIRST_ONCE, OVER, SECOND_ONCE],
+        ended: RunEnd::Whole,
+    },
+];
 
 #[test]
 fn the_history_is_full(rt: HostRuntime) {
-    assert_entries(&rt, rt.alloc(), FULL, 2);
+    for row in FULL {
+        assert_entries(&rt, rt.alloc(), row, row.max_entries as usize);
+    }
 }
 
 const EMPTY: &Row = &Row {

@@ -21,7 +21,7 @@ invariant_of-self-2 g c =
     let eq = g.K.PartialEq.eq in
     let items = c.in_ok-reserve.ensures.items in
     let room : 1 ≤ vec_capacity c.push_reserved.new.self = omega (arith, c.self.invariant.room) in
-    IsSetKept-add g.met.K.Eq.laws c.reserve.new.self c.push_reserved.new.self c.add_place.new.places c.args.key c.args.value
+    IsSetKept-add g.met.K.Eq.laws c.reserve.new.self c.push_reserved.new.self c.add_place.new.places (λ b. b.value.keys) c.args.key c.args.value
     (subst (λ pairs. IsDistinct eq (keys_of pairs)) (sym items) c.self.invariant.distinct)
     (subst (λ pairs. at_key eq pairs c.args.key ≡ None) (sym (items ∙ c.self.view_is)) c.requires)
     c.push_reserved.ensures.items room c.in_ok-add_place.ensures.ok

@@ -1,4 +1,5 @@
 use Rattle.std.proofs.Common.{◌≡◌, Some, is_some, position, set, ap, sym, subst, ◌∙◌, arith, length-set}
+use Rattle.std.specs.Prelude.{MatchOption}
 use Rattle.std.specs.List.{IsDistinct}
 use Rattle.std.specs.Map.{keys_of}
 use Rattle.std.proofs.lemmas.Result.{on_ok_weaker}
@@ -17,7 +18,8 @@ invariant_of-self g c =
     record {
       room = c.self.invariant.room;
       distinct = subst (IsDistinct g.K.PartialEq.eq) (sym keys) c.self.invariant.distinct;
-      placed = λ many. c.self.invariant.placed (omega (arith, many, length-set pairs at (pair.0, c.args.value))) ∙ sym keys;
+      placed = λ many. subst (λ ks. MatchOption c.self.inside.places ⊥ (λ b. b.value.keys ≡ ks)) (sym keys)
+          (c.self.invariant.placed (omega (arith, many, length-set pairs at (pair.0, c.args.value))));
     }
 
 pub returns-in-Some-clause-ok : goal.returns-in-Some-clause-ok
