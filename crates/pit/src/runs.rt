@@ -1,4 +1,4 @@
-//! The runs of the engines on the files that the words name. Files are opened in the order of the words, and each before one is read.
+//! The runs of the engines on the files that the words name. Files are opened in the order of the engine's inputs, and each before one is read.
 ghost use Rattle.std.specs.Prelude.{◌≡◌};
 ghost use Rattle.pit_cli.specs.Devices.{writing_of};
 ghost use Rattle.pit.specs.declared.engine.Engine.TheVariants.{Value as value_engine, Check as check_engine, Replay as replay_engine};

@@ -14,7 +14,7 @@ use std::sync::Wait;
 use std::thread::Threads;
 
 /// The runs of each number of planners.
-const SEEDS: u32 = 70;
+const SEEDS: u32 = 67;
 
 /// The jobs of each planner.
 const JOBS: u32 = 5;
@@ -23,6 +23,13 @@ const JOBS: u32 = 5;
 fn two_planners(rt: HostRuntime) {
     for seed in 0..SEEDS {
         play_two(&rt, rt.alloc(), seed);
+    }
+}
+
+#[test]
+fn three_planners(rt: HostRuntime) {
+    for seed in 0..SEEDS {
+        play_three(&rt, rt.alloc(), seed);
     }
 }
 
@@ -37,6 +44,13 @@ fn play_two<R: Threads + Wait + Abort + Sync>(rt: &R, alloc: Global, seed: u32) 
     let a = text_of(rt, alloc, seed, 1);
     let b = text_of(rt, alloc, seed, 2);
     play(rt, alloc, &[a.as_bytes(), b.as_bytes()], 2);
+}
+
+fn play_three<R: Threads + Wait + Abort + Sync>(rt: &R, alloc: Global, seed: u32) {
+    let a = text_of(rt, alloc, seed, 7);
+    let b = text_of(rt, alloc, seed, 8);
+    let c = text_of(rt, alloc, seed, 9);
+    play(rt, alloc, &[a.as_bytes(), b.as_bytes(), c.as_bytes()], 3);
 }
 
 fn play_four<R: Threads + Wait + Abort + Sync>(rt: &R, alloc: Global, seed: u32) {

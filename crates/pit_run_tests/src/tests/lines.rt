@@ -1,6 +1,7 @@
 //! The lines that tell how a run ended.
 use super::rows::{REVISED, THREE};
 use super::{empty_desk, report_of, started_desk};
+use pit_cli::with_value;
 use pit_job::Open;
 use pit_refuse::Refusing;
 use pit_report::run_lines;
@@ -54,6 +55,31 @@ fn assert_told<R: Threads + Wait + Abort + Sync>(
     assert_lines(rt, alloc, &report, wanted);
     assert_refusals(rt, alloc, &report);
     drop(report);
+}
+
+/// Behind them stand the value and the loads that fall short.
+#[test]
+fn the_value_follows(rt: HostRuntime) {
+    let desk = empty_desk(&rt, rt.alloc(), 2);
+    let report = report_of(&rt, rt.alloc(), desk, &[THREE], 1, 3, &Open);
+    assert_whole(&rt, rt.alloc(), &report);
+    drop(report);
+}
+
+const WHOLE: &str = "\
+planner 1 job 1 committed 1 tries 1
+planner 1 job 2 refused over 0 0 5.000000 4.000000 tries 1
+planner 1 stopped at job 3: full
+value 10.500000000000000000
+short 0 1 0.000000 1.000000
+";
+
+fn assert_whole(rt: &impl Abort, alloc: Global, report: &Report<Global>) {
+    let plan = report.closed.desk().plan();
+    let shorts = plan.shortfalls().expect(rt, "memory");
+    let lines = run_lines(alloc, report.runs.as_slice()).expect(rt, "memory");
+    let text = with_value(lines, plan.value(), shorts.as_slice()).expect(rt, "memory");
+    assert!(rt; text.as_slice() == WHOLE.as_bytes());
 }
 
 /// The planners stand in their order, whoever was done first.

@@ -290,6 +290,47 @@ fn the_history_is_full(rt: HostRuntime) {
     }
 }
 
+/// Counts what it is told.
+#[derive(Drop)]
+struct Counting {
+    before: AtomicU64,
+    after: AtomicU64,
+}
+
+impl Gate for Counting {
+    fn before_commit(&self, _planner: u32, _job: u32) {
+        self.before.fetch_add(1, Ordering::SeqCst);
+    }
+
+    fn after_commit(&self, _planner: u32, _job: u32) {
+        self.after.fetch_add(1, Ordering::SeqCst);
+    }
+}
+
+/// Of an abort, and of a job that gives up, a gate isn't told.
+#[test]
+fn a_gate_is_told_of_commits_alone(rt: HostRuntime) {
+    assert_counts(&rt, rt.alloc(), THREE, 3);
+    assert_counts(&rt, rt.alloc(), BENCH.text, 1);
+}
+
+fn assert_counts<R: Threads + Wait + Abort + Sync>(
+    rt: &R,
+    alloc: Global,
+    text: &[u8],
+    commits: u64,
+) {
+    let gate = Counting {
+        before: AtomicU64::new(0),
+        after: AtomicU64::new(0),
+    };
+    let desk = empty_desk(rt, alloc, 100);
+    let report = report_of(rt, alloc, desk, &[text], 1, 3, &gate);
+    assert!(rt; gate.before.load(Ordering::SeqCst) == commits);
+    assert!(rt; gate.after.load(Ordering::SeqCst) == commits);
+    drop(report);
+}
+
 const EMPTY: &Row = &Row {
     text: b"\n",
     max_entries: 0,

@@ -9,7 +9,12 @@ use pit_script::{JOBS_MAX, ScriptCause};
 
 const MALFORMED: ScriptCause = ScriptCause::BadNumber(NumError::Malformed);
 
+const TOO_LONG: ScriptCause = ScriptCause::BadNumber(NumError::TooLong);
+
 const TOO_LARGE: ScriptCause = ScriptCause::BadNumber(NumError::TooLarge);
+
+/// 39 digits.
+const LONG: &[u8] = b"begin\nread 111111111111111111111111111111111111111";
 
 /// A script, the line of its first fault, and the cause.
 const FAULTS: &[(&[u8], u64, ScriptCause)] = &[
@@ -48,6 +53,8 @@ const FAULTS: &[(&[u8], u64, ScriptCause)] = &[
     (b"begin\nread \xff", 2, NotAscii),
     (b"begin\nput 9 x", 2, MALFORMED),
     (b"begin\nput x \xff", 2, MALFORMED),
+    (LONG, 2, TOO_LONG),
+    (b"begin\nput 4294967296 0", 2, TOO_LARGE),
     (b"begin\nput 4 2", 2, BlockRange),
     (b"begin\nput 3 2", 2, PeriodRange),
     (b"begin\nread 4", 2, BlockRange),
@@ -57,11 +64,13 @@ const FAULTS: &[(&[u8], u64, ScriptCause)] = &[
     (b"begin\nshift 0 +", 2, MALFORMED),
     (b"begin\nshift 0 --1", 2, MALFORMED),
     (b"begin\nbench x y", 2, MALFORMED),
+    (b"begin\nbench 1e12 0", 2, TOO_LARGE),
     (b"begin\nbench 7 2", 2, PeriodRange),
     (b"begin\nbench 7 0", 2, NoBench),
     (b"begin\nbench 2.5 0", 2, NoBench),
     (b"begin\nrevise 1 2 x", 2, MALFORMED),
     (b"begin\nrevise 1 2 \xff", 2, NotAscii),
+    (b"begin\nrevise 0 0 -inf", 2, MALFORMED),
     (b"begin\nrevise 1 2 1", 2, ResourceRange),
     (b"begin\nrevise 0 2 1", 2, PeriodRange),
     // The end, which is that of the text or the line of `EOF`.
