@@ -19,7 +19,7 @@ use pit_model::Instance;
 use pit_plan::Plan;
 use pit_plan_sample::Reading;
 use pit_refuse::{Count, Refusing};
-use pit_run::{Report, RunError, run};
+use pit_run::{PlannerRun, Report, RunError, run};
 use pit_sample::{Fact, TINY, TINY_PLACES, TINY_SIZE, built};
 use pit_script::{Benches, Script};
 use pit_share::{Blank, Seat, Workspace};
@@ -232,10 +232,15 @@ fn run_twice<
     requires planners { S.planners ≤ PLANNERS_MAX }
     requires few { retries ≤ RETRIES_MAX }
 {
+    let before = heap.count();
     match run(
         alloc, rt, workspace, seats, scripts, benches, periods, retries, gate,
     ) {
-        Ok(report) => report,
+        Ok(report) => {
+            let has_refused = heap.count().has_refused_since(before);
+            assert!(rt; has_stopped(report.runs.as_slice()) == has_refused);
+            report
+        }
         Err(RunError::NoMemory { workspace, seats }) => {
             assert!(rt; heap.count().has_refused());
             run_again(
@@ -244,6 +249,16 @@ fn run_twice<
         }
         Err(RunError::NotClosed { .. }) => panic!(rt; "not closed"),
     }
+}
+
+/// Whether a planner stopped for want of memory.
+fn has_stopped<A: Allocator + Copy + Drop>(runs: &[PlannerRun<A>]) -> bool {
+    for run in runs {
+        if matches!(run.ended(), RunEnd::NoMemory { .. }) {
+            return true;
+        }
+    }
+    false
 }
 
 fn run_again<

@@ -27,6 +27,16 @@ fn values(rt: HostRuntime) {
     for (at, (solution, wanted)) in VALUES.iter().enumerate() {
         assert!(rt; is_value(rt.alloc(), solution, wanted), "row {at}");
     }
+    assert!(rt; is_value_of_a_front(rt.alloc()));
+}
+
+/// A model that is cut within the profit of block 1, which is then 2. No other block has one.
+const FRONT: &[u8] =
+    b"TYPE: CPIT\nNBLOCKS: 4\nNPERIODS: 2\nNRESOURCE_SIDE_CONSTRAINTS: 1\nDISCOUNT_RATE: 0.1\nOBJECTIVE_FUNCTION:\n0 -10\n1 2";
+
+fn is_value_of_a_front(alloc: Global) -> bool {
+    let answered = valued(alloc, &mut In::new(FRONT), &mut In::new(TINY_SOLUTION));
+    is_answer(answered, Ok(Status::Fine), b"-8.000000000000000000\n")
 }
 
 /// A solution, and what is written of it where it is not fine.

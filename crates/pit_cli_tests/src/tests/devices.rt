@@ -83,6 +83,23 @@ fn a_model_that_fails_at_each_call(rt: HostRuntime) {
     }
 }
 
+/// The same of the model of a check.
+fn is_unchecked(alloc: Global, calls: usize) -> bool {
+    let mut model = Broken::new(TINY_MODEL, 1, calls);
+    let mut precedence = Broken::new(b"4 0", 1, 4);
+    let mut solution = In::new(TINY_SOLUTION);
+    let answered = checked(alloc, &mut model, &mut precedence, &mut solution);
+    let fault = CliFault::CannotRead(Input::Model);
+    is_answer(answered, Err(fault), b"") && precedence.rest().len() == 3
+}
+
+#[test]
+fn a_model_of_a_check_that_fails_at_each_call(rt: HostRuntime) {
+    for calls in 0..=TINY_MODEL.len() {
+        assert!(rt; is_unchecked(rt.alloc(), calls), "at {calls}");
+    }
+}
+
 /// The same of precedences.
 fn is_without_precedences(alloc: Global, calls: usize) -> bool {
     let mut precedence = Broken::new(TINY_PRECEDENCE, 1, calls);
@@ -107,9 +124,21 @@ fn is_without_solution(alloc: Global, calls: usize) -> bool {
     is_answer(answered, Err(CliFault::CannotRead(Input::Solution)), b"")
 }
 
+/// The same of a check.
+fn is_unchecked_without_solution(alloc: Global, calls: usize) -> bool {
+    let mut solution = Broken::new(TINY_SOLUTION, 1, calls);
+    let (mut model, mut precedence) = (In::new(TINY_MODEL), In::new(TINY_PRECEDENCE));
+    let answered = checked(alloc, &mut model, &mut precedence, &mut solution);
+    is_answer(answered, Err(CliFault::CannotRead(Input::Solution)), b"")
+}
+
 #[test]
 fn a_solution_that_fails_at_each_call(rt: HostRuntime) {
     for calls in 0..=TINY_SOLUTION.len() {
         assert!(rt; is_without_solution(rt.alloc(), calls), "at {calls}");
+        assert!(rt;
+            is_unchecked_without_solution(rt.alloc(), calls),
+            "at {calls}"
+        );
     }
 }

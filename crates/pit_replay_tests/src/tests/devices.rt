@@ -88,6 +88,23 @@ fn is_without_precedences(alloc: Global, calls: usize) -> bool {
     is_answer(&answered, Err(ReplayFault::Cli(fault)), b"") && history.rest().len() == 1
 }
 
+/// The same of the model.
+fn is_without_model(alloc: Global, calls: usize) -> bool {
+    let mut model = Broken::new(TINY_MODEL, 1, calls);
+    let mut history = Broken::new(b"x", 1, 2);
+    let mut precedence = In::new(TINY_PRECEDENCE);
+    let answered = replayed(alloc, &mut model, &mut precedence, &mut history);
+    let fault = CliFault::CannotRead(Input::Model);
+    is_answer(&answered, Err(ReplayFault::Cli(fault)), b"") && history.rest().len() == 1
+}
+
+#[test]
+fn a_model_that_fails_at_each_call(rt: HostRuntime) {
+    for calls in 0..=TINY_MODEL.len() {
+        assert!(rt; is_without_model(rt.alloc(), calls), "at {calls}");
+    }
+}
+
 #[test]
 fn precedences_that_fail_at_each_call(rt: HostRuntime) {
     for calls in 0..=TINY_PRECEDENCE.len() {

@@ -11,6 +11,15 @@ pub(super) const MEETING: &str = "{\"format\":1}
 /// No block is mined at its end.
 pub(super) const MEETING_LEGAL: &str = "legal 4 2\nvalue 0.000000000000000000\n";
 
+/// The same of its first entries alone, by how many of them there are. After the first block 3 is worth 5 * 0.909090909091.
+pub(super) const MEETING_FRONTS: &[&str] = &[
+    "legal 0 0\nvalue 0.000000000000000000\n",
+    "legal 1 1\nvalue 4.545454545455000000\n",
+    "legal 2 2\nvalue 0.000000000000000000\n",
+    "legal 3 2\nvalue 0.000000000000000000\n",
+    MEETING_LEGAL,
+];
+
 /// A block that is too much for its period is mined in the next.
 pub(super) const LOADING: &str = "{\"format\":1}
 {\"act\":\"commit\",\"job\":1,\"planner\":1,\"reads\":[],\"reply\":{\"committed\":1},\"start\":0,\"writes\":[[0,0],[1,0]]}

@@ -2,7 +2,8 @@
 ghost use Rattle.std.specs.Prelude.{◌≡◌, length};
 
 use super::{Heap, assert_legal, counted, empty_desk};
-use pit_job::{Open, RunEnd};
+use pit_book::{EntryReply, Refusal};
+use pit_job::{Open, Outcome, RunEnd};
 use pit_refuse::{Count, Refusing};
 use pit_run::{PlannerRun, Report};
 use std::alloc::{Allocator, Global};
@@ -95,6 +96,7 @@ fn assert_report<A: Allocator + Copy + Drop>(
     report: &Report<A>,
 ) {
     assert_legal(rt, alloc, report);
+    assert_told(rt, report);
     let mut stopped: u32 = 0;
     for run in report.runs.as_slice() {
         if !is_whole(run) {
@@ -103,6 +105,35 @@ fn assert_report<A: Allocator + Copy + Drop>(
         }
     }
     assert!(rt; stopped == 0 || stopped == 1 && heap.count().has_refused());
+}
+
+/// As many entries as outcomes aren't Moved, so no ending is lost.
+fn assert_told<A: Allocator + Copy + Drop>(rt: &impl Abort, report: &Report<A>) {
+    let mut left: u32 = 0;
+    for entry in report.closed.desk().history() {
+        if !is_moved(&entry.reply) {
+            left = left.wrapping_add(1);
+        }
+    }
+    for run in report.runs.as_slice() {
+        for outcome in run.jobs() {
+            if !is_given_up(outcome) {
+                left = left.wrapping_sub(1);
+            }
+        }
+    }
+    assert!(rt; left == 0);
+}
+
+fn is_moved(reply: &EntryReply) -> bool {
+    matches!(*reply, EntryReply::Refused(Refusal::Moved { .. }))
+}
+
+fn is_given_up(outcome: &Outcome) -> bool {
+    match *outcome {
+        Outcome::Refused { refusal, .. } => matches!(refusal, Refusal::Moved { .. }),
+        _ => false,
+    }
 }
 
 fn is_whole<A: Allocator + Copy + Drop>(run: &PlannerRun<A>) -> bool {

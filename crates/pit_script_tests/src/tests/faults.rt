@@ -4,8 +4,11 @@ use ScriptCause::{
     BlockRange, FieldCount, JobCount, NoBench, NotAscii, Order, PeriodRange, ResourceRange,
     Unended, UnknownWord,
 };
+use pit_model::Instance;
 use pit_num::NumError;
 use pit_script::{JOBS_MAX, ScriptCause};
+use std::alloc::Global;
+use std::process::Abort;
 
 const MALFORMED: ScriptCause = ScriptCause::BadNumber(NumError::Malformed);
 
@@ -104,14 +107,19 @@ fn the_last_job_that_there_may_be(rt: HostRuntime) {
     assert_eq!(rt; answer, Some(fault(2_000_001, JobCount)));
 }
 
-const WHOLE: &[u8] = b"begin\nread 0\ncommit\r\nbegin\nput 1 1\nabort\n";
+/// Scripts that are cut.
+const WHOLE: &[&[u8]] = &[
+    b"begin\nread 0\ncommit\r\nbegin\nput 1 1\nabort\n",
+    b"begin\nput 0 0\nput 1 0\ncommit\nbegin\nput 3 0\ncommit\nbegin\nput 3 1\ncommit\n",
+];
 
-/// Whether a part of that script stands for jobs.
+/// Whether a part of one of these stands for jobs.
 fn is_fine(part: &[u8]) -> bool {
     part.is_empty()
         || part.ends_with(b"commit")
         || part.ends_with(b"commit\r")
         || part.ends_with(b"commit\r\n")
+        || part.ends_with(b"commit\n")
         || part.ends_with(b"abort")
         || part.ends_with(b"abort\n")
 }
@@ -119,9 +127,16 @@ fn is_fine(part: &[u8]) -> bool {
 #[test]
 fn cut_behind_each_byte(rt: HostRuntime) {
     let pit = tiny(&rt, rt.alloc());
-    for end in 0..WHOLE.len() + 1 {
-        let part = &WHOLE[..end];
-        match read(rt.alloc(), &pit, part) {
+    for text in WHOLE {
+        assert_cut(&rt, rt.alloc(), &pit, text);
+    }
+    drop(pit);
+}
+
+fn assert_cut(rt: &impl Abort, alloc: Global, pit: &Instance<Global>, text: &[u8]) {
+    for end in 0..text.len() + 1 {
+        let part = &text[..end];
+        match read(alloc, pit, part) {
             Ok(_) => assert!(rt; is_fine(part), "{end}"),
             Err(error) => {
                 assert!(rt; !is_fine(part), "{end}");

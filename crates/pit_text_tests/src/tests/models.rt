@@ -65,6 +65,11 @@ const HEADERS: &[Row] = &[
     (&[b"NAME: Tiny\nTYPE: PCPSP\n"], 2, Cause::NotCpit),
     (&[b"NBLOCKS: 0"], 1, Cause::BadHeader(Key::Blocks)),
     (
+        &[b"NAME: Tiny\nTYPE: CPIT\nNBLOCKS: 4\nNPERIODS: 2\nNRESOURCE_SIDE_CONSTRAINTS: 1\n"],
+        6,
+        Cause::MissingHeader(Key::Rate),
+    ),
+    (
         &[b"NDESTINATIONS: 2"],
         1,
         Cause::Unsupported(Key::Destinations),
