@@ -1,9 +1,9 @@
 -- What the sections of a model leave as the facts grow.
 use Rattle.std.proofs.Common.{◌≡◌, ◌≢◌, List, [], ◌∷◌, ◌++◌, Option, Some, None, ap, sym, ◌∙◌, refl}
-use Rattle.pit_text.specs.declared.section.Section.{Section}
-use Rattle.pit_text.specs.declared.draft.Draft.{Draft}
+use Rattle.pit_text.specs.declared.model.section.Section.{Section}
+use Rattle.pit_text.specs.declared.model.draft.Draft.{Draft}
 use Rattle.pit_model.specs.Pit.{Pit}
-use Rattle.pit_text.specs.declared.section_fact.SectionFact.{SectionFact}
+use Rattle.pit_text.specs.declared.model.section_fact.SectionFact.{SectionFact}
 use Rattle.pit_text.specs.SectionFacts.{with_section_fact}
 use Rattle.pit_text.specs.Model.{Fact, skipped, section, in_section, last_of, sections}
 use Rattle.pit_text.specs.Draft.{IsDraft, IsBody}

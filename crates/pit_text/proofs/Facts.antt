@@ -4,9 +4,9 @@ use Rattle.std.specs.List.{cons_option}
 use Rattle.std.proofs.lemmas.List.{append-nil}
 use Rattle.std.proofs.lemmas.List.Elements.{filter_map-append}
 use Rattle.pit_model.specs.Pit.{Pit}
-use Rattle.pit_text.specs.declared.key.Key.{Key}
-use Rattle.pit_text.specs.declared.key.Key.TheVariants.{Blocks, Periods, Resources, Rate}
-use Rattle.pit_text.specs.declared.section_fact.SectionFact.{SectionFact}
+use Rattle.pit_text.specs.declared.model.key.Key.{Key}
+use Rattle.pit_text.specs.declared.model.key.Key.TheVariants.{Blocks, Periods, Resources, Rate}
+use Rattle.pit_text.specs.declared.model.section_fact.SectionFact.{SectionFact}
 use Rattle.pit_text.specs.SectionFacts.{with_section_fact}
 use Rattle.pit_text.specs.Added.{pit_with}
 use Rattle.pit_text.proofs.Pits.{pit_with-none, pit_with-more}

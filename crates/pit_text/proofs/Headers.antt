@@ -4,10 +4,10 @@ use Rattle.std.specs.List.{cons_option}
 use Rattle.std.specs.Option.{option_map}
 use Rattle.pit_model.specs.Pit.{Pit, empty_pit}
 use Rattle.pit_text.specs.declared.error.Cause.TheVariants.{MissingHeader}
-use Rattle.pit_text.specs.declared.key.Key.{Key}
-use Rattle.pit_text.specs.declared.key.Key.TheVariants.{Blocks, Periods, Resources, Rate}
-use Rattle.pit_text.specs.declared.section.Section.{Section}
-use Rattle.pit_text.specs.declared.draft.Draft.{Draft}
+use Rattle.pit_text.specs.declared.model.key.Key.{Key}
+use Rattle.pit_text.specs.declared.model.key.Key.TheVariants.{Blocks, Periods, Resources, Rate}
+use Rattle.pit_text.specs.declared.model.section.Section.{Section}
+use Rattle.pit_text.specs.declared.model.draft.Draft.{Draft}
 use Rattle.pit_text.specs.Cutting.{Cut}
 use Rattle.pit_text.specs.Stands.{IsReadTo}
 use Rattle.pit_text.specs.Model.{Fact, skipped, header, section, in_section, sections, section_in_fact, last_of, section_facts, missing_key, model_line, model_end, number_of, header_pit, ModelStops}

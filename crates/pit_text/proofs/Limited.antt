@@ -12,11 +12,11 @@ use Rattle.pit_model.specs.declared.error.BuildError.TheVariants.{ResourceRange,
 use Rattle.pit_model.proofs.CallerLemmas.{tightest-empty, tightest-line}
 use Rattle.pit_text.specs.declared.error.Cause.{Cause}
 use Rattle.pit_text.specs.declared.error.Cause.TheVariants.{BadHeader, SectionTwice}
-use Rattle.pit_text.specs.declared.key.Key.{Key}
-use Rattle.pit_text.specs.declared.key.Key.TheVariants.{Blocks, Periods, Resources, Rate}
-use Rattle.pit_text.specs.declared.section.Section.{Section}
-use Rattle.pit_text.specs.declared.section_fact.SectionFact.{SectionFact}
-use Rattle.pit_text.specs.declared.section_fact.SectionFact.TheVariants.{Profit, Coefficient, Limit}
+use Rattle.pit_text.specs.declared.model.key.Key.{Key}
+use Rattle.pit_text.specs.declared.model.key.Key.TheVariants.{Blocks, Periods, Resources, Rate}
+use Rattle.pit_text.specs.declared.model.section.Section.{Section}
+use Rattle.pit_text.specs.declared.model.section_fact.SectionFact.{SectionFact}
+use Rattle.pit_text.specs.declared.model.section_fact.SectionFact.TheVariants.{Profit, Coefficient, Limit}
 use Rattle.pit_text.specs.Cutting.{Cut}
 use Rattle.pit_text.specs.Stands.{◌>>=◌, StatesAfter, StandsFor}
 use Rattle.pit_text.specs.Keys.{key_of, same_section}

@@ -2,8 +2,8 @@
 use Rattle.std.proofs.Common.{◌≡◌, ℕ, List, [], ◌∷◌, cond, Option, Some, None, is_some, Result, Ok, Err, MatchResult, ap, ◌∙◌, refl}
 use Rattle.pit_text.specs.declared.error.Cause.{Cause}
 use Rattle.pit_text.specs.declared.error.Cause.TheVariants.{BadHeader}
-use Rattle.pit_text.specs.declared.key.Key.{Key}
-use Rattle.pit_text.specs.declared.section.Section.{Section}
+use Rattle.pit_text.specs.declared.model.key.Key.{Key}
+use Rattle.pit_text.specs.declared.model.section.Section.{Section}
 use Rattle.pit_text.specs.Stands.{◌>>=◌}
 use Rattle.pit_text.specs.Keys.{key_of}
 use Rattle.pit_text.specs.Header.{value_of_key}

@@ -8,7 +8,7 @@ use Rattle.std.proofs.lemmas.Bool.Decides.{nat_tests}
 use Rattle.pit_num.specs.Fitting.{IsSchedule}
 use Rattle.pit_text.specs.declared.error.Cause.{Cause}
 use Rattle.pit_text.specs.declared.error.Cause.TheVariants.{Build, PartBlock, Unsupported}
-use Rattle.pit_text.specs.declared.key.Key.TheVariants.{Destinations}
+use Rattle.pit_text.specs.declared.model.key.Key.TheVariants.{Destinations}
 use Rattle.pit_model.specs.declared.error.BuildError.TheVariants.{Repeated}
 use Rattle.pit_text.specs.Cutting.{Cut}
 use Rattle.pit_text.specs.Numbers.{whole_field, decimal_field}

@@ -11,14 +11,14 @@ use Rattle.pit_model.specs.declared.error.BuildError.{BuildError}
 use Rattle.pit_model.specs.declared.error.BuildError.TheVariants.{BlockRange, ResourceRange, PeriodRange, Repeated, Interval, NoMemory}
 use Rattle.pit_text.specs.declared.error.Cause.{Cause}
 use Rattle.pit_text.specs.declared.error.Cause.TheVariants.{NotAscii, MissingHeader, BadHeader, NotCpit, Unsupported, SectionTwice, FieldCount, Build, CountWrong, PartBlock, BadKind, NoMemory as WantsMemory}
-use Rattle.pit_text.specs.declared.key.Key.{Key}
-use Rattle.pit_text.specs.declared.key.Key.TheVariants.{Kind, Blocks, Periods, Resources, Rate, Destinations, Generals}
-use Rattle.pit_text.specs.declared.section.Section.{Section}
-use Rattle.pit_text.specs.declared.section.Section.TheVariants.{Objective, Coefficients, Limits}
-use Rattle.pit_text.specs.declared.section_fact.SectionFact.{SectionFact}
-use Rattle.pit_text.specs.declared.section_fact.SectionFact.TheVariants.{Profit, Coefficient, Limit}
-use Rattle.pit_text.specs.declared.section_fact.LimitKind.{LimitKind}
-use Rattle.pit_text.specs.declared.section_fact.LimitKind.TheVariants.{AtMost, AtLeast, Between}
+use Rattle.pit_text.specs.declared.model.key.Key.{Key}
+use Rattle.pit_text.specs.declared.model.key.Key.TheVariants.{Kind, Blocks, Periods, Resources, Rate, Destinations, Generals}
+use Rattle.pit_text.specs.declared.model.section.Section.{Section}
+use Rattle.pit_text.specs.declared.model.section.Section.TheVariants.{Objective, Coefficients, Limits}
+use Rattle.pit_text.specs.declared.model.section_fact.SectionFact.{SectionFact}
+use Rattle.pit_text.specs.declared.model.section_fact.SectionFact.TheVariants.{Profit, Coefficient, Limit}
+use Rattle.pit_text.specs.declared.model.section_fact.LimitKind.{LimitKind}
+use Rattle.pit_text.specs.declared.model.section_fact.LimitKind.TheVariants.{AtMost, AtLeast, Between}
 use Rattle.pit_text.specs.Cutting.{Cut}
 use Rattle.pit_text.specs.Stands.{◌>>=◌, Judge, FailsFirst, FailsWhole}
 use Rattle.pit_text.specs.Numbers.{is_ascii, or_bad, whole_field, decimal_field}

@@ -4,8 +4,8 @@ use Rattle.std.specs.Str.{bytes_eq, str_to_ascii_lowercase}
 use Rattle.pit_num.specs.declared.limits.TheConstants.{BLOCKS_MAX, PERIODS_MAX, RESOURCES_MAX, RATE_MAX}
 use Rattle.pit_text.specs.declared.error.Cause.{Cause}
 use Rattle.pit_text.specs.declared.error.Cause.TheVariants.{BadHeader, NotCpit, Unsupported}
-use Rattle.pit_text.specs.declared.key.Key.{Key}
-use Rattle.pit_text.specs.declared.key.Key.TheVariants.{Kind, Blocks, Periods, Resources, Rate, Destinations, Generals}
+use Rattle.pit_text.specs.declared.model.key.Key.{Key}
+use Rattle.pit_text.specs.declared.model.key.Key.TheVariants.{Kind, Blocks, Periods, Resources, Rate, Destinations, Generals}
 use Rattle.pit_text.specs.Numbers.{is_ascii, whole_field, decimal_field}
 
 -- a number in a range

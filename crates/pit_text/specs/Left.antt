@@ -3,9 +3,9 @@ use Rattle.std.specs.Prelude.{◌≡◌, ℕ, ◌+◌, if◌then◌else◌, List
 use Rattle.std.specs.List.{position_or_len}
 use Rattle.std.specs.Iterator.{YieldsFirstBy}
 use Rattle.pit_text.specs.Cutting.{lines_of, fields_of, Cut, cut_from, is_last}
-use Rattle.pit_text.specs.declared.fields.Fields.{Fields}
-use Rattle.pit_text.specs.declared.lines.Line.{Line}
-use Rattle.pit_text.specs.declared.lines.Lines.{Lines}
+use Rattle.pit_text.specs.declared.cutting.fields.Fields.{Fields}
+use Rattle.pit_text.specs.declared.cutting.lines.Line.{Line}
+use Rattle.pit_text.specs.declared.cutting.lines.Lines.{Lines}
 
 abbrev pub fields_left : Fields → List (List ℕ)
 fields_left fields = fields_of (take fields.len fields.text.now)

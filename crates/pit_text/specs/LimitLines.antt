@@ -2,8 +2,8 @@
 use Rattle.std.specs.Prelude.{List, Option, Some, None}
 use Rattle.std.specs.List.{filter_map}
 use Rattle.pit_model.specs.Tightest.{LimitLine}
-use Rattle.pit_text.specs.declared.section_fact.SectionFact.{SectionFact}
-use Rattle.pit_text.specs.declared.section_fact.SectionFact.TheVariants.{Profit, Coefficient, Limit}
+use Rattle.pit_text.specs.declared.model.section_fact.SectionFact.{SectionFact}
+use Rattle.pit_text.specs.declared.model.section_fact.SectionFact.TheVariants.{Profit, Coefficient, Limit}
 use Rattle.pit_text.specs.Model.{Fact, section_facts}
 
 abbrev pub limit_in : SectionFact → Option LimitLine

@@ -6,11 +6,11 @@ use Rattle.std.specs.Str.{bytes_eq}
 use Rattle.pit_model.specs.Pit.{Pit, empty_pit}
 use Rattle.pit_text.specs.declared.error.Cause.{Cause}
 use Rattle.pit_text.specs.declared.error.Cause.TheVariants.{MissingHeader, BadHeader, SectionTwice}
-use Rattle.pit_text.specs.declared.key.Key.{Key}
-use Rattle.pit_text.specs.declared.key.Key.TheVariants.{Kind, Blocks, Periods, Resources, Rate}
-use Rattle.pit_text.specs.declared.section.Section.{Section}
-use Rattle.pit_text.specs.declared.section.Section.TheVariants.{Objective, Coefficients, Limits}
-use Rattle.pit_text.specs.declared.section_fact.SectionFact.{SectionFact}
+use Rattle.pit_text.specs.declared.model.key.Key.{Key}
+use Rattle.pit_text.specs.declared.model.key.Key.TheVariants.{Kind, Blocks, Periods, Resources, Rate}
+use Rattle.pit_text.specs.declared.model.section.Section.{Section}
+use Rattle.pit_text.specs.declared.model.section.Section.TheVariants.{Objective, Coefficients, Limits}
+use Rattle.pit_text.specs.declared.model.section_fact.SectionFact.{SectionFact}
 use Rattle.pit_text.specs.Cutting.{Cut}
 use Rattle.pit_text.specs.Stands.{◌>>=◌, StandsTo, StandsWhole}
 use Rattle.pit_text.specs.Earlier.{first_value}

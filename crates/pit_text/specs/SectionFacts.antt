@@ -6,12 +6,12 @@ use Rattle.pit_model.specs.Refusals.{profit_refusal, coef_refusal, limit_refusal
 use Rattle.pit_model.specs.declared.error.BuildError.{BuildError}
 use Rattle.pit_text.specs.declared.error.Cause.{Cause}
 use Rattle.pit_text.specs.declared.error.Cause.TheVariants.{NotAscii, FieldCount, BadKind}
-use Rattle.pit_text.specs.declared.section.Section.{Section}
-use Rattle.pit_text.specs.declared.section.Section.TheVariants.{Objective, Coefficients, Limits}
-use Rattle.pit_text.specs.declared.section_fact.SectionFact.{SectionFact}
-use Rattle.pit_text.specs.declared.section_fact.SectionFact.TheVariants.{Profit, Coefficient, Limit}
-use Rattle.pit_text.specs.declared.section_fact.LimitKind.{LimitKind}
-use Rattle.pit_text.specs.declared.section_fact.LimitKind.TheVariants.{AtMost, AtLeast, Between}
+use Rattle.pit_text.specs.declared.model.section.Section.{Section}
+use Rattle.pit_text.specs.declared.model.section.Section.TheVariants.{Objective, Coefficients, Limits}
+use Rattle.pit_text.specs.declared.model.section_fact.SectionFact.{SectionFact}
+use Rattle.pit_text.specs.declared.model.section_fact.SectionFact.TheVariants.{Profit, Coefficient, Limit}
+use Rattle.pit_text.specs.declared.model.section_fact.LimitKind.{LimitKind}
+use Rattle.pit_text.specs.declared.model.section_fact.LimitKind.TheVariants.{AtMost, AtLeast, Between}
 use Rattle.pit_text.specs.Stands.{◌>>=◌}
 use Rattle.pit_text.specs.Numbers.{is_ascii, whole_field, decimal_field}
 use Rattle.pit_text.specs.Bounds.{lower_field, upper_field}

@@ -5,7 +5,7 @@ use Rattle.std.specs.Option.{option_map}
 use Rattle.pit_model.specs.declared.error.BuildError.TheVariants.{BlockRange, PeriodRange, Repeated}
 use Rattle.pit_text.specs.declared.error.Cause.{Cause}
 use Rattle.pit_text.specs.declared.error.Cause.TheVariants.{FieldCount, Unsupported, PartBlock, Build}
-use Rattle.pit_text.specs.declared.key.Key.TheVariants.{Destinations}
+use Rattle.pit_text.specs.declared.model.key.Key.TheVariants.{Destinations}
 use Rattle.pit_text.specs.Numbers.{whole_field, decimal_field}
 use Rattle.pit_text.specs.Cutting.{Cut}
 use Rattle.pit_text.specs.Stands.{◌>>=◌, StandsTo, StandsFor}

@@ -5,9 +5,8 @@ ghost use Rattle.pit_text.specs.Stands.{StandsFor, StopsAt, FailsFirst};
 ghost use Rattle.pit_text.specs.Causes.{IsCauseOf};
 ghost use Rattle.pit_text.specs.Blocks.{place_line, with_place_fact, place_fact, pit_with_places, block_line};
 
+use super::cutting::{Fields, Lines};
 use super::error::{Cause, TextError};
-use super::fields::Fields;
-use super::lines::Lines;
 use super::number::{decimal, whole};
 use pit_model::Builder;
 use std::alloc::Allocator;

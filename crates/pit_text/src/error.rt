@@ -1,6 +1,6 @@
 ghost use Rattle.std.specs.Prelude.{◌≡◌};
 
-use super::key::Key;
+use super::model::Key;
 use pit_model::BuildError;
 use pit_num::NumError;
 use std::alloc::AllocFailed;

@@ -1,3 +1,4 @@
+//! Model texts: their headers and their sections.
 ghost use Rattle.std.specs.Prelude.{◌≡◌, ◌≢◌, ◌∷◌, ◌++◌, [], List, Ok, Err, None, Some, MatchResult, ◌⊎◌};
 ghost use Rattle.pit_text.specs.Cutting.{cut_of, end_line};
 ghost use Rattle.pit_text.specs.Left.{fields_left, lines_left, end_left};
@@ -7,14 +8,24 @@ ghost use Rattle.pit_text.specs.SectionFacts.{with_section_fact};
 ghost use Rattle.pit_text.specs.Model.{Fact, in_section, section_fact_line, model_line, model_end, pit_of, ModelStops};
 ghost use Rattle.pit_text.specs.Draft.{IsDraft, IsHeader, IsHeaderFact, IsBody, HasHeader};
 
-use super::draft::Draft;
+mod bound;
+mod draft;
+mod header;
+mod key;
+mod section;
+mod section_fact;
+
+use super::cutting::{Fields, Lines};
 use super::error::{Cause, TextError};
-use super::fields::Fields;
-use super::key::key_of;
-use super::lines::Lines;
-use super::section::{Section, section_of};
-use super::section_fact::{SectionFact, add, section_fact_of};
+pub use bound::upper_bound;
+use draft::Draft;
+pub use key::Key;
+use key::key_of;
 use pit_model::Builder;
+pub use section::Section;
+use section::section_of;
+pub use section_fact::SectionFact;
+use section_fact::{add, section_fact_of};
 use std::alloc::Allocator;
 
 /// Reads a model: its header, its profits, its coefficients and its limits. The header is judged before any memory is taken, and each line before

@@ -6,9 +6,8 @@ ghost use Rattle.pit_text.specs.Unlisted.{with_block, has_from};
 ghost use Rattle.pit_text.specs.Causes.{IsCauseOf};
 ghost use Rattle.pit_text.specs.Precedence.{wholes_of, preds_line, with_preds_fact, preds_fact, pit_with_preds, precedence_line};
 
+use super::cutting::{Fields, Lines};
 use super::error::{Cause, TextError};
-use super::fields::Fields;
-use super::lines::Lines;
 use super::number::whole;
 use pit_model::{BuildError, Builder};
 use std::alloc::Allocator;

@@ -5,10 +5,9 @@ ghost use Rattle.pit_text.specs.Left.{fields_left};
 ghost use Rattle.pit_text.specs.Stands.{StandsFor, FailsFirst};
 ghost use Rattle.pit_text.specs.Solution.{pair_in_range, mined_pair, scheduled_pair, solution_line, AreSlots, period_in, schedule_of, SolutionStops};
 
+use super::cutting::{Fields, Lines};
 use super::error::{Cause, TextError};
-use super::fields::Fields;
-use super::key::Key;
-use super::lines::Lines;
+use super::model::Key;
 use super::number::{decimal, whole};
 use pit_model::{BuildError, Instance};
 use pit_num::NoMemory;

@@ -1,0 +1,9 @@
+//! How a text is cut into its lines that are read, and a line into fields.
+mod cut;
+mod feed;
+mod fields;
+mod gaps;
+mod lines;
+
+pub use fields::Fields;
+pub use lines::{Line, Lines};
