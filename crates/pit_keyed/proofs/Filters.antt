@@ -5,7 +5,7 @@ use Rattle.std.specs.Int.{bit_at}
 use Rattle.std.proofs.lemmas.Bool.Decides.{Decides-eqb}
 use Rattle.pit_num.specs.Bits.{IsWithBit}
 use Rattle.pit_keyed.specs.Keyed.{at_key}
-use Rattle.pit_keyed.specs.Filter.{IsFilterOf, AreFiltersOf}
+use Rattle.pit_keyed.specs.Inside.Filter.{IsFilterOf, AreFiltersOf}
 
 -- a number of the pairs and one more is one of the pairs, or that one
 named-push : {V : Type 0} (pairs : List (ℕ × V)) (key k : ℕ) (value : V) → is_some (at_key nat_eq (pairs ++ (key, value) ∷ []) k) ≡ true

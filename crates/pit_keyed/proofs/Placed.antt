@@ -11,7 +11,7 @@ use Rattle.std.proofs.lemmas.Map.Keys.{apart_from_distinct, IsDistinct-push}
 use Rattle.std.proofs.lemmas.Map.Made.{is_some-lookup}
 use Rattle.indexmap.specs.IndexSet.{insert_key}
 use Rattle.std.specs.Prelude.{MatchOption}
-use Rattle.pit_keyed.specs.Kept.{IsSetKept}
+use Rattle.pit_keyed.specs.Inside.Kept.{IsSetKept}
 use Rattle.pit_keyed.specs.Keyed.{at_key, with_write}
 use Rattle.pit_keyed.specs.declared.keyed_set.TheConstants.{FEW}
 

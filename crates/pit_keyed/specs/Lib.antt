@@ -1,3 +1,2 @@
 pub mod Keyed
-pub mod Filter
-pub mod Kept
+pub mod Inside

@@ -22,7 +22,7 @@ impl<V: Copy, A: Allocator + Copy + Drop> Model for FilteredSet<V, A> {
 
     ghost Value = { List (ℕ × V) };
 
-    ghost use Rattle.pit_keyed.specs.Filter.{AreFiltersOf};
+    ghost use Rattle.pit_keyed.specs.Inside.Filter.{AreFiltersOf};
 
     ghost view = { λ s. s.set };
 

@@ -31,7 +31,7 @@ impl<K: Eq + Hash + Copy, V: Copy, A: Allocator + Copy + Drop> Model for KeyedSe
 
     ghost Value = { List (K × V) };
 
-    ghost use Rattle.pit_keyed.specs.Kept.{IsSetKept};
+    ghost use Rattle.pit_keyed.specs.Inside.Kept.{IsSetKept};
 
     ghost view = { λ s. s.pairs.items };
 

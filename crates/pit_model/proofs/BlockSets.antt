@@ -6,7 +6,7 @@ use Rattle.std.proofs.lemmas.List.{length-replicate, get_or-replicate, get_or_pa
 use Rattle.std.proofs.lemmas.List.FromFn.{length-map-range_with_len, get_or-map-range_with_len}
 use Rattle.std.proofs.lemmas.Nat.Bits.{bit_at-zero}
 use Rattle.pit_num.specs.Bits.{IsWithBit}
-use Rattle.pit_model.specs.BlockSet.{has_block, blocks_in, member_value, member_values}
+use Rattle.pit_model.specs.Inside.BlockSet.{has_block, blocks_in, member_value, member_values}
 
 -- ---- the bits of a set
 

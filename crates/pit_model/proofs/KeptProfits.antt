@@ -1,8 +1,8 @@
 -- What is read of profits that are kept as numbers and a set of blocks.
 use Rattle.std.proofs.Common.{◌≡◌, ℕ, ℤ, pos, ◌<◌, Bool, true, false, cond, List, length, get_or, set, replicate, Option, Some, None, is_some, sym, ap, ◌∙◌, length-set, get_or-set_same, get_or-set_other}
 use Rattle.std.proofs.lemmas.List.{get_or_read}
-use Rattle.pit_model.specs.BlockSet.{member_values}
-use Rattle.pit_model.specs.Profits.{value_in, profits_in}
+use Rattle.pit_model.specs.Inside.BlockSet.{member_values}
+use Rattle.pit_model.specs.Inside.Profits.{value_in, profits_in}
 use Rattle.pit_model.proofs.BlockSets.{IsWithBlock, get_or-member_values, member_values-none, member_values-with, below-known, known-view}
 
 pub profits_in-none : (values : List ℤ) (known : List Bool) (blocks : ℕ) → length values ≡ blocks → ((b : ℕ) → get_or known b false ≡ false) → profits_in values known ≡ replicate blocks None

@@ -4,7 +4,7 @@ use Rattle.std.specs.Prelude.{slice_range, Result, Ok, Err, OnErr}
 use Rattle.std.proofs.lemmas.Bool.{cases_eq, cases_lt, true≢false}
 use Rattle.std.proofs.lemmas.List.{drop_all, nil_from_length, length-take, take-append-le, drop-append-le, get_or_past}
 use Rattle.pit_model.specs.Pit.{preds_in}
-use Rattle.pit_model.specs.PredecessorRows.{no_cells, cells_of, rows_in, IsWithinCells, ArePredecessorRows}
+use Rattle.pit_model.specs.Inside.PredecessorRows.{no_cells, cells_of, rows_in, IsWithinCells, ArePredecessorRows}
 use Rattle.pit_model.specs.declared.predecessors.Row.{Row}
 use Rattle.pit_model.proofs.BlockSets.{IsWithBlock, IsWithBlock-insert, length-member_values, get_or-member_values, member_values-same, member_values-with, below-known, known-view}
 use Rattle.pit_model.proofs.Rows.{get_or-filled_up, length-filled_up, set-each}

@@ -1,9 +1,4 @@
 pub mod Pit
 pub mod Refusals
-pub mod Places
-pub mod BlockSet
-pub mod Profits
-pub mod CoefficientRows
-pub mod PredecessorRows
-pub mod Laid
 pub mod Tightest
+pub mod Inside

@@ -15,7 +15,7 @@ pub(crate) struct BlockSet<A: Allocator + Drop> {
 
 impl<A: Allocator + Drop> Model for BlockSet<A> {
     ghost use Rattle.std.specs.Prelude.{Bool, List};
-    ghost use Rattle.pit_model.specs.BlockSet.{blocks_in};
+    ghost use Rattle.pit_model.specs.Inside.BlockSet.{blocks_in};
 
     ghost Value = { List Bool };
 

@@ -14,7 +14,7 @@ pub(crate) struct Places<A: Allocator + Drop> {
 
 impl<A: Allocator + Drop> Model for Places<A> {
     ghost use Rattle.std.specs.Prelude.{ℤ, List, Option};
-    ghost use Rattle.pit_model.specs.Places.{places_in, IsPlaceList};
+    ghost use Rattle.pit_model.specs.Inside.Places.{places_in, IsPlaceList};
 
     ghost Value = { List (Option (ℤ × ℤ × ℤ)) };
 

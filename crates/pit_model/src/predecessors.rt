@@ -2,7 +2,7 @@ ghost use Rattle.std.specs.Prelude.{◌≡◌, ◌==◌, not, ℕ, ◌<◌, [], 
 ghost use Rattle.std.specs.List.{All, filter, list_any};
 ghost use Rattle.std.specs.List.Sorted.{IsStrictlyIncreasing};
 ghost use Rattle.pit_model.specs.Pit.{preds_from, preds_in, with_preds_in};
-ghost use Rattle.pit_model.specs.PredecessorRows.{no_cells};
+ghost use Rattle.pit_model.specs.Inside.PredecessorRows.{no_cells};
 
 use crate::block_set::BlockSet;
 use pit_num::NoMemory;
@@ -32,7 +32,7 @@ impl<A: Allocator + Drop> Model for Predecessors<A> {
 
     ghost Value = { List (Option (List ℕ)) };
 
-    ghost use Rattle.pit_model.specs.PredecessorRows.{rows_in, ArePredecessorRows};
+    ghost use Rattle.pit_model.specs.Inside.PredecessorRows.{rows_in, ArePredecessorRows};
 
     ghost view = { λ preds. rows_in preds.blocks preds.set preds.cells.items preds.rows.items };
 

@@ -16,7 +16,7 @@ pub(crate) struct Profits<A: Allocator + Drop> {
 
 impl<A: Allocator + Drop> Model for Profits<A> {
     ghost use Rattle.std.specs.Prelude.{ℤ, ◌≤◌, List, Option, length};
-    ghost use Rattle.pit_model.specs.Profits.{profits_in};
+    ghost use Rattle.pit_model.specs.Inside.Profits.{profits_in};
 
     ghost Value = { List (Option ℤ) };
 

@@ -2,7 +2,8 @@
 use Rattle.std.proofs.Common.{◌≡◌, ℕ, zero, suc, ◌+◌, ◌*◌, ◌^◌, ◌≤◌, List, [], ◌∷◌, ◌++◌, length, ℤ, pos, ap, sym, subst, refl, arith, add-one}
 use Rattle.std.proofs.lemmas.Grind.{common_steps}
 use Rattle.pit_num.specs.Rounding.{nearest, IsGreatest}
-use Rattle.pit_num.specs.Factor.{factor, AreFactors}
+use Rattle.pit_num.specs.Factor.{factor}
+use Rattle.pit_num.specs.Inside.Factor.{AreFactors}
 use Rattle.pit_num.proofs.Nearest.{nearest_holds, nearest_above, nearest_le}
 
 pub factor_next : (rate t : ℕ) → factor rate (t + 1) ≡ nearest (factor rate t * 10 ^ 6) (10 ^ 6 + rate)

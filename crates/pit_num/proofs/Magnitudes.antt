@@ -3,7 +3,8 @@ use Rattle.std.proofs.Common.{◌≡◌, ℕ, ◌*◌, ◌^◌, ◌<◌, ◌≤�
 use Rattle.std.proofs.lemmas.Int.{ints}
 use Rattle.std.proofs.lemmas.Bool.Decides.{nat_tests}
 use Rattle.std.proofs.Math.Nat.{pow-le-pow_right, mul-le-mul_left}
-use Rattle.pit_num.specs.Decimal.{below_limit, with_sign}
+use Rattle.pit_num.specs.Decimal.{with_sign}
+use Rattle.pit_num.specs.Inside.Decimal.{below_limit}
 use Rattle.pit_num.specs.declared.limits.TheConstants.{MICRO_LIMIT}
 
 pub is_below : (m n : ℕ) → m ≡ n → m < MICRO_LIMIT → Some m ≡ below_limit n

@@ -7,7 +7,8 @@ use Rattle.std.proofs.lemmas.List.{take_all, drop_all, append-nil, take_at}
 use Rattle.std.proofs.lemmas.List.Folds.{list_all-append}
 use Rattle.std.proofs.lemmas.List.Sums.{prefix_len_stops, prefix_len-le-length, prefix_len-drop_no, prefix_len-drop_all}
 use Rattle.std.proofs.lemmas.Bool.Decides.{nat_tests}
-use Rattle.pit_num.specs.Decimal.{are_digits, is_point, is_e, is_negative, after_sign, after_front_point, mantissa, whole_part, fraction_part, has_exponent, signed_exponent, with_sign, micro_of, millionths, raising_power, lowering_power, significand, exponent, is_number, is_decimal, is_too_long}
+use Rattle.pit_num.specs.Decimal.{are_digits, is_point, is_e, is_negative, after_sign, mantissa, whole_part, fraction_part, has_exponent, signed_exponent, with_sign, micro_of, millionths, raising_power, lowering_power, significand, exponent, is_number, is_decimal, is_too_long}
+use Rattle.pit_num.specs.Inside.Decimal.{after_front_point}
 use Rattle.pit_num.specs.declared.limits.TheConstants.{MICRO_LIMIT}
 use Rattle.pit_num.specs.Rounding.{nearest}
 use Rattle.std.proofs.lemmas.Nat.{pow-add}

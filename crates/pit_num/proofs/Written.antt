@@ -4,7 +4,7 @@ use Rattle.std.proofs.lemmas.Bool.{false≢true}
 use Rattle.std.proofs.lemmas.List.{append-nil, take-replicate, take_at, take-append-drop, take_rest}
 use Rattle.std.proofs.Math.Seq.{take-add}
 use Rattle.std.specs.Io.KnownBytes.{Appends, Keeps}
-use Rattle.pit_num.specs.Printed.{AppendsFront, Writes, WritesIfAny}
+use Rattle.pit_num.specs.Printed.{AppendsFront, WritesText, WritesIfAny}
 
 pub appends_nothing : (a : Option (List ℕ)) → Appends a a []
 appends_nothing None = tt
@@ -46,7 +46,7 @@ map_err (Err e) f p = f p
 
 -- a call whose first write failed
 pub failed_early : {D E : Type 0} (contents : D → Option (List ℕ)) (has_failed : D → Bool) (old new : D) (text : List ℕ) (result : Result (Unit {0}) E)
-    → IsErr result → AppendsFront (contents old) (contents new) text → IsTrue (has_failed new) → Writes contents has_failed old new text result
+    → IsErr result → AppendsFront (contents old) (contents new) text → IsTrue (has_failed new) → WritesText contents has_failed old new text result
 failed_early contents has_failed old new text (Ok x) is front failed = absurd (false≢true is)
 failed_early contents has_failed old new text (Err e) is front failed = record { ok = tt; err = front; fault = failed; sound = tt }
 
@@ -58,9 +58,9 @@ failed_early_if_any contents has_failed old new text (Err e) is front failed som
 
 -- a write behind another
 pub written_behind : {D E : Type 0} (contents : D → Option (List ℕ)) (has_failed : D → Bool) (old between new : D) (front rest text : List ℕ) (result : Result (Unit {0}) E)
-    → Appends (contents old) (contents between) front → Writes contents has_failed between new rest result → front ++ rest ≡ text → Writes contents has_failed old new text result
+    → Appends (contents old) (contents between) front → WritesText contents has_failed between new rest result → front ++ rest ≡ text → WritesText contents has_failed old new text result
 written_behind contents has_failed old between new front rest text result before writes whole =
-    subst (λ (xs : List ℕ). Writes contents has_failed old new xs result) whole (record {
+    subst (λ (xs : List ℕ). WritesText contents has_failed old new xs result) whole (record {
       ok = map_ok result (λ after. appends_more (contents old) (contents between) (contents new) front rest before after) writes.ok;
       err = map_err result (λ after. front_after (contents old) (contents between) (contents new) front rest before after) writes.err;
       fault = writes.fault;
@@ -69,9 +69,9 @@ written_behind contents has_failed old between new front rest text result before
 
 -- a text that isn't empty
 pub some_written : {D E : Type 0} (contents : D → Option (List ℕ)) (has_failed : D → Bool) (old new : D) (text other : List ℕ) (result : Result (Unit {0}) E)
-    → WritesIfAny contents has_failed old new text result → text ≡ other → 0 < length other → Writes contents has_failed old new other result
+    → WritesIfAny contents has_failed old new text result → text ≡ other → 0 < length other → WritesText contents has_failed old new other result
 some_written contents has_failed old new text other result writes same some =
-    subst (λ (xs : List ℕ). Writes contents has_failed old new xs result) same (record {
+    subst (λ (xs : List ℕ). WritesText contents has_failed old new xs result) same (record {
       ok = writes.ok;
       err = writes.err;
       fault = writes.fault;

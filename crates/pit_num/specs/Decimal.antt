@@ -1,5 +1,5 @@
 -- What the texts of numbers stand for.
-use Rattle.std.specs.Prelude.{ℕ, ℤ, pos, neg_ℤ, ◌+◌, ◌*◌, ◌^◌, ◌==◌, ◌&&◌, ◌||◌, not, nat_lt, nat_le, Bool, false, if◌then◌else◌, List, [], ◌∷◌, ◌++◌, length, Result, Ok, Err, Option, Some, None}
+use Rattle.std.specs.Prelude.{ℕ, ℤ, pos, neg_ℤ, ◌+◌, ◌*◌, ◌^◌, ◌==◌, ◌&&◌, ◌||◌, not, nat_lt, nat_le, Bool, false, if◌then◌else◌, List, [], ◌∷◌, ◌++◌, length, Result, Ok, Err}
 use Rattle.std.specs.Str.Parse.{digits_value}
 use Rattle.std.specs.List.{before_first, after_first, list_any, list_all}
 use Rattle.std.specs.Char.{is_ascii_digit}
@@ -43,11 +43,6 @@ is_negative (b ∷ bs) = b == 45
 abbrev pub after_sign : List ℕ → List ℕ
 after_sign [] = []
 after_sign (b ∷ bs) = if is_sign b then bs else b ∷ bs
-
--- what follows a point that stands in front, or all where none does
-abbrev pub after_front_point : List ℕ → List ℕ
-after_front_point [] = []
-after_front_point (b ∷ bs) = if is_point b then bs else b ∷ bs
 
 -- the parts of a text: the digits before and after the point, the exponent's digits where there is an `e`
 abbrev pub mantissa : List ℕ → List ℕ
@@ -96,10 +91,6 @@ denominator text = 10 ^ (length (fraction_part text) + lowering_power text)
 -- the magnitude in millionths, a half away from zero
 abbrev pub millionths : List ℕ → ℕ
 millionths text = nearest (numerator text * 10 ^ 6) (denominator text)
-
--- a magnitude that is small enough
-abbrev pub below_limit : ℕ → Option ℕ
-below_limit n = if nat_lt n MICRO_LIMIT then Some n else None
 
 abbrev pub with_sign : Bool → ℕ → ℤ
 with_sign negative n = if negative then neg_ℤ (pos n) else pos n

@@ -1,8 +1,10 @@
 pub mod Decimal
 pub mod Factor
 pub mod Rounding
+pub mod Lines
 pub mod Printed
 pub mod Least
 pub mod Refused
 pub mod Fitting
 pub mod Bits
+pub mod Inside

@@ -24,7 +24,7 @@ pub record AppendsFront (old new : Option (List ℕ)) (text : List ℕ) : Type 0
 
 -- A call was to give a device a text. The device holds the text behind what it held, and hasn't failed; or it has failed, and holds a front
 -- of the text there.
-pub record Writes {D E : Type 0} (contents : D → Option (List ℕ)) (has_failed : D → Bool) (old new : D) (text : List ℕ) (result : Result (Unit {0}) E) : Type 0 where
+pub record WritesText {D E : Type 0} (contents : D → Option (List ℕ)) (has_failed : D → Bool) (old new : D) (text : List ℕ) (result : Result (Unit {0}) E) : Type 0 where
   pub ok : OnOk result (Appends (contents old) (contents new) text)
   pub err : OnErr result (AppendsFront (contents old) (contents new) text)
   pub fault : OnErr result (IsTrue (has_failed new))

@@ -1,5 +1,6 @@
 ghost use Rattle.std.specs.Prelude.{◌≡◌, ℕ, pos, ◌+◌, ◌*◌, ◌^◌, ◌<◌, ◌≤◌, ◌≤ℤ◌, length, IfOk};
-ghost use Rattle.pit_num.specs.Factor.{factor, AreFactors};
+ghost use Rattle.pit_num.specs.Factor.{factor};
+ghost use Rattle.pit_num.specs.Inside.Factor.{AreFactors};
 ghost use Rattle.pit_num.specs.Rounding.{nearest, IsGreatest};
 
 use super::limits::{PERIODS_MAX, RATE_MAX};
@@ -16,7 +17,8 @@ pub struct Discount<A: Allocator> {
 
 impl<A: Allocator> Model for Discount<A> {
     ghost use Rattle.std.specs.Prelude.{length};
-    ghost use Rattle.pit_num.specs.Factor.{Discounting, AreFactors};
+    ghost use Rattle.pit_num.specs.Factor.{Discounting};
+    ghost use Rattle.pit_num.specs.Inside.Factor.{AreFactors};
 
     ghost Value = { Discounting };
 

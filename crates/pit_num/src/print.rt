@@ -1,5 +1,5 @@
 ghost use Rattle.std.specs.Prelude.{◌<◌, ◌≤◌, decimal};
-ghost use Rattle.pit_num.specs.Printed.{unsigned_text, fixed_text, Writes, WritesIfAny};
+ghost use Rattle.pit_num.specs.Printed.{unsigned_text, fixed_text, WritesText, WritesIfAny};
 
 use super::sink::Sink;
 use itoa::{Buffer, write_digits};
@@ -11,21 +11,21 @@ pub struct WriteFault;
 /// Writes a value, in units of 10^-18: a `-` where it is negative, the whole part without leading zeros, a point and
 /// 18 digits. Takes no memory.
 pub fn write_value<W: Sink>(w: &mut W, value: i128) -> Result<(), WriteFault>
-    ensures { Writes W.contents W.has_failed w.old w.new (fixed_text 18 value) result }
+    ensures { WritesText W.contents W.has_failed w.old w.new (fixed_text 18 value) result }
 {
     write_fixed(w, value, 18)
 }
 
 /// Writes a load or a limit, in millionths: the same with 6 digits. Takes no memory.
 pub fn write_micro<W: Sink>(w: &mut W, value: i128) -> Result<(), WriteFault>
-    ensures { Writes W.contents W.has_failed w.old w.new (fixed_text 6 value) result }
+    ensures { WritesText W.contents W.has_failed w.old w.new (fixed_text 6 value) result }
 {
     write_fixed(w, value, 6)
 }
 
 /// Writes a whole number. Takes no memory.
 pub fn write_whole<W: Sink>(w: &mut W, n: u32) -> Result<(), WriteFault>
-    ensures { Writes W.contents W.has_failed w.old w.new (decimal n) result }
+    ensures { WritesText W.contents W.has_failed w.old w.new (decimal n) result }
 {
     let mut buffer = Buffer::new();
     write_text(w, buffer.format(n).as_bytes())
@@ -34,7 +34,7 @@ pub fn write_whole<W: Sink>(w: &mut W, n: u32) -> Result<(), WriteFault>
 /// Writes a number in units of 10^-`places`.
 fn write_fixed<W: Sink>(w: &mut W, value: i128, places: u32) -> Result<(), WriteFault>
     requires { (0 < places) × (places ≤ 18) }
-    ensures { Writes W.contents W.has_failed w.old w.new (fixed_text places value) result }
+    ensures { WritesText W.contents W.has_failed w.old w.new (fixed_text places value) result }
 {
     let magnitude = value.unsigned_abs();
     if value < 0 {
@@ -47,7 +47,7 @@ fn write_fixed<W: Sink>(w: &mut W, value: i128, places: u32) -> Result<(), Write
 /// The same of a number that isn't negative.
 fn write_unsigned<W: Sink>(w: &mut W, n: u128, places: u32) -> Result<(), WriteFault>
     requires { (0 < places) × (places ≤ 18) }
-    ensures { Writes W.contents W.has_failed w.old w.new (unsigned_text places n) result }
+    ensures { WritesText W.contents W.has_failed w.old w.new (unsigned_text places n) result }
 {
     let unit = 10u128.pow(places);
     let mut buffer = Buffer::new();

@@ -13,7 +13,7 @@ use Rattle.pit_num.proofs.CallerLemmas.{Decides-pair_eq}
 use Rattle.pit_model.specs.Pit.{Pit, cell_of}
 use Rattle.pit_model.proofs.CallerLemmas.{cells_apart, same_resource}
 use Rattle.pit_plan.specs.Schedule.{Revisions}
-use Rattle.pit_plan.specs.Limits.{by_cell}
+use Rattle.pit_plan.specs.Inside.Limits.{by_cell}
 use Rattle.pit_plan.proofs.Named.{Once}
 
 pub cell-below : (pit : Pit) (r t : ℕ) → r < pit.resources → t < pit.periods → cell_of pit r t < pit.periods * pit.resources

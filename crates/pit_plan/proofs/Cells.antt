@@ -11,7 +11,8 @@ use Rattle.std.proofs.lemmas.Bool.Decides.{leb_tells, eqb_tells}
 use Rattle.pit_model.specs.Pit.{Pit, coefs_of, cell_of}
 use Rattle.pit_model.proofs.CallerLemmas.{cells_apart, same_resource}
 use Rattle.pit_plan.specs.Schedule.{coef_in, coef_of}
-use Rattle.pit_plan.specs.Totals.{cell_load, at_cell, signed_coef, Moves, MovesOne, Raises}
+use Rattle.pit_plan.specs.Inside.Totals.{cell_load, signed_coef, Moves, MovesOne, Raises}
+use Rattle.pit_plan.specs.Limits.{at_cell}
 use Rattle.pit_plan.proofs.Named.{Once, absent-before, lookup-at, overlaid_item-more, same-eq, other-eq}
 
 some-resource : (periods resources cell : ℕ) → cell < periods * resources → 0 < resources

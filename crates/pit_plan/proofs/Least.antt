@@ -3,9 +3,9 @@ use Rattle.std.proofs.Common.{◌≡◌, ℕ, suc, ◌⊎◌, Bool, true, false,
 use Rattle.std.specs.Prelude.{nat_eq, nat_lt, ◌&&◌, ◌||◌}
 use Rattle.std.proofs.lemmas.Bool.Decides.{leb_tells, eqb_tells}
 use Rattle.pit_num.specs.Least.{ComesBefore, IsLeast, IsLeastOf}
-use Rattle.pit_plan.specs.Touched.{comes_before, lesser_of}
+use Rattle.pit_plan.specs.Inside.Touched.{is_lesser, lesser_of}
 
-tells : (p q : ℕ × ℕ) → ((comes_before p q ≡ true) × ComesBefore p q) ⊎ ((comes_before p q ≡ false) × (ComesBefore p q → ⊥))
+tells : (p q : ℕ × ℕ) → ((is_lesser p q ≡ true) × ComesBefore p q) ⊎ ((is_lesser p q ≡ false) × (ComesBefore p q → ⊥))
 tells p q =
     elim (leb_tells (suc p.0) q.0) [
       | inl less ↦ inl (ap (λ (b : Bool). b || (nat_eq p.0 q.0 && nat_lt p.1 q.1)) less.0, inl less.1)

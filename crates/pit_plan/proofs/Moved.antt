@@ -14,7 +14,8 @@ use Rattle.pit_num.proofs.CallerLemmas.{factor_le}
 use Rattle.pit_plan.proofs.Bounds.{IsWithin, zero-within, product-within}
 use Rattle.pit_plan.specs.Sums.{total}
 use Rattle.pit_plan.specs.Schedule.{by_block, coef_in, coef_of, share, load_of, earned_in, value_of, is_in}
-use Rattle.pit_plan.specs.Totals.{cell_load, at_cell, AreLoads, AreTotals, Tallied, IsTally, MovesIn, signed_coef, with_period}
+use Rattle.pit_plan.specs.Inside.Totals.{cell_load, AreLoads, AreTotals, Tallied, IsTally, MovesIn, signed_coef, with_period}
+use Rattle.pit_plan.specs.Limits.{at_cell}
 use Rattle.pit_plan.proofs.Named.{same-eq, other-eq}
 use Rattle.pit_plan.proofs.Sums.{total-same, total-more, total-nothing}
 use Rattle.pit_plan.proofs.Same.{same-load, same-value}

@@ -7,7 +7,7 @@ use Rattle.std.proofs.lemmas.Bool.{cond-true, cond-false}
 use Rattle.std.proofs.lemmas.Bool.Decides.{eqb_tells}
 use Rattle.std.proofs.lemmas.List.{take_more, get_or-map, length-map}
 use Rattle.std.proofs.lemmas.List.Kept.{AllPairs-from_increasing}
-use Rattle.pit_plan.specs.Touched.{overlaid_item, IsNamed}
+use Rattle.pit_plan.specs.Inside.Touched.{overlaid_item, IsNamed}
 
 pub same-eq : (x b : ℕ) → x ≡ b → nat_eq x b ≡ true
 same-eq x b e = elim (eqb_tells x b) [ inl h ↦ h.0 | inr h ↦ absurd (h.1 e) ]

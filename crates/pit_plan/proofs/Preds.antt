@@ -12,7 +12,7 @@ use Rattle.pit_num.specs.Least.{IsLeast, IsLeastOf}
 use Rattle.pit_model.specs.Pit.{Pit, IsSound, preds_of}
 use Rattle.pit_plan.specs.Schedule.{in_order, IsPred}
 use Rattle.pit_plan.specs.Breaches.{IsOutOfOrder}
-use Rattle.pit_plan.specs.InsideSchedule.{IsLate}
+use Rattle.pit_plan.specs.Inside.Schedule.{IsLate}
 
 -- in a rising list what holds at each place before one holds of each lesser number
 pub before-place : (test : ℕ → Bool) (xs : List ℕ) (j x : ℕ) → IsStrictlyIncreasing xs → j < length xs → ((k : ℕ) → k < j → test (get_or xs k 0) ≡ true)

@@ -9,9 +9,9 @@ use Rattle.pit_plan.proofs.Sums.{total-same}
 use Rattle.pit_plan.specs.Schedule.{Commit, IsPred, by_block, coef_of, write_of, revision_of, held_period, limit_of, is_in, share, load_of, value_of, earned_in, in_order, is_within}
 use Rattle.pit_plan.specs.Standing.{Standing, IsPlanOf, limit_in_force}
 use Rattle.pit_plan.specs.Breaches.{IsFirstBreach, IsOrdered, IsOutOfOrder, IsOverLimit, IsBreachOf, IsGood, IsGoodNow}
-use Rattle.pit_plan.specs.Totals.{at_cell}
-use Rattle.pit_plan.specs.Limits.{cell_limit, by_cell}
-use Rattle.pit_plan.specs.Touched.{overlaid_item}
+use Rattle.pit_plan.specs.Limits.{cell_limit, at_cell}
+use Rattle.pit_plan.specs.Inside.Limits.{by_cell}
+use Rattle.pit_plan.specs.Inside.Touched.{overlaid_item}
 use Rattle.pit_plan.specs.Shortfalls.{short_at, shorts_in, shortfalls_of}
 use Rattle.std.specs.List.{range_with_len}
 use Rattle.pit_plan.specs.declared.short.Short.{Short}

@@ -11,9 +11,9 @@ use Rattle.pit_num.specs.Fitting.{Fits, RevisionsFit}
 use Rattle.pit_model.specs.Pit.{Pit, cell_of, upper_of}
 use Rattle.pit_plan.specs.Schedule.{Commit, write_of, revision_of, held_period, last_number, limit_of}
 use Rattle.pit_plan.specs.Standing.{Standing, IsPlanOf, Adds}
-use Rattle.pit_plan.specs.InsidePlan.{with_writes}
-use Rattle.pit_plan.specs.Totals.{at_cell}
-use Rattle.pit_plan.specs.Limits.{cell_limit, by_cell}
+use Rattle.pit_plan.specs.Inside.Plan.{with_writes}
+use Rattle.pit_plan.specs.Limits.{cell_limit, at_cell}
+use Rattle.pit_plan.specs.Inside.Limits.{by_cell}
 use Rattle.pit_plan.proofs.Commits.{held_period-nil, held_period-push, last_number-nil, last_number-push, limit_of-nil, limit_of-push}
 use Rattle.pit_plan.proofs.ByCell.{cell-below, lookup-cell, once-cells}
 

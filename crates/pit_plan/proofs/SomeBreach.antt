@@ -13,7 +13,7 @@ use Rattle.pit_plan.proofs.Preds.{pred-listed}
 use Rattle.pit_plan.proofs.Good.{ordered-from_none, within-from_none, limit-over}
 use Rattle.pit_plan.specs.Schedule.{load_of, in_order, is_within}
 use Rattle.pit_plan.specs.Breaches.{IsOrdered, IsOutOfOrder, IsOverLimit, IsFirstBreach}
-use Rattle.pit_plan.specs.InsideSchedule.{IsLate}
+use Rattle.pit_plan.specs.Inside.Schedule.{IsLate}
 use Rattle.pit_plan.specs.declared.breach.Breach.{Breach}
 use Rattle.pit_plan.specs.declared.breach.Breach.TheVariants.{Precedence, Over}
 

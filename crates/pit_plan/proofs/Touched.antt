@@ -12,8 +12,9 @@ use Rattle.pit_num.specs.Least.{ComesBefore, IsLeast, IsLeastOf}
 use Rattle.pit_num.proofs.CallerLemmas.{least-same}
 use Rattle.pit_model.specs.Pit.{Pit, cell_of}
 use Rattle.pit_plan.specs.Schedule.{Writes, by_block, load_of, in_order, is_within}
-use Rattle.pit_plan.specs.Totals.{Tallied, IsTally, AreLoads, Raises, cell_load, at_cell, with_period}
-use Rattle.pit_plan.specs.Touched.{overlaid_item, lesser_of, IsNamed, IsOutNear, IsOverAt, IsLeastOver, AreMoved, SetsCell, LooksAt}
+use Rattle.pit_plan.specs.Inside.Totals.{Tallied, IsTally, AreLoads, Raises, cell_load, with_period}
+use Rattle.pit_plan.specs.Limits.{at_cell}
+use Rattle.pit_plan.specs.Inside.Touched.{overlaid_item, lesser_of, IsNamed, IsOutNear, IsOverAt, IsLeastOver, AreMoved, SetsCell, LooksAt}
 use Rattle.pit_plan.specs.Breaches.{IsOrdered, IsUnderLimits, IsOutOfOrder, IsOverLimit, IsFirstBreach}
 use Rattle.pit_plan.specs.declared.breach.Breach.TheVariants.{Precedence, Over}
 use Rattle.pit_plan.specs.declared.breach.Breach.{Breach}

@@ -3,8 +3,5 @@ pub mod Schedule
 pub mod Standing
 pub mod Breaches
 pub mod Shortfalls
-pub mod Totals
 pub mod Limits
-pub mod Touched
-pub mod InsidePlan
-pub mod InsideSchedule
+pub mod Inside

@@ -2,8 +2,7 @@
 use Rattle.std.specs.Prelude.{◌≡◌, ℕ, ◌<◌, ℤ, List, [], ◌∷◌, ◌++◌, length, Option, slice_index_or}
 use Rattle.pit_model.specs.Pit.{Pit}
 use Rattle.pit_plan.specs.Schedule.{Commit, by_block, held_period, last_number, limit_of}
-use Rattle.pit_plan.specs.Totals.{at_cell}
-use Rattle.pit_plan.specs.Limits.{cell_limit}
+use Rattle.pit_plan.specs.Limits.{cell_limit, at_cell}
 
 -- a plan: its pit, the number of commits, for each block its period and the number of the last commit that named it, and for each cell the
 -- upper limit in force

@@ -5,9 +5,10 @@ ghost use Rattle.pit_num.specs.Least.{ComesBefore, IsLeast};
 ghost use Rattle.pit_model.specs.Pit.{cell_of};
 ghost use Rattle.pit_plan.specs.Schedule.{by_block};
 ghost use Rattle.pit_plan.specs.Breaches.{IsFirstBreach, IsGood, IsOutOfOrder};
-ghost use Rattle.pit_plan.specs.Totals.{at_cell, IsTally};
-ghost use Rattle.pit_plan.specs.Limits.{cell_limit, by_cell};
-ghost use Rattle.pit_plan.specs.Touched.{overlaid_item, lesser_of, IsOutNear, IsOverAt, IsLeastOver, IsNamed};
+ghost use Rattle.pit_plan.specs.Inside.Totals.{IsTally};
+ghost use Rattle.pit_plan.specs.Limits.{cell_limit, at_cell};
+ghost use Rattle.pit_plan.specs.Inside.Limits.{by_cell};
+ghost use Rattle.pit_plan.specs.Inside.Touched.{overlaid_item, lesser_of, IsOutNear, IsOverAt, IsLeastOver, IsNamed};
 
 use crate::breach::Breach;
 use crate::limits::Limits;

@@ -2,9 +2,9 @@
 ghost use Rattle.std.specs.Prelude.{◌≡◌, ℕ, ℤ, ◌*◌, ◌<◌, length, Option, IfOk};
 ghost use Rattle.pit_num.specs.Fitting.{RevisionsFit, revisions_of};
 ghost use Rattle.pit_model.specs.Pit.{upper_of};
-ghost use Rattle.pit_plan.specs.InsidePlan.{with_writes};
-ghost use Rattle.pit_plan.specs.Totals.{at_cell};
-ghost use Rattle.pit_plan.specs.Limits.{cell_limit, by_cell};
+ghost use Rattle.pit_plan.specs.Inside.Plan.{with_writes};
+ghost use Rattle.pit_plan.specs.Limits.{cell_limit, at_cell};
+ghost use Rattle.pit_plan.specs.Inside.Limits.{by_cell};
 
 use pit_model::Instance;
 use pit_num::NoMemory;
@@ -41,6 +41,7 @@ pub(crate) fn limits_of<A: Allocator + Copy + Drop>(
     ensures len { IfOk result (λ limits. length limits.items ≡ pit.now.periods * pit.now.resources) }
     ensures each { IfOk result (λ limits. (r t : ℕ) → r < pit.now.resources → t < pit.now.periods → at_cell pit.now (cell_limit limits.items) r t ≡ upper_of pit.now r t) }
 {
+    // shows that the pit is sound
     let _blocks = pit.blocks();
     let cells = pit.periods() * pit.resources();
     let mut limits = Vec::with_capacity(alloc, cells as usize)?;

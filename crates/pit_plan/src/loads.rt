@@ -2,7 +2,8 @@
 ghost use Rattle.std.specs.Prelude.{◌≡◌, ℕ, ℤ, ◌*◌, ◌<◌, ◌+ℤ◌, true, length, Bool, List, FitsSigned, IfErr, IfSome, OnOk};
 ghost use Rattle.std.specs.Int.{w128};
 ghost use Rattle.pit_plan.specs.Schedule.{coef_of};
-ghost use Rattle.pit_plan.specs.Totals.{at_cell, Raises, MovesIn, signed_coef};
+ghost use Rattle.pit_plan.specs.Inside.Totals.{Raises, MovesIn, signed_coef};
+ghost use Rattle.pit_plan.specs.Limits.{at_cell};
 
 use pit_model::Instance;
 use pit_num::NoMemory;

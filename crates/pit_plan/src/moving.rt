@@ -1,9 +1,9 @@
 //! Loads as writes leave them.
 ghost use Rattle.std.specs.Prelude.{◌≡◌, ◌≢◌, ℕ, ◌+◌, ◌*◌, ◌<◌, true, None, [], length, take, IfOk, IfErr, OnOk};
 ghost use Rattle.pit_num.specs.Fitting.{Fits, RevisionsFit, revisions_of};
-ghost use Rattle.pit_plan.specs.Totals.{cell_load, IsTally};
-ghost use Rattle.pit_plan.specs.Limits.{by_cell};
-ghost use Rattle.pit_plan.specs.Touched.{overlaid_item, IsNamed, AreMoved, SetsCell, LooksAt};
+ghost use Rattle.pit_plan.specs.Inside.Totals.{cell_load, IsTally};
+ghost use Rattle.pit_plan.specs.Inside.Limits.{by_cell};
+ghost use Rattle.pit_plan.specs.Inside.Touched.{overlaid_item, IsNamed, AreMoved, SetsCell, LooksAt};
 
 use crate::loads::{Loads, plus, shift};
 use crate::schedule::Schedule;
@@ -99,6 +99,7 @@ fn move_block<'a, A: Allocator + Copy + Drop>(
     requires moved { AreMoved pit.now tally.now (take k writes.now) loads.old.kept.now loads.old.pairs }
     ensures { OnOk result (AreMoved pit.now tally.now (take (k + 1) writes.now) loads.new.kept.now loads.new.pairs) }
 {
+    // shows that the pit is sound
     let _blocks = pit.blocks();
     let (block, period) = writes[k];
     shift(pit, loads, block, tally.period(block), false)?;

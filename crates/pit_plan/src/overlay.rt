@@ -3,8 +3,9 @@ ghost use Rattle.std.specs.Prelude.{◌≡◌, ◌≢◌, ◌+◌, ◌*◌, ◌<
 ghost use Rattle.std.specs.Map.{lookup};
 ghost use Rattle.pit_num.specs.Fitting.{RevisionsFit, revisions_of};
 ghost use Rattle.pit_plan.specs.Schedule.{by_block};
-ghost use Rattle.pit_plan.specs.Limits.{cell_limit, by_cell};
-ghost use Rattle.pit_plan.specs.Touched.{overlaid_item};
+ghost use Rattle.pit_plan.specs.Limits.{cell_limit};
+ghost use Rattle.pit_plan.specs.Inside.Limits.{by_cell};
+ghost use Rattle.pit_plan.specs.Inside.Touched.{overlaid_item};
 
 use crate::limits::Limits;
 use crate::schedule::Schedule;

@@ -3,9 +3,9 @@ ghost use Rattle.pit_num.specs.Fitting.{Fits, RevisionsFit, revisions_of};
 ghost use Rattle.pit_model.specs.Pit.{upper_of};
 ghost use Rattle.pit_plan.specs.Schedule.{Commit, held_period, load_of, value_of};
 ghost use Rattle.pit_plan.specs.Standing.{IsPlanOf, period_of, version_of, limit_in_force, Adds};
-ghost use Rattle.pit_plan.specs.InsidePlan.{with_writes};
-ghost use Rattle.pit_plan.specs.Totals.{IsTally, at_cell};
-ghost use Rattle.pit_plan.specs.Limits.{cell_limit};
+ghost use Rattle.pit_plan.specs.Inside.Plan.{with_writes};
+ghost use Rattle.pit_plan.specs.Inside.Totals.{IsTally};
+ghost use Rattle.pit_plan.specs.Limits.{cell_limit, at_cell};
 ghost use Rattle.pit_plan.specs.Breaches.{IsBreachOf, IsGoodNow};
 ghost use Rattle.pit_plan.specs.Shortfalls.{shortfalls_of};
 
@@ -40,7 +40,7 @@ pub struct Plan<A: Allocator + Drop> {
 
 impl<A: Allocator + Drop> Model for Plan<A> {
     ghost use Rattle.pit_plan.specs.Standing.{Standing};
-    ghost use Rattle.pit_plan.specs.InsidePlan.{IsPlanKept};
+    ghost use Rattle.pit_plan.specs.Inside.Plan.{IsPlanKept};
 
     ghost Value = { Standing };
 

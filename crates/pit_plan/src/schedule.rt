@@ -4,10 +4,11 @@ ghost use Rattle.std.specs.List.Sorted.{IsStrictlyIncreasing};
 ghost use Rattle.pit_num.specs.Least.{ComesBefore, IsLeast};
 ghost use Rattle.pit_model.specs.Pit.{lower_of};
 ghost use Rattle.pit_plan.specs.Schedule.{by_block, load_of, earned_in, in_order, is_within};
-ghost use Rattle.pit_plan.specs.Totals.{IsTally, at_cell};
+ghost use Rattle.pit_plan.specs.Inside.Totals.{IsTally};
+ghost use Rattle.pit_plan.specs.Limits.{at_cell};
 ghost use Rattle.pit_plan.specs.Breaches.{IsFirstBreach, IsOutOfOrder, IsOverLimit};
 ghost use Rattle.pit_plan.specs.Shortfalls.{shortfalls_of, shorts_in, short_at};
-ghost use Rattle.pit_plan.specs.InsideSchedule.{IsLate};
+ghost use Rattle.pit_plan.specs.Inside.Schedule.{IsLate};
 
 use crate::breach::Breach;
 use crate::limits::Limits;

@@ -3,8 +3,9 @@ ghost use Rattle.std.specs.Prelude.{◌≡◌, ℕ, ◌*◌, ◌<◌, ◌+ℤ◌
 ghost use Rattle.std.specs.Int.{w128};
 ghost use Rattle.pit_num.specs.Fitting.{Fits};
 ghost use Rattle.pit_plan.specs.Schedule.{by_block, coef_of};
-ghost use Rattle.pit_plan.specs.InsidePlan.{with_writes};
-ghost use Rattle.pit_plan.specs.Totals.{cell_load, at_cell, MovesIn, signed_coef, IsTally};
+ghost use Rattle.pit_plan.specs.Inside.Plan.{with_writes};
+ghost use Rattle.pit_plan.specs.Inside.Totals.{cell_load, MovesIn, signed_coef, IsTally};
+ghost use Rattle.pit_plan.specs.Limits.{at_cell};
 
 use crate::loads::{Loads, plus, shift};
 use crate::schedule::{Schedule, earned};
@@ -22,7 +23,7 @@ pub(crate) struct Tally<A: Allocator + Drop> {
 }
 
 impl<A: Allocator + Drop> Model for Tally<A> {
-    ghost use Rattle.pit_plan.specs.Totals.{Tallied};
+    ghost use Rattle.pit_plan.specs.Inside.Totals.{Tallied};
 
     ghost Value = { Tallied };
 
@@ -74,6 +75,7 @@ impl<A: Allocator + Copy + Drop> Tally<A> {
         ensures periods { self.new.periods ≡ slice_set self.old.periods b None }
         ensures tally { IsTally pit.now self.new }
     {
+        // shows that the pit is sound
         let _blocks = pit.blocks();
         let old = self.periods[b as usize];
         self.periods[b as usize] = None;
@@ -90,6 +92,7 @@ impl<A: Allocator + Copy + Drop> Tally<A> {
         ensures periods { self.new.periods ≡ slice_set self.old.periods b period }
         ensures tally { IsTally pit.now self.new }
     {
+        // shows that the pit is sound
         let _blocks = pit.blocks();
         self.periods[b as usize] = period;
         shift_kept(pit, &mut self.loads, b, period, true);

@@ -1,6 +1,7 @@
 ghost use Rattle.std.specs.Prelude.{◌≡◌, ◌+◌, ◌≤◌, length, [], IsTrue, IsSome, IfSome, IfNone, ◌↔◌};
 ghost use Rattle.std.specs.List.{before_first, after_first, list_any, position};
-ghost use Rattle.pit_num.specs.Decimal.{is_negative, after_sign, after_front_point, is_point, is_e};
+ghost use Rattle.pit_num.specs.Decimal.{is_negative, after_sign, is_point, is_e};
+ghost use Rattle.pit_num.specs.Inside.Decimal.{after_front_point};
 
 /// Whether a minus sign stands in front, and what follows the sign.
 #[inline]

@@ -1,6 +1,7 @@
 ghost use Rattle.std.specs.Prelude.{◌≡◌, ◌+◌, ◌*◌, ◌^◌, ◌<◌, ◌≤◌, ◌++◌, IsTrue, length, if◌then◌else◌};
 ghost use Rattle.std.specs.Str.Parse.{digits_value};
-ghost use Rattle.pit_num.specs.Decimal.{are_digits, below_limit};
+ghost use Rattle.pit_num.specs.Decimal.{are_digits};
+ghost use Rattle.pit_num.specs.Inside.Decimal.{below_limit};
 ghost use Rattle.pit_num.specs.Rounding.{nearest};
 
 use super::digits::digits_value;

@@ -1,7 +1,7 @@
 -- What a plan keeps of its fields.
 use Rattle.std.specs.Prelude.{◌≡◌, ℕ, ◌*◌, ℤ, List, length, Option, slice_set, fold}
 use Rattle.pit_model.specs.Pit.{Pit, IsSound}
-use Rattle.pit_plan.specs.Totals.{Tallied, IsTally}
+use Rattle.pit_plan.specs.Inside.Totals.{Tallied, IsTally}
 
 -- a list by number, in which each number that a pair names has the value of that pair
 unfoldable pub with_writes : {X Y : Type 0} → (ℕ × Y → X) → List X → List (ℕ × Y) → List X

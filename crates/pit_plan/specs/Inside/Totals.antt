@@ -1,15 +1,12 @@
 -- The loads and the value that a plan keeps.
 use Rattle.std.specs.Prelude.{◌≡◌, ◌≢◌, ℕ, ◌*◌, ◌<◌, ℤ, pos, neg_ℤ, ◌+ℤ◌, Bool, nat_eq, List, length, Option, Some, None, slice_index_or, if◌then◌else◌, All, IfSome}
-use Rattle.pit_model.specs.Pit.{Pit, cell_of}
+use Rattle.pit_model.specs.Pit.{Pit}
 use Rattle.pit_plan.specs.Schedule.{by_block, load_of, value_of}
+use Rattle.pit_plan.specs.Limits.{at_cell}
 
 -- the load of a cell, of a list that has one for each
 abbrev pub cell_load : List ℤ → ℕ → ℤ
 cell_load loads cell = slice_index_or loads cell (pos 0)
-
--- what the cell of a resource in a period has
-abbrev pub at_cell : {X : Type 0} → Pit → (ℕ → X) → ℕ → ℕ → X
-at_cell pit cells r t = cells (cell_of pit r t)
 
 -- the loads, by resource and period, are those of the schedule
 abbrev pub AreLoads : Pit → (ℕ → Option ℕ) → (ℕ → ℕ → ℤ) → Type 0

@@ -5,7 +5,8 @@ use Rattle.pit_num.specs.Least.{ComesBefore, IsLeastOf}
 use Rattle.pit_model.specs.Pit.{Pit, cell_of}
 use Rattle.pit_plan.specs.Schedule.{Writes, by_block, is_within}
 use Rattle.pit_plan.specs.Breaches.{IsOutOfOrder}
-use Rattle.pit_plan.specs.Totals.{Tallied, AreLoads, cell_load, at_cell}
+use Rattle.pit_plan.specs.Inside.Totals.{Tallied, AreLoads, cell_load}
+use Rattle.pit_plan.specs.Limits.{at_cell}
 use Rattle.pit_plan.specs.declared.breach.Breach.{Breach}
 use Rattle.pit_plan.specs.declared.breach.Breach.TheVariants.{Precedence, Over}
 
@@ -45,14 +46,14 @@ pub record LooksAt (revised : List (ℕ × Option ℤ)) (kept : List ℤ) (cells
   pub in_range : (k : ℕ) → IsNamed new k → k < length kept
 
 -- by their first numbers, and then their second
-abbrev pub comes_before : ℕ × ℕ → ℕ × ℕ → Bool
-comes_before p q = nat_lt p.0 q.0 || (nat_eq p.0 q.0 && nat_lt p.1 q.1)
+abbrev pub is_lesser : ℕ × ℕ → ℕ × ℕ → Bool
+is_lesser p q = nat_lt p.0 q.0 || (nat_eq p.0 q.0 && nat_lt p.1 q.1)
 
 -- of two pairs the lesser
 abbrev pub lesser_of : Option (ℕ × ℕ) → Option (ℕ × ℕ) → Option (ℕ × ℕ)
 lesser_of None other = other
 lesser_of (Some p) None = Some p
-lesser_of (Some p) (Some q) = if comes_before q p then Some q else Some p
+lesser_of (Some p) (Some q) = if is_lesser q p then Some q else Some p
 
 -- the breach is the least cell whose load is above its limit, with both
 abbrev pub IsLeastOver : Pit → (ℕ → ℕ → Option ℤ) → List (ℕ × ℤ) → Breach → Type 0

@@ -1,5 +1,6 @@
 use Rattle.std.proofs.Common.{◌≡◌, ◌≤◌, ◌^◌, length}
-use Rattle.pit_num.specs.Factor.{factor, AreFactors}
+use Rattle.pit_num.specs.Factor.{factor}
+use Rattle.pit_num.specs.Inside.Factor.{AreFactors}
 use Rattle.pit_num.proofs.discount.table.Given as goal
 
 abbrev pub invariant-loop : goal.invariant-loop

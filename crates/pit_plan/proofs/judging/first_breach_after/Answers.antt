@@ -4,10 +4,10 @@ use Rattle.std.specs.Prelude.{IfNone, IfSome}
 use Rattle.pit_num.specs.Least.{ComesBefore, IsLeast}
 use Rattle.pit_plan.specs.Schedule.{Writes, by_block}
 use Rattle.pit_num.specs.Fitting.{revisions_of}
-use Rattle.pit_plan.specs.Totals.{at_cell}
-use Rattle.pit_plan.specs.Limits.{cell_limit, by_cell}
+use Rattle.pit_plan.specs.Limits.{cell_limit, at_cell}
+use Rattle.pit_plan.specs.Inside.Limits.{by_cell}
 use Rattle.pit_plan.specs.Breaches.{IsGood, IsOutOfOrder}
-use Rattle.pit_plan.specs.Touched.{overlaid_item, IsOutNear, IsOverAt, IsLeastOver}
+use Rattle.pit_plan.specs.Inside.Touched.{overlaid_item, IsOutNear, IsOverAt, IsLeastOver}
 use Rattle.pit_plan.proofs.Good.{ordered-from_none}
 use Rattle.pit_plan.proofs.Touched.{least-after, over-found, moved-looked, revised-looked}
 use Rattle.pit_plan.proofs.judging.first_breach_after.Goals as goal

@@ -2,7 +2,7 @@ use Rattle.std.proofs.Common.{rules, ◌≡◌, [], ◌∷◌, length, None, ref
 use Rattle.std.specs.Prelude.{slice_index_or}
 use Rattle.pit_num.specs.Least.{ComesBefore, IsLeast}
 use Rattle.pit_plan.specs.Schedule.{Writes, by_block}
-use Rattle.pit_plan.specs.Touched.{overlaid_item, IsOutNear}
+use Rattle.pit_plan.specs.Inside.Touched.{overlaid_item, IsOutNear}
 use Rattle.pit_plan.proofs.judging.first_out_after.Goals as goal
 
 -- the one write of a list of one

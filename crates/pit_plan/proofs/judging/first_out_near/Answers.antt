@@ -1,6 +1,6 @@
 use Rattle.std.proofs.Common.{◌+◌, ℕ, Option, None, take, get_or, refl, sym, ap, subst, ◌∙◌}
 use Rattle.pit_num.specs.Least.{ComesBefore, IsLeast}
-use Rattle.pit_plan.specs.Touched.{lesser_of, IsOutNear}
+use Rattle.pit_plan.specs.Inside.Touched.{lesser_of, IsOutNear}
 use Rattle.pit_plan.proofs.Touched.{out-next}
 use Rattle.pit_plan.proofs.judging.first_out_near.Goals as goal
 

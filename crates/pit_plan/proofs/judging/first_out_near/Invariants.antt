@@ -1,6 +1,6 @@
 use Rattle.std.proofs.Common.{take}
 use Rattle.pit_num.specs.Least.{ComesBefore, IsLeast}
-use Rattle.pit_plan.specs.Touched.{IsOutNear}
+use Rattle.pit_plan.specs.Inside.Touched.{IsOutNear}
 use Rattle.pit_plan.proofs.judging.first_out_near.Given as goal
 
 abbrev pub invariant-loop-block : goal.invariant-loop-block

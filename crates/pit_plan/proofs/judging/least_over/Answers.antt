@@ -1,8 +1,8 @@
 use Rattle.std.proofs.Common.{◌+◌, length, take, ap, sym, subst, arith}
 use Rattle.pit_num.specs.Least.{ComesBefore, IsLeast}
 use Rattle.pit_model.specs.Pit.{cell_of}
-use Rattle.pit_plan.specs.Totals.{at_cell}
-use Rattle.pit_plan.specs.Touched.{IsOverAt, IsNamed}
+use Rattle.pit_plan.specs.Limits.{at_cell}
+use Rattle.pit_plan.specs.Inside.Touched.{IsOverAt, IsNamed}
 use Rattle.pit_plan.proofs.Touched.{over-next-cell, over-all-cells}
 use Rattle.pit_plan.proofs.judging.least_over.Goals as goal
 

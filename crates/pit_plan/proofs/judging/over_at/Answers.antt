@@ -4,8 +4,8 @@ use Rattle.std.specs.Map.{lookup}
 use Rattle.pit_num.specs.Least.{ComesBefore, IsLeastOf}
 use Rattle.pit_model.specs.Pit.{cell_of}
 use Rattle.pit_plan.specs.Schedule.{is_within}
-use Rattle.pit_plan.specs.Totals.{at_cell}
-use Rattle.pit_plan.specs.Touched.{IsOverAt}
+use Rattle.pit_plan.specs.Limits.{at_cell}
+use Rattle.pit_plan.specs.Inside.Touched.{IsOverAt}
 use Rattle.pit_plan.proofs.Touched.{cell-over}
 use Rattle.pit_plan.proofs.judging.over_at.Goals as goal
 

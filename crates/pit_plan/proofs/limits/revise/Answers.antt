@@ -2,8 +2,8 @@ use Rattle.std.proofs.Common.{◌<◌, ℕ, ℤ, List, Option, None, get_or, len
 use Rattle.std.specs.Prelude.{slice_set}
 use Rattle.std.proofs.lemmas.List.{take_all}
 use Rattle.pit_num.specs.Fitting.{revisions_of}
-use Rattle.pit_plan.specs.InsidePlan.{with_writes}
-use Rattle.pit_plan.specs.Limits.{by_cell}
+use Rattle.pit_plan.specs.Inside.Plan.{with_writes}
+use Rattle.pit_plan.specs.Inside.Limits.{by_cell}
 use Rattle.pit_plan.proofs.ByCell.{length-cells, cell-at, cell-known}
 use Rattle.pit_plan.proofs.Slots.{with_writes-none, with_writes-more, length-with_writes}
 use Rattle.pit_plan.proofs.limits.revise.Goals as goal

@@ -4,7 +4,8 @@ use Rattle.std.specs.Int.{w128}
 use Rattle.std.proofs.lemmas.List.{take_all}
 use Rattle.pit_model.specs.Pit.{AreCoefs, coefs_of, cell_of}
 use Rattle.pit_plan.specs.Schedule.{coef_in, coef_of}
-use Rattle.pit_plan.specs.Totals.{at_cell, signed_coef, Moves, MovesIn, Raises}
+use Rattle.pit_plan.specs.Inside.Totals.{signed_coef, Moves, MovesIn, Raises}
+use Rattle.pit_plan.specs.Limits.{at_cell}
 use Rattle.pit_plan.proofs.Named.{once-from_rising}
 use Rattle.pit_plan.proofs.Cells.{moves-one, moves-more, room-more}
 use Rattle.pit_plan.proofs.loads.shift.Goals as goal

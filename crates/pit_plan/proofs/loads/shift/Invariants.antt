@@ -1,7 +1,8 @@
 use Rattle.std.proofs.Common.{◌≡◌, take}
 use Rattle.pit_model.specs.Pit.{coefs_of}
 use Rattle.pit_plan.specs.Schedule.{coef_in}
-use Rattle.pit_plan.specs.Totals.{at_cell, Moves, signed_coef}
+use Rattle.pit_plan.specs.Inside.Totals.{Moves, signed_coef}
+use Rattle.pit_plan.specs.Limits.{at_cell}
 use Rattle.pit_plan.proofs.loads.shift.Given as goal
 
 abbrev pub invariant-loop-r : goal.invariant-loop-r

@@ -1,9 +1,9 @@
 use Rattle.std.proofs.Common.{◌≡◌, ◌<◌, ℕ, ℤ, List, Option, None, get_or, length, subst, sym, ap, ◌∙◌, arith}
 use Rattle.std.proofs.lemmas.List.{take_all}
 use Rattle.pit_num.specs.Fitting.{revisions_of}
-use Rattle.pit_plan.specs.Limits.{by_cell}
-use Rattle.pit_plan.specs.Totals.{cell_load}
-use Rattle.pit_plan.specs.Touched.{LooksAt, SetsCell, overlaid_item}
+use Rattle.pit_plan.specs.Inside.Limits.{by_cell}
+use Rattle.pit_plan.specs.Inside.Totals.{cell_load}
+use Rattle.pit_plan.specs.Inside.Touched.{LooksAt, SetsCell, overlaid_item}
 use Rattle.pit_plan.proofs.ByCell.{length-cells, cell-at, cell-known, cell-below}
 use Rattle.pit_plan.proofs.Touched.{looks-none, looks-more}
 use Rattle.pit_plan.proofs.moving.look_at_revised.Goals as goal

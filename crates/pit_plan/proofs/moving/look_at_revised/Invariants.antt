@@ -1,7 +1,7 @@
 use Rattle.std.proofs.Common.{take}
 use Rattle.pit_num.specs.Fitting.{revisions_of}
-use Rattle.pit_plan.specs.Limits.{by_cell}
-use Rattle.pit_plan.specs.Touched.{LooksAt}
+use Rattle.pit_plan.specs.Inside.Limits.{by_cell}
+use Rattle.pit_plan.specs.Inside.Touched.{LooksAt}
 use Rattle.pit_plan.proofs.moving.look_at_revised.Given as goal
 
 abbrev pub invariant-loop-resource : goal.invariant-loop-resource

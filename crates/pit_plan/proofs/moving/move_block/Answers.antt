@@ -1,7 +1,8 @@
 use Rattle.std.proofs.Common.{ℕ, ℤ, List, None, true, false, length, take, get_or, sym, ap, ◌∙◌}
 use Rattle.pit_plan.specs.Schedule.{by_block}
-use Rattle.pit_plan.specs.Totals.{cell_load, at_cell, with_period}
-use Rattle.pit_plan.specs.Touched.{overlaid_item}
+use Rattle.pit_plan.specs.Inside.Totals.{cell_load, with_period}
+use Rattle.pit_plan.specs.Limits.{at_cell}
+use Rattle.pit_plan.specs.Inside.Touched.{overlaid_item}
 use Rattle.pit_plan.proofs.Moved.{shifted, room-for, with_period-here, period-in_range}
 use Rattle.pit_plan.proofs.Touched.{overlaid_item-next, loads-next}
 use Rattle.pit_plan.proofs.moving.move_block.Goals as goal

@@ -1,5 +1,5 @@
 use Rattle.std.proofs.Common.{take}
-use Rattle.pit_plan.specs.Touched.{AreMoved}
+use Rattle.pit_plan.specs.Inside.Touched.{AreMoved}
 use Rattle.pit_plan.proofs.moving.moved_loads.Given as goal
 
 abbrev pub invariant-loop-k : goal.invariant-loop-k

@@ -4,7 +4,7 @@ use Rattle.std.specs.Int.{w128}
 use Rattle.std.proofs.lemmas.Int.{to_z-of_z}
 use Rattle.std.proofs.lemmas.Result.{on_ok_weaker}
 use Rattle.indexmap.specs.IndexMap.{insert_entry}
-use Rattle.pit_plan.specs.Touched.{SetsCell}
+use Rattle.pit_plan.specs.Inside.Touched.{SetsCell}
 use Rattle.pit_plan.proofs.Touched.{sets-written}
 use Rattle.pit_plan.proofs.moving.set_load.Goals as goal
 

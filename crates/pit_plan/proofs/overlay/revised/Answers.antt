@@ -6,7 +6,7 @@ use Rattle.indexmap.specs.IndexMap.{insert_entry}
 use Rattle.indexmap.proofs.CallerLemmas.{insert_entry-new}
 use Rattle.pit_num.specs.Fitting.{revisions_of}
 use Rattle.pit_model.specs.Pit.{cell_of}
-use Rattle.pit_plan.specs.Limits.{by_cell}
+use Rattle.pit_plan.specs.Inside.Limits.{by_cell}
 use Rattle.pit_plan.proofs.Named.{absent-before}
 use Rattle.pit_plan.proofs.ByCell.{once-cells, length-cells, cell-at, cell-known}
 use Rattle.pit_plan.proofs.overlay.revised.Goals as goal

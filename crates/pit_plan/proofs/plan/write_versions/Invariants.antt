@@ -1,5 +1,5 @@
 use Rattle.std.proofs.Common.{◌≡◌, take}
-use Rattle.pit_plan.specs.InsidePlan.{with_writes}
+use Rattle.pit_plan.specs.Inside.Plan.{with_writes}
 use Rattle.pit_plan.proofs.plan.write_versions.Given as goal
 
 abbrev pub invariant-loop-block : goal.invariant-loop-block

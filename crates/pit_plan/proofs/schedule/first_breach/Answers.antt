@@ -3,7 +3,7 @@ use Rattle.std.specs.Int.{w64, w128}
 use Rattle.std.proofs.lemmas.Int.{to_z-of_z}
 use Rattle.pit_num.specs.Least.{ComesBefore, IsLeast}
 use Rattle.pit_plan.specs.Schedule.{by_block}
-use Rattle.pit_plan.specs.Totals.{at_cell}
+use Rattle.pit_plan.specs.Limits.{at_cell}
 use Rattle.pit_plan.specs.Breaches.{IsFirstBreach, IsOutOfOrder, IsOverLimit}
 use Rattle.pit_plan.proofs.Good.{ordered-from_none, within-from_none}
 use Rattle.pit_plan.proofs.schedule.first_breach.Goals as goal

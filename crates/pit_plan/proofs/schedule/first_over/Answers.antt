@@ -2,7 +2,7 @@ use Rattle.std.proofs.Common.{◌<◌, subst, arith}
 use Rattle.pit_num.specs.Least.{IsLeast}
 use Rattle.pit_num.proofs.CallerLemmas.{rows-more, least-row}
 use Rattle.pit_plan.specs.Schedule.{by_block}
-use Rattle.pit_plan.specs.Totals.{at_cell}
+use Rattle.pit_plan.specs.Limits.{at_cell}
 use Rattle.pit_plan.specs.Breaches.{IsOverLimit}
 use Rattle.pit_plan.proofs.schedule.first_over.Goals as goal
 

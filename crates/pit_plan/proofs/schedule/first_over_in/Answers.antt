@@ -2,7 +2,7 @@ use Rattle.std.proofs.Common.{ℕ, subst, sym, ◌∙◌, arith, inl, inr}
 use Rattle.std.proofs.lemmas.Bool.{true≢false}
 use Rattle.std.proofs.lemmas.Bool.Decides.{eqb_tells}
 use Rattle.pit_plan.specs.Schedule.{by_block}
-use Rattle.pit_plan.specs.Totals.{at_cell}
+use Rattle.pit_plan.specs.Limits.{at_cell}
 use Rattle.pit_plan.specs.Breaches.{IsOverLimit}
 use Rattle.pit_plan.proofs.schedule.first_over_in.Goals as goal
 

@@ -1,6 +1,6 @@
 use Rattle.std.proofs.Common.{ℕ, ◌<◌}
 use Rattle.pit_plan.specs.Schedule.{by_block}
-use Rattle.pit_plan.specs.Totals.{at_cell}
+use Rattle.pit_plan.specs.Limits.{at_cell}
 use Rattle.pit_plan.specs.Breaches.{IsOverLimit}
 use Rattle.pit_plan.proofs.schedule.first_over_in.Given as goal
 

@@ -1,5 +1,5 @@
 use Rattle.std.proofs.Common.{sym, subst}
-use Rattle.pit_keyed.specs.Filter.{AreFiltersOf}
+use Rattle.pit_keyed.specs.Inside.Filter.{AreFiltersOf}
 use Rattle.pit_keyed.proofs.Filters.{filters-push}
 use Rattle.pit_keyed.proofs.filtered_set.FilteredSet.add.Goals as goal
 

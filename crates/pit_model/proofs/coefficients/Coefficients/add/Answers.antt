@@ -1,7 +1,7 @@
 use Rattle.std.proofs.Common.{◌∙◌, subst, ℤ, w64, rules, arith}
 use Rattle.std.proofs.lemmas.Int.{to_z-of_z}
 use Rattle.std.proofs.lemmas.List.{with_items_is}
-use Rattle.pit_model.specs.CoefficientRows.{IsPut}
+use Rattle.pit_model.specs.Inside.CoefficientRows.{IsPut}
 use Rattle.pit_model.proofs.CoefficientCells.{always_err, row_len, rows_still, rows_added, pairs_added, AreKept-longer}
 use Rattle.pit_model.proofs.coefficients.Coefficients.add.Goals as goal
 

@@ -1,6 +1,6 @@
 use Rattle.std.proofs.Common.{ℤ, ℕ, List, map, ap, ◌∙◌}
 use Rattle.std.proofs.lemmas.List.{with_items_is}
-use Rattle.pit_model.specs.CoefficientRows.{all_rows, pairs_at}
+use Rattle.pit_model.specs.Inside.CoefficientRows.{all_rows, pairs_at}
 use Rattle.pit_model.proofs.CoefficientCells.{rows_sorted}
 use Rattle.pit_model.proofs.coefficients.Coefficients.sorted.Goals as goal
 

@@ -1,5 +1,5 @@
 use Rattle.std.proofs.Common.{◌<◌, arith, rules}
-use Rattle.pit_model.specs.PredecessorRows.{no_cells, cells_of}
+use Rattle.pit_model.specs.Inside.PredecessorRows.{no_cells, cells_of}
 use Rattle.pit_model.proofs.BlockSets.{below-known}
 use Rattle.pit_model.proofs.PredecessorCells.{OnErr-always, rows_in-same, rows_in-row, ArePredecessorRows-row}
 use Rattle.pit_model.proofs.Rows.{get_or-filled_up}

@@ -1,5 +1,5 @@
 use Rattle.std.proofs.Common.{sym}
-use Rattle.pit_model.specs.PredecessorRows.{cells_of}
+use Rattle.pit_model.specs.Inside.PredecessorRows.{cells_of}
 use Rattle.pit_model.proofs.BlockSets.{length-member_values}
 use Rattle.pit_model.proofs.predecessors.Predecessors.blocks.Goals as goal
 

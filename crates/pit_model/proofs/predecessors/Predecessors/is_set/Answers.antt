@@ -1,5 +1,5 @@
 use Rattle.std.proofs.Common.{◌∙◌}
-use Rattle.pit_model.specs.PredecessorRows.{cells_of}
+use Rattle.pit_model.specs.Inside.PredecessorRows.{cells_of}
 use Rattle.pit_model.proofs.BlockSets.{known-view}
 use Rattle.pit_model.proofs.predecessors.Predecessors.is_set.Goals as goal
 

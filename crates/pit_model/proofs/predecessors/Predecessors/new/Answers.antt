@@ -1,5 +1,5 @@
 use Rattle.std.proofs.Common.{List, Bool, ap, get_or, false}
-use Rattle.pit_model.specs.PredecessorRows.{cells_of}
+use Rattle.pit_model.specs.Inside.PredecessorRows.{cells_of}
 use Rattle.pit_model.proofs.BlockSets.{member_values-none}
 use Rattle.pit_model.proofs.PredecessorCells.{ArePredecessorRows-none}
 use Rattle.pit_model.proofs.predecessors.Predecessors.new.Goals as goal

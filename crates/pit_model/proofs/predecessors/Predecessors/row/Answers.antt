@@ -1,5 +1,5 @@
 use Rattle.std.proofs.Common.{◌≡◌, ◌∙◌, ℕ, List, get_or, sym, ap, ap₂, slice_range}
-use Rattle.pit_model.specs.PredecessorRows.{no_cells}
+use Rattle.pit_model.specs.Inside.PredecessorRows.{no_cells}
 use Rattle.pit_model.specs.declared.predecessors.Row.{Row}
 use Rattle.pit_model.proofs.PredecessorCells.{preds_in-rows}
 use Rattle.pit_model.proofs.predecessors.Predecessors.row.Goals as goal

@@ -1,5 +1,5 @@
 use Rattle.std.proofs.Common.{◌<◌, arith}
-use Rattle.pit_model.specs.PredecessorRows.{cells_of}
+use Rattle.pit_model.specs.Inside.PredecessorRows.{cells_of}
 use Rattle.pit_model.proofs.BlockSets.{below-known}
 use Rattle.pit_model.proofs.PredecessorCells.{rows_in-empty}
 use Rattle.pit_model.proofs.predecessors.Predecessors.set_empty.Goals as goal

@@ -1,5 +1,5 @@
 use Rattle.std.proofs.Common.{◌∙◌}
-use Rattle.pit_model.specs.Profits.{value_in}
+use Rattle.pit_model.specs.Inside.Profits.{value_in}
 use Rattle.pit_model.proofs.BlockSets.{known-view}
 use Rattle.std.proofs.Common.{length}
 use Rattle.pit_model.proofs.profits.Profits.is_set.Goals as goal

@@ -1,6 +1,6 @@
 use Rattle.std.proofs.Common.{◌≡◌, ◌<◌, ◌∙◌, true, None, Some, ℤ, is_some, ap, length, get_or, arith, w64, rules}
 use Rattle.std.proofs.lemmas.Int.{to_z-of_z}
-use Rattle.pit_model.specs.Profits.{value_in}
+use Rattle.pit_model.specs.Inside.Profits.{value_in}
 use Rattle.pit_model.proofs.BlockSets.{below-known}
 use Rattle.pit_model.proofs.KeptProfits.{profit-view}
 use Rattle.pit_model.proofs.profits.Profits.profit.Goals as goal

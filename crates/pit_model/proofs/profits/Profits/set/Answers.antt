@@ -1,6 +1,6 @@
 use Rattle.std.proofs.Common.{◌<◌, ◌∙◌, ℤ, refl, ap, set, arith, length, w64, rules}
 use Rattle.std.proofs.lemmas.Int.{to_z-of_z}
-use Rattle.pit_model.specs.Profits.{value_in, profits_in}
+use Rattle.pit_model.specs.Inside.Profits.{value_in, profits_in}
 use Rattle.pit_model.proofs.BlockSets.{IsWithBlock, IsWithBlock-insert, below-known}
 use Rattle.pit_model.proofs.KeptProfits.{profits_in-set}
 use Rattle.pit_model.proofs.profits.Profits.set.Goals as goal

@@ -2,7 +2,8 @@ use Rattle.std.proofs.Common.{arith, ◌≡◌, ◌<◌, ℤ, ap, ◌∙◌, Som
 use Rattle.std.proofs.lemmas.Grind.{common_steps}
 use Rattle.std.proofs.lemmas.Bool.Decides.{nat_tests}
 use Rattle.pit_num.specs.declared.parse.NumError.{NumError}
-use Rattle.pit_num.specs.Decimal.{micro_of, below_limit, millionths, is_negative, with_sign}
+use Rattle.pit_num.specs.Decimal.{micro_of, millionths, is_negative, with_sign}
+use Rattle.pit_num.specs.Inside.Decimal.{below_limit}
 use Rattle.pit_num.specs.declared.limits.TheConstants.{MICRO_LIMIT}
 use Rattle.pit_num.proofs.Magnitudes.{limit_value, sign_kept}
 use Rattle.pit_num.proofs.parse.micro.general_micro.Goals as goal

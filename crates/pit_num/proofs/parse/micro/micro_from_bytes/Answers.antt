@@ -2,7 +2,8 @@ use Rattle.std.proofs.Common.{arith, ◌≡◌, ◌+◌, ◌-◌, ◌*◌, ◌^�
 use Rattle.std.proofs.lemmas.List.{take_rest}
 use Rattle.pit_num.specs.declared.parse.NumError.{NumError}
 use Rattle.pit_num.specs.declared.limits.TheConstants.{MICRO_LIMIT}
-use Rattle.pit_num.specs.Decimal.{is_negative, with_sign, after_front_point}
+use Rattle.pit_num.specs.Decimal.{is_negative, with_sign}
+use Rattle.pit_num.specs.Inside.Decimal.{after_front_point}
 use Rattle.pit_num.proofs.Digits.{power_le}
 use Rattle.pit_num.proofs.Magnitudes.{sign_kept}
 use Rattle.pit_num.proofs.Plain.{fronts_micro}

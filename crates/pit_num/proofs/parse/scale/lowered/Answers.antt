@@ -1,5 +1,5 @@
 use Rattle.std.proofs.Common.{arith, ◌≡◌, ◌*◌, ◌/◌, ◌^◌, ◌≤◌, sym, ap, ℕ, ◌+◌}
-use Rattle.pit_num.specs.Decimal.{below_limit}
+use Rattle.pit_num.specs.Inside.Decimal.{below_limit}
 use Rattle.pit_num.specs.Rounding.{nearest}
 use Rattle.pit_num.proofs.Digits.{power_le}
 use Rattle.pit_num.proofs.Nearest.{nearest_small, ten_pos}

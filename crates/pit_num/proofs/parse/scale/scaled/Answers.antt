@@ -1,5 +1,5 @@
 use Rattle.std.proofs.Common.{arith, ◌∙◌, sym, ap}
-use Rattle.pit_num.specs.Decimal.{below_limit}
+use Rattle.pit_num.specs.Inside.Decimal.{below_limit}
 use Rattle.pit_num.proofs.Nearest.{scaled_up, scaled_down}
 use Rattle.pit_num.proofs.parse.scale.scaled.Goals as goal
 

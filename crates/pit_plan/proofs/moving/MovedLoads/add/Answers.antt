@@ -2,8 +2,8 @@ use Rattle.std.proofs.Common.{ℤ, ◌+ℤ◌, ◌≡◌, refl, subst, ◌∙◌
 use Rattle.std.specs.Int.{w128}
 use Rattle.std.proofs.lemmas.Int.{to_z-of_z}
 use Rattle.std.proofs.lemmas.Result.{on_ok_weaker}
-use Rattle.pit_plan.specs.Totals.{cell_load}
-use Rattle.pit_plan.specs.Touched.{overlaid_item, SetsCell}
+use Rattle.pit_plan.specs.Inside.Totals.{cell_load}
+use Rattle.pit_plan.specs.Inside.Touched.{overlaid_item, SetsCell}
 use Rattle.pit_plan.proofs.Touched.{raises-cell, named-set}
 use Rattle.pit_plan.proofs.moving.MovedLoads.add.Goals as goal
 

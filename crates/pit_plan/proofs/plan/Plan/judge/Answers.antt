@@ -4,9 +4,9 @@ use Rattle.pit_num.specs.Fitting.{RevisionsFit, revisions_of}
 use Rattle.pit_plan.specs.Schedule.{by_block}
 use Rattle.pit_plan.specs.Standing.{Standing}
 use Rattle.pit_plan.specs.Breaches.{IsGood, IsFirstBreach}
-use Rattle.pit_plan.specs.Totals.{at_cell}
-use Rattle.pit_plan.specs.Limits.{cell_limit, by_cell}
-use Rattle.pit_plan.specs.Touched.{overlaid_item}
+use Rattle.pit_plan.specs.Limits.{cell_limit, at_cell}
+use Rattle.pit_plan.specs.Inside.Limits.{by_cell}
+use Rattle.pit_plan.specs.Inside.Touched.{overlaid_item}
 use Rattle.pit_plan.proofs.Same.{breach-after}
 use Rattle.pit_plan.proofs.plan.Plan.judge.Goals as goal
 

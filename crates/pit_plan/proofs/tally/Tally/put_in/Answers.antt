@@ -2,7 +2,8 @@ use Rattle.std.proofs.Common.{◌≡◌, ◌+ℤ◌, true, refl, None, sym, ◌�
 use Rattle.std.specs.Int.{w128}
 use Rattle.std.proofs.lemmas.Int.{to_z-of_z}
 use Rattle.pit_plan.specs.Schedule.{by_block, earned_in}
-use Rattle.pit_plan.specs.Totals.{Tallied, IsTally, cell_load, at_cell}
+use Rattle.pit_plan.specs.Inside.Totals.{Tallied, IsTally, cell_load}
+use Rattle.pit_plan.specs.Limits.{at_cell}
 use Rattle.pit_plan.proofs.Moved.{put, room-for, sum-in, tally-set}
 use Rattle.pit_plan.proofs.tally.Tally.put_in.Goals as goal
 

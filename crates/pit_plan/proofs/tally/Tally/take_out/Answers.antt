@@ -3,7 +3,8 @@ use Rattle.std.specs.Int.{w128}
 use Rattle.std.proofs.lemmas.Int.{to_z-of_z}
 use Rattle.std.proofs.lemmas.List.{get_or_default}
 use Rattle.pit_plan.specs.Schedule.{by_block, earned_in}
-use Rattle.pit_plan.specs.Totals.{IsTally, cell_load, at_cell}
+use Rattle.pit_plan.specs.Inside.Totals.{IsTally, cell_load}
+use Rattle.pit_plan.specs.Limits.{at_cell}
 use Rattle.pit_plan.proofs.Moved.{taken, room-for, sum-out, period-in_range, tally-set}
 use Rattle.pit_plan.proofs.tally.Tally.take_out.Goals as goal
 

@@ -1,6 +1,6 @@
 use Rattle.std.proofs.Common.{◌≡◌, take}
-use Rattle.pit_plan.specs.InsidePlan.{with_writes}
-use Rattle.pit_plan.specs.Totals.{IsTally}
+use Rattle.pit_plan.specs.Inside.Plan.{with_writes}
+use Rattle.pit_plan.specs.Inside.Totals.{IsTally}
 use Rattle.pit_plan.proofs.tally.Tally.write.Given as goal
 
 abbrev pub invariant-loop-block : goal.invariant-loop-block

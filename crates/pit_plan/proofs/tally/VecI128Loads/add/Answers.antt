@@ -3,7 +3,7 @@ use Rattle.std.specs.Prelude.{replicate, slice_set}
 use Rattle.std.specs.Int.{w128}
 use Rattle.std.proofs.lemmas.Int.{to_z-of_z}
 use Rattle.std.proofs.lemmas.List.{length-replicate}
-use Rattle.pit_plan.specs.Totals.{cell_load, Raises}
+use Rattle.pit_plan.specs.Inside.Totals.{cell_load, Raises}
 use Rattle.pit_plan.proofs.Cells.{raises-set}
 use Rattle.pit_plan.proofs.tally.VecI128Loads.add.Goals as goal
 

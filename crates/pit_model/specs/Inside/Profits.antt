@@ -1,6 +1,6 @@
 -- How the profits of the blocks are kept: a number for each block, and the set of those that have one.
 use Rattle.std.specs.Prelude.{ℕ, ℤ, pos, Bool, List, length, slice_index_or, Option}
-use Rattle.pit_model.specs.BlockSet.{member_values}
+use Rattle.pit_model.specs.Inside.BlockSet.{member_values}
 
 abbrev pub value_in : List ℤ → ℕ → ℤ
 value_in values block = slice_index_or values block (pos 0)

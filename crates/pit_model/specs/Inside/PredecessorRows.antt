@@ -1,6 +1,6 @@
 -- The predecessors of each block, in one array of cells.
 use Rattle.std.specs.Prelude.{◌≡◌, ℕ, ◌≤◌, Bool, false, List, length, slice_index_or, slice_range, Option}
-use Rattle.pit_model.specs.BlockSet.{member_values}
+use Rattle.pit_model.specs.Inside.BlockSet.{member_values}
 use Rattle.pit_model.specs.declared.predecessors.Row.{Row}
 
 -- the row of no cells

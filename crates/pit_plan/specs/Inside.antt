@@ -1,0 +1,6 @@
+-- Definitions that no public contract cites.
+pub mod Plan
+pub mod Schedule
+pub mod Touched
+pub mod Limits
+pub mod Totals
