@@ -3,8 +3,8 @@ use Rattle.std.proofs.Common.{◌≡◌, ℕ, ◌+◌, ◌≤◌, Bool, true, fa
 use Rattle.std.proofs.lemmas.Bool.{true≢false, false≢true}
 use Rattle.std.proofs.lemmas.List.{drop-append-le, length-append}
 use Rattle.pit_script.specs.Jobs.{Job, Progress, no_job, with_fact}
-use Rattle.pit_script.specs.Kept.{jobs_in, last_end, AreEnds, open_steps, progress_in, IsKept}
-use Rattle.pit_script.specs.Lines.{MayStand}
+use Rattle.pit_script.specs.Inside.Kept.{jobs_in, last_end, AreJobEnds, open_steps, progress_in, IsKept}
+use Rattle.pit_script.specs.Inside.Lines.{MayStand}
 use Rattle.pit_script.specs.declared.fact.ScriptFact.{ScriptFact}
 use Rattle.pit_script.specs.declared.fact.ScriptFact.TheVariants.{Begin, Does, Ends}
 use Rattle.pit_script.specs.declared.step.JobEnd.{JobEnd}
@@ -14,7 +14,7 @@ use Rattle.pit_script.proofs.Kept.{length-jobs_in, last_end-within, ends-more_st
 
 -- nothing is kept
 empty : IsKept [] [] false
-unfolding AreEnds last_end
+unfolding AreJobEnds last_end
 empty = record { rising = omega arith; closed = λ h. refl; few = omega arith }
 
 pub kept-none : (steps : List Step) (ends : List (ℕ × JobEnd)) → steps ≡ [] → ends ≡ [] → IsKept steps ends false
@@ -69,7 +69,7 @@ kept-ends steps ends more false how kept inside is = absurd (false≢true inside
 kept-ends steps ends more true how kept inside is =
     let longer : length more ≡ length ends + 1 = ap (λ (es : List (ℕ × JobEnd)). length es) is ∙ length-append ends ((length steps, how) ∷ []) in
     let room : length more + 0 ≤ JOBS_MAX = omega (arith, longer, kept.few) in record {
-      rising = subst (λ (es : List (ℕ × JobEnd)). AreEnds 0 (length steps) es) (sym is) (ends-more 0 (length steps) ends how kept.rising);
+      rising = subst (λ (es : List (ℕ × JobEnd)). AreJobEnds 0 (length steps) es) (sym is) (ends-more 0 (length steps) ends how kept.rising);
       closed = λ h. ap (λ (es : List (ℕ × JobEnd)). last_end 0 es) is ∙ last_end-more 0 (length steps) ends how;
       few = room;
     }

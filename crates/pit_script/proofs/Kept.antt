@@ -4,7 +4,7 @@ use Rattle.std.specs.Prelude.{nat_eq}
 use Rattle.std.proofs.lemmas.Bool.Decides.{eqb_tells}
 use Rattle.std.proofs.lemmas.List.{take-append-le, drop-append-le, take_rest, length-drop}
 use Rattle.pit_script.specs.Jobs.{Job, job_at}
-use Rattle.pit_script.specs.Kept.{jobs_in, last_end, end_at, start_from, AreEnds}
+use Rattle.pit_script.specs.Inside.Kept.{jobs_in, last_end, end_at, start_from, AreJobEnds}
 use Rattle.pit_script.specs.declared.step.JobEnd.{JobEnd}
 use Rattle.pit_script.specs.declared.step.Step.{Step}
 
@@ -13,19 +13,19 @@ unfolding jobs_in
 length-jobs_in steps from [] = refl
 length-jobs_in steps from (end ∷ ends) = let more = length-jobs_in steps end.0 ends in omega (arith, more)
 
-ends-from : (from count : ℕ) (ends : List (ℕ × JobEnd)) → AreEnds from count ends → from ≤ count
-unfolding AreEnds
+ends-from : (from count : ℕ) (ends : List (ℕ × JobEnd)) → AreJobEnds from count ends → from ≤ count
+unfolding AreJobEnds
 ends-from from count [] are = are
 ends-from from count (end ∷ ends) are = let more = ends-from end.0 count ends are.1 in omega (arith, more, are.0)
 
-pub last_end-within : (from count : ℕ) (ends : List (ℕ × JobEnd)) → AreEnds from count ends → last_end from ends ≤ count
-unfolding AreEnds last_end
+pub last_end-within : (from count : ℕ) (ends : List (ℕ × JobEnd)) → AreJobEnds from count ends → last_end from ends ≤ count
+unfolding AreJobEnds last_end
 last_end-within from count [] are = are
 last_end-within from count (end ∷ ends) are = last_end-within end.0 count ends are.1
 
 -- more steps
-pub ends-more_steps : (from count more : ℕ) (ends : List (ℕ × JobEnd)) → count ≤ more → AreEnds from count ends → AreEnds from more ends
-unfolding AreEnds
+pub ends-more_steps : (from count more : ℕ) (ends : List (ℕ × JobEnd)) → count ≤ more → AreJobEnds from count ends → AreJobEnds from more ends
+unfolding AreJobEnds
 ends-more_steps from count more [] low are = omega (arith, are, low)
 ends-more_steps from count more (end ∷ ends) low are = (are.0, ends-more_steps end.0 count more ends low are.1)
 
@@ -36,8 +36,8 @@ part-more steps more from to rises within =
     let part : to - from ≤ length (drop from steps) = omega (arith, rises, within, rest) in
     ap (λ (ss : List Step). take (to - from) ss) (drop-append-le from steps more front) ∙ take-append-le (to - from) (drop from steps) more part
 
-pub jobs_in-more_steps : (steps more : List Step) (from : ℕ) (ends : List (ℕ × JobEnd)) → AreEnds from (length steps) ends → jobs_in (steps ++ more) from ends ≡ jobs_in steps from ends
-unfolding jobs_in AreEnds
+pub jobs_in-more_steps : (steps more : List Step) (from : ℕ) (ends : List (ℕ × JobEnd)) → AreJobEnds from (length steps) ends → jobs_in (steps ++ more) from ends ≡ jobs_in steps from ends
+unfolding jobs_in AreJobEnds
 jobs_in-more_steps steps more from [] are = refl
 jobs_in-more_steps steps more from (end ∷ ends) are =
     let within : end.0 ≤ length steps = ends-from end.0 (length steps) ends are.1 in
@@ -50,8 +50,8 @@ unfolding last_end
 last_end-more from count [] how = refl
 last_end-more from count (end ∷ ends) how = last_end-more end.0 count ends how
 
-pub ends-more : (from count : ℕ) (ends : List (ℕ × JobEnd)) (how : JobEnd) → AreEnds from count ends → AreEnds from count (ends ++ (count, how) ∷ [])
-unfolding AreEnds
+pub ends-more : (from count : ℕ) (ends : List (ℕ × JobEnd)) (how : JobEnd) → AreJobEnds from count ends → AreJobEnds from count (ends ++ (count, how) ∷ [])
+unfolding AreJobEnds
 ends-more from count [] how are = (are, omega arith)
 ends-more from count (end ∷ ends) how are = (are.0, ends-more end.0 count ends how are.1)
 
@@ -88,8 +88,8 @@ job-at steps from (end ∷ ends) (suc i) less =
     (start-next from end ends i ∙ sym (after-first from (end ∷ ends) i))
 
 -- where it begins and ends
-pub job-within : (from count : ℕ) (ends : List (ℕ × JobEnd)) (i : ℕ) → AreEnds from count ends → i < length ends → (start_from from ends i ≤ (end_at ends i).0) × ((end_at ends i).0 ≤ count)
-unfolding AreEnds
+pub job-within : (from count : ℕ) (ends : List (ℕ × JobEnd)) (i : ℕ) → AreJobEnds from count ends → i < length ends → (start_from from ends i ≤ (end_at ends i).0) × ((end_at ends i).0 ≤ count)
+unfolding AreJobEnds
 job-within from count [] i are less = absurd (omega (arith, less))
 job-within from count (end ∷ ends) zero are less = (are.0, ends-from end.0 count ends are.1)
 job-within from count (end ∷ ends) (suc i) are less =

@@ -5,15 +5,15 @@ use Rattle.pit_num.specs.declared.parse.NumError.{NumError}
 use Rattle.pit_model.specs.Pit.{Pit}
 use Rattle.pit_text.specs.Bounds.{upper_bound_of}
 use Rattle.pit_text.specs.Cutting.{Cut}
-use Rattle.pit_text.specs.Numbers.{is_ascii}
+use Rattle.pit_text.specs.Numbers.{is_ascii, or_bad}
 use Rattle.pit_text.specs.Stands.{◌>>=◌, FailsWhole}
 use Rattle.pit_script.specs.Benches.{has_bench}
 use Rattle.pit_script.specs.Jobs.{progress_of, script_line, script_end}
 use Rattle.pit_script.specs.Lines.{no_field, one_field, two_fields, three_fields, in_job, below, begin_line, end_line_of, read_line, clear_line, put_line, shift_line, bench_line, revise_line, line_of_word, line_fact}
-use Rattle.pit_script.specs.Numbers.{or_refused, read_as, shift_of}
+use Rattle.pit_script.specs.Numbers.{read_as, shift_of}
 use Rattle.pit_script.specs.Words.{word_of, or_unknown, word_in}
 use Rattle.pit_script.specs.declared.error.ScriptCause.{ScriptCause}
-use Rattle.pit_script.specs.declared.error.ScriptCause.TheVariants.{NotAscii, UnknownWord, BlockRange, ResourceRange, PeriodRange, Order, NoBench, JobCount, Unended, NoMemory}
+use Rattle.pit_script.specs.declared.error.ScriptCause.TheVariants.{NotAscii, BadNumber, UnknownWord, BlockRange, ResourceRange, PeriodRange, Order, NoBench, JobCount, Unended, NoMemory}
 use Rattle.pit_script.specs.declared.fact.ScriptFact.{ScriptFact}
 use Rattle.pit_script.specs.declared.fact.ScriptFact.TheVariants as says
 use Rattle.pit_script.specs.declared.step.JobEnd.{JobEnd}
@@ -71,12 +71,12 @@ own_unknown (Some word) is = cc
 own_word_in : (field : List ℕ) → IsOwn (word_in field)
 own_word_in field = own_if (is_ascii field) (or_unknown (word_of field)) (Err NotAscii) (own_unknown (word_of field)) own_ascii
 
-own_refused : {X : Type 0} (r : Result X NumError) → IsOwn (or_refused r)
+own_refused : {X : Type 0} (r : Result X NumError) → IsOwn (or_bad BadNumber r)
 own_refused (Ok n) is = cc
 own_refused (Err e) is = cc
 
 own_read : {X : Type 0} (number_of : List ℕ → Result X NumError) (field : List ℕ) → IsOwn (read_as number_of field)
-own_read number_of field = own_if (is_ascii field) (or_refused (number_of field)) (Err NotAscii) (own_refused (number_of field)) own_ascii
+own_read number_of field = own_if (is_ascii field) (or_bad BadNumber (number_of field)) (Err NotAscii) (own_refused (number_of field)) own_ascii
 
 own_below : (count n : ℕ) (cause : ScriptCause) → IsOwn {X = ℕ} (Err cause) → IsOwn (below count n cause)
 own_below count n cause own = own_if (nat_le count n) (Err cause) (Ok n) own (own_ok n)

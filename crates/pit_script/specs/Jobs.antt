@@ -1,10 +1,10 @@
 -- The jobs that a script stands for.
-use Rattle.std.specs.Prelude.{◌≡◌, ◌⊎◌, IsOk, ℕ, List, [], ◌∷◌, ◌++◌, length, Result, Err, Option, Some, None, is_some, unwrap_or, slice_index_or, if◌then◌else◌}
+use Rattle.std.specs.Prelude.{ℕ, List, [], ◌∷◌, ◌++◌, length, Result, Option, Some, None, is_some, unwrap_or, slice_index_or, if◌then◌else◌}
 use Rattle.std.specs.List.{fold}
 use Rattle.pit_model.specs.Pit.{Pit}
 use Rattle.pit_script.specs.Lines.{line_fact}
 use Rattle.pit_script.specs.declared.error.ScriptCause.{ScriptCause}
-use Rattle.pit_script.specs.declared.error.ScriptCause.TheVariants.{Unended, NoMemory}
+use Rattle.pit_script.specs.declared.error.ScriptCause.TheVariants.{Unended}
 use Rattle.pit_script.specs.declared.fact.ScriptFact.{ScriptFact}
 use Rattle.pit_script.specs.declared.fact.ScriptFact.TheVariants.{Begin, Does, Ends}
 use Rattle.pit_script.specs.declared.step.JobEnd.{JobEnd}
@@ -51,7 +51,3 @@ script_line pit earlier fields = fact_in pit (progress_of earlier) fields
 -- the text may end where no job is open
 abbrev pub script_end : List ScriptFact → Option ScriptCause
 script_end facts = if is_some (progress_of facts).current then Some Unended else None
-
--- what is answered of a line that is judged so, where its fact isn't added: want of memory, if it states one, or else what is wrong with it
-abbrev pub IsAnsweredFor : Result ScriptFact ScriptCause → ScriptCause → Type 0
-IsAnsweredFor judged cause = ((cause ≡ NoMemory) × IsOk judged) ⊎ (judged ≡ Err cause)

@@ -1,8 +1,7 @@
 pub mod Words
 pub mod Numbers
 pub mod Benches
-pub mod Parts
 pub mod Lines
 pub mod Jobs
-pub mod Kept
 pub mod Ranges
+pub mod Inside

@@ -1,5 +1,5 @@
 -- What one line of a script says.
-use Rattle.std.specs.Prelude.{◌≡◌, ℕ, ℤ, ◌<◌, Bool, true, false, nat_le, if◌then◌else◌, List, [], ◌∷◌, Result, Ok, Err}
+use Rattle.std.specs.Prelude.{ℕ, ℤ, Bool, nat_le, if◌then◌else◌, List, [], ◌∷◌, Result, Ok, Err}
 use Rattle.pit_num.specs.Decimal.{whole_of, micro_of}
 use Rattle.pit_model.specs.Pit.{Pit}
 use Rattle.pit_text.specs.Bounds.{upper_bound_of}
@@ -110,9 +110,3 @@ line_of_word pit is_open jobs word.Abort fields = end_line_of ending.Abort is_op
 unfoldable pub line_fact : Pit → Bool → ℕ → List (List ℕ) → Result ScriptFact ScriptCause
 line_fact pit is_open jobs [] = Err UnknownWord
 line_fact pit is_open jobs (first ∷ fields) = word_in first >>= (λ word. line_of_word pit is_open jobs word fields)
-
--- where a line may stand: a job begins outside of one, where there is room for it, and all else stands inside of one
-abbrev pub MayStand : Bool → ℕ → ScriptFact → Type 0
-MayStand is_open jobs says.Begin = (is_open ≡ false) × (jobs < JOBS_MAX)
-MayStand is_open jobs (says.Does done) = is_open ≡ true
-MayStand is_open jobs (says.Ends end) = is_open ≡ true

@@ -4,18 +4,14 @@ use Rattle.pit_num.specs.Decimal.{whole_of, after_sign, is_negative}
 use Rattle.pit_num.specs.declared.parse.NumError.{NumError}
 use Rattle.pit_num.specs.declared.parse.NumError.TheVariants.{TooLarge}
 use Rattle.pit_text.specs.Stands.{◌>>=◌}
-use Rattle.pit_text.specs.Numbers.{is_ascii}
+use Rattle.pit_text.specs.Numbers.{field_as}
 use Rattle.pit_script.specs.declared.step.TheConstants.{SHIFT_MAX}
 use Rattle.pit_script.specs.declared.error.ScriptCause.{ScriptCause}
 use Rattle.pit_script.specs.declared.error.ScriptCause.TheVariants.{NotAscii, BadNumber}
 
-abbrev pub or_refused : {X : Type 0} → Result X NumError → Result X ScriptCause
-or_refused (Ok n) = Ok n
-or_refused (Err e) = Err (BadNumber e)
-
 -- what a field is read as, or what is wrong with it
 abbrev pub read_as : {X : Type 0} → (List ℕ → Result X NumError) → List ℕ → Result X ScriptCause
-read_as number_of field = if is_ascii field then or_refused (number_of field) else Err NotAscii
+read_as number_of field = field_as NotAscii BadNumber number_of field
 
 -- whether it goes back, and by how many periods
 abbrev pub with_direction : Bool → ℕ → Result (Bool × ℕ) NumError

@@ -1,10 +1,8 @@
 -- Jobs whose steps are in the ranges of a pit.
-use Rattle.std.specs.Prelude.{◌<◌, List, [], unwrap_or, ⊤}
+use Rattle.std.specs.Prelude.{◌<◌, List}
 use Rattle.std.specs.List.{All}
 use Rattle.pit_model.specs.Pit.{Pit}
-use Rattle.pit_script.specs.Jobs.{Job, Progress}
-use Rattle.pit_script.specs.declared.fact.ScriptFact.{ScriptFact}
-use Rattle.pit_script.specs.declared.fact.ScriptFact.TheVariants.{Begin, Does, Ends}
+use Rattle.pit_script.specs.Jobs.{Job}
 use Rattle.pit_script.specs.declared.step.Step.{Step}
 use Rattle.pit_script.specs.declared.step.Step.TheVariants.{Read, Put, Clear, Shift, Bench, Revise}
 
@@ -21,14 +19,3 @@ IsJobIn pit job = All (IsStepIn pit) job.steps
 
 abbrev pub AreJobsIn : Pit → List Job → Type 0
 AreJobsIn pit jobs = All (IsJobIn pit) jobs
-
--- ---- while a script is read
-
-abbrev pub IsFactIn : Pit → ScriptFact → Type 0
-IsFactIn pit Begin = ⊤
-IsFactIn pit (Does step) = IsStepIn pit step
-IsFactIn pit (Ends end) = ⊤
-
-pub record IsProgressIn (pit : Pit) (at : Progress) : Type 0 where
-  pub jobs : AreJobsIn pit at.jobs
-  pub steps : All (IsStepIn pit) (unwrap_or at.current [])

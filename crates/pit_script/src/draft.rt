@@ -1,6 +1,6 @@
 ghost use Rattle.std.specs.Prelude.{◌≡◌, OnOk, OnErr, is_some, length};
 ghost use Rattle.pit_script.specs.Jobs.{no_job, with_fact};
-ghost use Rattle.pit_script.specs.Lines.{MayStand};
+ghost use Rattle.pit_script.specs.Inside.Lines.{MayStand};
 
 use super::fact::ScriptFact;
 use super::script::Script;
@@ -20,7 +20,7 @@ pub(crate) struct Draft<A: Allocator + Drop> {
 
 impl<A: Allocator + Drop> Model for Draft<A> {
     ghost use Rattle.pit_script.specs.Jobs.{Progress};
-    ghost use Rattle.pit_script.specs.Kept.{progress_in, IsKept};
+    ghost use Rattle.pit_script.specs.Inside.Kept.{progress_in, IsKept};
 
     ghost Value = { Progress };
 

@@ -2,8 +2,9 @@ ghost use Rattle.std.specs.Prelude.{◌≡◌, ◌<◌, ℕ, true, IfOk};
 ghost use Rattle.pit_model.specs.Pit.{Pit};
 ghost use Rattle.pit_text.specs.Left.{fields_left};
 ghost use Rattle.pit_script.specs.Benches.{AreBenchesOf};
-ghost use Rattle.pit_script.specs.Ranges.{IsFactIn};
-ghost use Rattle.pit_script.specs.Lines.{MayStand, line_fact, line_of_word, bench_line, bench_in, revise_line, begin_line, end_line_of, read_line, clear_line, put_line, shift_line, below};
+ghost use Rattle.pit_script.specs.Inside.Ranges.{IsFactIn};
+ghost use Rattle.pit_script.specs.Lines.{line_fact, line_of_word, bench_line, bench_in, revise_line, begin_line, end_line_of, read_line, clear_line, put_line, shift_line, below};
+ghost use Rattle.pit_script.specs.Inside.Lines.{MayStand};
 
 use super::benches::Benches;
 use super::error::ScriptCause;

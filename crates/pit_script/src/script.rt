@@ -2,10 +2,12 @@ ghost use Rattle.std.specs.Prelude.{◌≡◌, ◌≤◌, ◌<◌, ℕ, List, le
 ghost use Rattle.pit_text.specs.Cutting.{cut_of, end_line};
 ghost use Rattle.pit_text.specs.Left.{fields_left};
 ghost use Rattle.pit_text.specs.Stands.{StandsFor, StandsWhole, StopsAt, FailsFirst, FailsWhole};
-ghost use Rattle.pit_script.specs.Jobs.{Job, job_at, jobs_of, progress_of, fact_in, with_fact, script_line, script_end, IsAnsweredFor};
+ghost use Rattle.pit_text.specs.Inside.Stands.{IsCauseOf};
+ghost use Rattle.pit_script.specs.Jobs.{Job, job_at, jobs_of, progress_of, fact_in, with_fact, script_line, script_end};
 ghost use Rattle.pit_script.specs.Benches.{AreBenchesOf};
-ghost use Rattle.pit_script.specs.Kept.{jobs_in, AreEnds, start_from, end_at};
-ghost use Rattle.pit_script.specs.Ranges.{AreJobsIn, IsFactIn, IsProgressIn};
+ghost use Rattle.pit_script.specs.Inside.Kept.{jobs_in, AreJobEnds, start_from, end_at};
+ghost use Rattle.pit_script.specs.Ranges.{AreJobsIn};
+ghost use Rattle.pit_script.specs.Inside.Ranges.{IsFactIn, IsProgressIn};
 ghost use Rattle.pit_script.specs.declared.fact.ScriptFact.{ScriptFact as Fact};
 ghost use Rattle.pit_script.specs.declared.step.TheConstants.{JOBS_MAX as Most};
 
@@ -31,15 +33,16 @@ impl<A: Allocator + Drop> Model for Script<A> {
     ghost use Rattle.std.specs.Prelude.{List, length, ◌≤◌};
     ghost use Rattle.pit_script.specs.Jobs.{Job};
     ghost use Rattle.pit_script.specs.Benches.{AreBenchesOf};
-    ghost use Rattle.pit_script.specs.Kept.{jobs_in, AreEnds, start_from, end_at};
-    ghost use Rattle.pit_script.specs.Ranges.{AreJobsIn, IsFactIn, IsProgressIn};
+    ghost use Rattle.pit_script.specs.Inside.Kept.{jobs_in, AreJobEnds, start_from, end_at};
+    ghost use Rattle.pit_script.specs.Ranges.{AreJobsIn};
+    ghost use Rattle.pit_script.specs.Inside.Ranges.{IsFactIn, IsProgressIn};
     ghost use Rattle.pit_script.specs.declared.step.TheConstants.{JOBS_MAX as Most};
 
     ghost Value = { List Job };
 
     ghost view = { λ s. jobs_in s.steps.items 0 s.ends.items };
 
-    ghost invariant = { λ s. AreEnds 0 (length s.steps.items) s.ends.items × (length s.ends.items ≤ Most) };
+    ghost invariant = { λ s. AreJobEnds 0 (length s.steps.items) s.ends.items × (length s.ends.items ≤ Most) };
 }
 
 impl<A: Allocator + Copy + Drop> Script<A> {
@@ -78,7 +81,7 @@ impl<A: Allocator + Copy + Drop> Script<A> {
     }
 
     pub(crate) fn of(steps: Vec<Step, A>, ends: Vec<(usize, JobEnd), A>) -> Script<A>
-        requires ends { AreEnds 0 (length steps.items) ends.items }
+        requires ends { AreJobEnds 0 (length steps.items) ends.items }
         requires few { length ends.items ≤ Most }
         ensures { result ≡ jobs_in steps.items 0 ends.items }
     {
@@ -97,7 +100,7 @@ impl<A: Allocator + Copy + Drop> Script<A> {
 
 /// The steps of a job, and how it ends.
 fn part_at<'a>(steps: &'a [Step], ends: &[(usize, JobEnd)], i: usize) -> (&'a [Step], JobEnd)
-    requires ends { AreEnds 0 (length steps.now) ends.now }
+    requires ends { AreJobEnds 0 (length steps.now) ends.now }
     requires below { i < length ends.now }
     ensures { job_at (jobs_in steps.now 0 ends.now) i ≡ record { steps = result.0.now; end = result.1 } }
 {
@@ -149,7 +152,7 @@ fn read_line<A: Allocator + Copy + Drop, B: Allocator + Copy + Drop, C: Allocato
     requires { AreBenchesOf pit.now benches.now }
     ensures { MatchResult result
         (λ _. (fact : Fact) × IsFactIn pit.now fact × (fact_in pit.now draft.old (fields_left fields.entry) ≡ Ok fact) × (draft.new ≡ with_fact draft.old fact))
-        (λ cause. IsAnsweredFor (fact_in pit.now draft.old (fields_left fields.entry)) cause) }
+        (λ cause. IsCauseOf ScriptCause.NoMemory (fact_in pit.now draft.old (fields_left fields.entry)) cause) }
 {
     let fact = line_fact(fields, draft.is_open(), draft.jobs(), pit, benches)?;
     let Ok(()) = draft.add(fact) else {

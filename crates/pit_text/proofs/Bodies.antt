@@ -6,7 +6,7 @@ use Rattle.pit_model.specs.Pit.{Pit}
 use Rattle.pit_text.specs.declared.model.section_fact.SectionFact.{SectionFact}
 use Rattle.pit_text.specs.SectionFacts.{with_section_fact}
 use Rattle.pit_text.specs.Model.{Fact, skipped, section, in_section, last_of, sections}
-use Rattle.pit_text.specs.Draft.{IsDraft, IsBody}
+use Rattle.pit_text.specs.Inside.Draft.{IsDraft, IsBody}
 use Rattle.pit_text.proofs.Facts.{same_value, same_section_facts, missing_key-same, pit_of-same, pit_of-section_fact, sections-more, last_of-push}
 use Rattle.pit_text.proofs.Drafts.{draft-same}
 

@@ -2,4 +2,4 @@
 pub use Rattle.pit_text.proofs.OneResult.{one_result, one_whole_result}
 pub use Rattle.pit_text.proofs.Standing.{schedule_of-same}
 pub use Rattle.pit_text.proofs.Wanting.{no_model_wants, no_order_wants, no_block_wants, no_solution_wants}
-pub use Rattle.pit_text.proofs.Reading.{read_more, read_all, read_stands, read_fails, ok_fact}
+pub use Rattle.pit_text.proofs.Reading.{read_more, read_all, read_stops}

@@ -7,7 +7,9 @@ use Rattle.std.proofs.lemmas.List.Sums.{passes_at_first, prefix_len-le-length}
 use Rattle.std.proofs.lemmas.Bool.{cond-true, cond-false}
 use Rattle.std.proofs.lemmas.List.Splits.{slice_split_first}
 use Rattle.std.proofs.lemmas.Bool.Decides.{nat_tests}
-use Rattle.pit_text.specs.Cutting.{lines_of, fields_of, is_gap, without_return, without_empty_last, FieldBegins, begins_with_eof}
+use Rattle.pit_num.specs.Lines.{without_empty_last}
+use Rattle.pit_text.specs.Cutting.{lines_of, fields_of, is_gap, without_return, begins_with_eof}
+use Rattle.pit_text.specs.Inside.Cutting.{FieldBegins}
 
 -- what a first place says
 pub place_is : {X : Type 0} (p : X → Bool) (xs : List X) (at : ℕ) → Some at ≡ position p xs → (at ≡ position_or_len p xs) × (at < length xs)

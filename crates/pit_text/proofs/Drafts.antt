@@ -18,7 +18,7 @@ use Rattle.pit_text.specs.Numbers.{whole_field, decimal_field}
 use Rattle.pit_text.specs.Header.{value_of_key, number_in_range, supported_number, kind_of, rate_of}
 use Rattle.pit_text.specs.Keys.{key_number, section_number, same_section}
 use Rattle.pit_text.specs.Model.{Fact, header, section, header_value, value_in_fact, sections, section_in_fact, last_of, missing_key}
-use Rattle.pit_text.specs.Draft.{IsNumberOf, IsDraft, HasHeader, number_at, missing_key_in}
+use Rattle.pit_text.specs.Inside.Draft.{IsNumberOf, IsDraft, HasHeader, number_at, missing_key_in}
 use Rattle.pit_text.proofs.Facts.{header_value-more, same_value, sections-more, last_of-push}
 
 pub missing_key-draft : (facts : List Fact) (draft : Draft) → IsDraft facts draft → missing_key facts ≡ missing_key_in draft

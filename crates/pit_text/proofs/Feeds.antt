@@ -6,7 +6,7 @@ use Rattle.std.proofs.lemmas.Bool.Decides.{nat_tests}
 use Rattle.std.proofs.lemmas.List.Sums.{position_or_len_is}
 use Rattle.std.proofs.lemmas.Simd.{run_in_chunk_fails}
 use lib.Lanes.{chunk}
-use Rattle.pit_text.specs.Cutting.{HasNoFeedBefore}
+use Rattle.pit_text.specs.Inside.Cutting.{HasNoFeedBefore}
 
 abbrev pub is_feed : ℕ → Bool
 is_feed b = nat_eq b 10

@@ -9,9 +9,9 @@ use Rattle.pit_text.specs.declared.model.key.Key.TheVariants.{Blocks, Periods, R
 use Rattle.pit_text.specs.declared.model.section.Section.{Section}
 use Rattle.pit_text.specs.declared.model.draft.Draft.{Draft}
 use Rattle.pit_text.specs.Cutting.{Cut}
-use Rattle.pit_text.specs.Stands.{IsReadTo}
+use Rattle.pit_text.specs.Inside.Stands.{IsReadTo}
 use Rattle.pit_text.specs.Model.{Fact, skipped, header, section, in_section, sections, section_in_fact, last_of, section_facts, missing_key, model_line, model_end, number_of, header_pit, ModelStops}
-use Rattle.pit_text.specs.Draft.{IsDraft, IsHeaderFact, IsHeader, HasHeader, number_at, IsBody}
+use Rattle.pit_text.specs.Inside.Draft.{IsDraft, IsHeaderFact, IsHeader, HasHeader, number_at, IsBody}
 use Rattle.pit_text.proofs.Reading.{read_more, read_stands}
 use Rattle.pit_text.proofs.Facts.{sections-more, same_value, same_section_facts, missing_key-same, pit_of-header}
 use Rattle.pit_text.proofs.Drafts.{header-whole}

@@ -9,7 +9,8 @@ use Rattle.std.specs.Io.KnownBytes.{Appends}
 use Rattle.pit_num.specs.Printed.{AppendsFront, WritesIfAny}
 use Rattle.pit_num.proofs.CallerLemmas.{appends_nothing, appends_more, front_more, front_after, map_ok, map_err}
 use Rattle.pit_text.specs.Solution.{schedule_of, pair_of}
-use Rattle.pit_text.specs.SolutionText.{line_text, solution_text, slot_text, Gathers}
+use Rattle.pit_text.specs.SolutionText.{line_text, solution_text}
+use Rattle.pit_text.specs.Inside.SolutionText.{slot_text, Gathers}
 use Rattle.pit_text.proofs.Standing.{schedule_of-none, schedule_of-more}
 
 pub ten_digits : (n : ℕ) → n < 2 ^ 32 → length (decimal n) ≤ 10

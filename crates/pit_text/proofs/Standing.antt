@@ -11,7 +11,8 @@ use Rattle.pit_model.specs.declared.error.BuildError.TheVariants.{Repeated}
 use Rattle.pit_text.specs.Stands.{◌>>=◌}
 use Rattle.std.proofs.lemmas.Bool.Decides.{nat_tests}
 use Rattle.std.proofs.lemmas.List.{get_or-set_same, get_or-set_other, get_or_default}
-use Rattle.pit_text.specs.Solution.{AreSlots, period_in, period_in_fact, scheduled_pair, new_to, solution_line, pair_of, schedule_of}
+use Rattle.pit_text.specs.Solution.{period_in, period_in_fact, scheduled_pair, new_to, solution_line, pair_of, schedule_of}
+use Rattle.pit_text.specs.Inside.Solution.{AreSlots}
 use Rattle.pit_text.proofs.Firsts.{or_else, or_else-none, first_value-more}
 
 -- ---- solutions

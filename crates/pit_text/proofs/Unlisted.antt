@@ -10,7 +10,7 @@ use Rattle.pit_text.specs.declared.error.Cause.TheVariants.{Build}
 use Rattle.pit_text.specs.Stands.{◌>>=◌}
 use Rattle.pit_text.specs.Causes.{fact_unless}
 use Rattle.pit_text.specs.Precedence.{new_preds}
-use Rattle.pit_text.specs.Unlisted.{with_block, has_from}
+use Rattle.pit_text.specs.Inside.Unlisted.{with_block, has_from}
 
 abbrev refusal_by : Pit → ℕ → Bool → Option BuildError
 refusal_by pit block is_out =

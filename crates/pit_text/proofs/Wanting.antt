@@ -10,7 +10,7 @@ use Rattle.pit_model.specs.Refusals.{preds_refusal, place_refusal, is_empty_inte
 use Rattle.pit_model.specs.declared.error.BuildError.{BuildError}
 use Rattle.pit_model.specs.declared.error.BuildError.TheVariants.{BlockRange, ResourceRange, PeriodRange, Repeated, Interval, NoMemory}
 use Rattle.pit_text.specs.declared.error.Cause.{Cause}
-use Rattle.pit_text.specs.declared.error.Cause.TheVariants.{NotAscii, MissingHeader, BadHeader, NotCpit, Unsupported, SectionTwice, FieldCount, Build, CountWrong, PartBlock, BadKind, NoMemory as WantsMemory}
+use Rattle.pit_text.specs.declared.error.Cause.TheVariants.{NotAscii, BadNumber, MissingHeader, BadHeader, NotCpit, Unsupported, SectionTwice, FieldCount, Build, CountWrong, PartBlock, BadKind, NoMemory as WantsMemory}
 use Rattle.pit_text.specs.declared.model.key.Key.{Key}
 use Rattle.pit_text.specs.declared.model.key.Key.TheVariants.{Kind, Blocks, Periods, Resources, Rate, Destinations, Generals}
 use Rattle.pit_text.specs.declared.model.section.Section.{Section}
@@ -51,7 +51,7 @@ own_if false r s one other = other
 
 -- ---- numbers
 
-own_bad : {X : Type 0} (r : Result X NumError) → IsOwn (or_bad r)
+own_bad : {X : Type 0} (r : Result X NumError) → IsOwn (or_bad BadNumber r)
 own_bad (Ok n) is = cc
 own_bad (Err e) is = cc
 
@@ -60,19 +60,19 @@ own_ascii is = cc
 
 own_whole : (field : List ℕ) → IsOwn (whole_field field)
 unfolding whole_field
-own_whole field = own_if (is_ascii field) (or_bad (whole_of field)) (Err NotAscii) (own_bad (whole_of field)) own_ascii
+own_whole field = own_if (is_ascii field) (or_bad BadNumber (whole_of field)) (Err NotAscii) (own_bad (whole_of field)) own_ascii
 
 own_decimal : (field : List ℕ) → IsOwn (decimal_field field)
 unfolding decimal_field
-own_decimal field = own_if (is_ascii field) (or_bad (micro_of field)) (Err NotAscii) (own_bad (micro_of field)) own_ascii
+own_decimal field = own_if (is_ascii field) (or_bad BadNumber (micro_of field)) (Err NotAscii) (own_bad (micro_of field)) own_ascii
 
 own_upper : (field : List ℕ) → IsOwn (upper_field field)
 unfolding upper_field
-own_upper field = own_if (is_ascii field) (or_bad (upper_bound_of field)) (Err NotAscii) (own_bad (upper_bound_of field)) own_ascii
+own_upper field = own_if (is_ascii field) (or_bad BadNumber (upper_bound_of field)) (Err NotAscii) (own_bad (upper_bound_of field)) own_ascii
 
 own_lower : (field : List ℕ) → IsOwn (lower_field field)
 unfolding lower_field
-own_lower field = own_if (is_ascii field) (or_bad (lower_bound_of field)) (Err NotAscii) (own_bad (lower_bound_of field)) own_ascii
+own_lower field = own_if (is_ascii field) (or_bad BadNumber (lower_bound_of field)) (Err NotAscii) (own_bad (lower_bound_of field)) own_ascii
 
 -- ---- what the pit refuses
 

@@ -4,8 +4,8 @@ use Rattle.std.specs.Str.{bytes_eq, str_to_ascii_lowercase}
 use Rattle.pit_num.specs.Decimal.{micro_of}
 use Rattle.pit_num.specs.declared.parse.NumError.{NumError}
 use Rattle.pit_text.specs.declared.error.Cause.{Cause}
-use Rattle.pit_text.specs.declared.error.Cause.TheVariants.{NotAscii}
-use Rattle.pit_text.specs.Numbers.{is_ascii, or_bad}
+use Rattle.pit_text.specs.declared.error.Cause.TheVariants.{NotAscii, BadNumber}
+use Rattle.pit_text.specs.Numbers.{field_as}
 
 -- no upper bound, in any ASCII case
 abbrev pub is_infinite : List ℕ → Bool
@@ -34,7 +34,7 @@ unfoldable pub lower_bound_of : List ℕ → Result (Option ℤ) NumError
 lower_bound_of text = if is_negative_infinite text then Ok None else some_bound (micro_of text)
 
 unfoldable pub upper_field : List ℕ → Result (Option ℤ) Cause
-upper_field field = if is_ascii field then or_bad (upper_bound_of field) else Err NotAscii
+upper_field field = field_as NotAscii BadNumber upper_bound_of field
 
 unfoldable pub lower_field : List ℕ → Result (Option ℤ) Cause
-lower_field field = if is_ascii field then or_bad (lower_bound_of field) else Err NotAscii
+lower_field field = field_as NotAscii BadNumber lower_bound_of field

@@ -1,5 +1,5 @@
--- What a refusal of the pit, and want of memory, make of a line.
-use Rattle.std.specs.Prelude.{◌≡◌, ◌⊎◌, Result, Ok, Err, IsOk, Option, Some, None}
+-- What a refusal of the pit makes of a line.
+use Rattle.std.specs.Prelude.{Result, Ok, Err, Option, Some, None}
 use Rattle.pit_model.specs.declared.error.BuildError.{BuildError}
 use Rattle.pit_model.specs.declared.error.BuildError.TheVariants.{BlockRange, ResourceRange, PeriodRange, Repeated, Interval, NoMemory}
 use Rattle.pit_text.specs.declared.error.Cause.{Cause}
@@ -18,7 +18,3 @@ cause_of NoMemory = WantsMemory
 abbrev pub fact_unless : {F : Type 0} → Option BuildError → F → Result F Cause
 fact_unless None fact = Ok fact
 fact_unless (Some refusal) fact = Err (cause_of refusal)
-
--- what is answered of a line that is judged so, where its fact isn't added: want of memory, if it states one, or else what is wrong with it
-abbrev pub IsCauseOf : {F : Type 0} → Result F Cause → Cause → Type 0
-IsCauseOf judged cause = ((cause ≡ WantsMemory) × IsOk judged) ⊎ (judged ≡ Err cause)

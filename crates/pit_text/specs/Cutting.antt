@@ -1,15 +1,10 @@
 -- How a text is cut into lines and fields.
-use Rattle.std.specs.Prelude.{ℕ, ◌+◌, ◌-◌, ◌==◌, ◌<◌, ◌||◌, not, nat_lt, Bool, false, if◌then◌else◌, List, [], ◌∷◌, length, take, map, filter, slice_index, find, unwrap_or, codes, ◌≡◌}
+use Rattle.std.specs.Prelude.{ℕ, ◌+◌, ◌-◌, ◌==◌, ◌||◌, not, nat_lt, Bool, false, if◌then◌else◌, List, [], ◌∷◌, length, take, map, filter, slice_index, find, unwrap_or, codes}
 use Rattle.std.specs.Str.{bytes_eq}
 use Rattle.std.specs.List.{slice_split, before_first, position_or_len, enumerate_from}
+use Rattle.pit_num.specs.Lines.{without_empty_last}
 
 -- ---- lines
-
--- what follows the last line feed is a line if it isn't empty
-abbrev pub without_empty_last : List (List ℕ) → List (List ℕ)
-without_empty_last [] = []
-without_empty_last (x ∷ []) = if length x == 0 then [] else x ∷ []
-without_empty_last (x ∷ y ∷ more) = x ∷ without_empty_last (y ∷ more)
 
 -- one carriage return at the end is taken off
 abbrev pub without_return : List ℕ → List ℕ
@@ -17,10 +12,6 @@ without_return line = if slice_index line (length line - 1) == 13 then take (len
 
 unfoldable pub lines_of : List ℕ → List (List ℕ)
 lines_of text = map without_return (without_empty_last (slice_split (λ b. b == 10) text))
-
--- none of the first n bytes is a line feed
-abbrev pub HasNoFeedBefore : List ℕ → ℕ → Type 0
-HasNoFeedBefore text n = (k : ℕ) → k < n → slice_index text k == 10 ≡ false
 
 -- ---- fields
 
@@ -41,11 +32,6 @@ is_mark b = not (b == 32 || b == 9)
 -- the first of these is a `%`
 abbrev pub is_comment : List ℕ → Bool
 is_comment line = unwrap_or (find is_mark line) 0 == 37
-
--- a field begins here
-abbrev pub FieldBegins : List ℕ → Type 0
-FieldBegins [] = ⊥
-FieldBegins (b ∷ bs) = is_gap b ≡ false
 
 abbrev pub is_eof : List ℕ → Bool
 is_eof field = bytes_eq field (codes "EOF")

@@ -10,10 +10,9 @@ pub mod Causes
 pub mod Added
 pub mod SectionFacts
 pub mod Precedence
-pub mod Unlisted
 pub mod Blocks
 pub mod Solution
 pub mod Model
 pub mod LimitLines
-pub mod Draft
 pub mod SolutionText
+pub mod Inside

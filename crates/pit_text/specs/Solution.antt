@@ -1,5 +1,5 @@
 -- What the lines of a solution say.
-use Rattle.std.specs.Prelude.{◌≡◌, ◌⊎◌, ℕ, ℤ, pos, negsuc, ◌==◌, ◌^◌, nat_le, if◌then◌else◌, List, [], ◌∷◌, length, Result, Ok, Err, Option, Some, None, is_some, IsSome, slice_index_or, ◌<◌}
+use Rattle.std.specs.Prelude.{◌≡◌, ◌⊎◌, ℕ, ℤ, pos, negsuc, ◌==◌, ◌^◌, nat_le, if◌then◌else◌, List, [], ◌∷◌, Result, Ok, Err, Option, Some, None, is_some, IsSome}
 use Rattle.std.specs.List.{filter_map, range_with_len}
 use Rattle.std.specs.Option.{option_map}
 use Rattle.pit_model.specs.declared.error.BuildError.TheVariants.{BlockRange, PeriodRange, Repeated}
@@ -56,11 +56,6 @@ new_to earlier (Some pair) = if is_some (period_in earlier pair.0) then Err (Bui
 
 unfoldable pub solution_line : ℕ → ℕ → List (Option (ℕ × ℕ)) → List (List ℕ) → Result (Option (ℕ × ℕ)) Cause
 solution_line blocks periods earlier fields = scheduled_pair blocks periods fields >>= new_to earlier
-
--- one period or none for each block, as the lines say; or nothing, where they give none
-pub record AreSlots (blocks : ℕ) (facts : List (Option (ℕ × ℕ))) (slots : List (Option ℕ)) : Type 0 where
-  pub count : (slots ≡ []) ⊎ (length slots ≡ blocks)
-  pub each : (b : ℕ) → b < blocks → slice_index_or slots b None ≡ period_in facts b
 
 -- each block that has a period, beside it, by rising block
 abbrev pub pair_of : (ℕ → Option ℕ) → ℕ → Option (ℕ × ℕ)

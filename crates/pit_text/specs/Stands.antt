@@ -26,12 +26,6 @@ StatesAfter judge earlier (line ∷ lines) (fact ∷ facts) =
 abbrev pub StandsFor : {F C : Type 0} → Judge F C → List Cut → List F → Type 0
 StandsFor judge lines facts = StatesAfter judge [] lines facts
 
--- of a list of lines those in front were read, and state these facts
-pub record IsReadTo {F C : Type 0} (judge : Judge F C) (lines left : List Cut) (facts : List F) : Type 0 where
-  pub done : List Cut
-  pub cut : lines ≡ done ++ left
-  pub stands : StandsFor judge done facts
-
 -- The fault is that of the first line that fails: those before it stand for facts.
 pub record FailsFirst {F C : Type 0} (judge : Judge F C) (lines : List Cut) (place : ℕ) (cause : C) : Type 0 where
   pub before : List Cut

@@ -2,7 +2,7 @@ ghost use Rattle.std.specs.Prelude.{◌≡◌, ℕ, ℤ, List, Ok, Err, MatchRes
 ghost use Rattle.pit_text.specs.Cutting.{cut_of};
 ghost use Rattle.pit_text.specs.Left.{fields_left};
 ghost use Rattle.pit_text.specs.Stands.{StandsFor, StopsAt, FailsFirst};
-ghost use Rattle.pit_text.specs.Causes.{IsCauseOf};
+ghost use Rattle.pit_text.specs.Inside.Stands.{IsCauseOf};
 ghost use Rattle.pit_text.specs.Blocks.{place_line, with_place_fact, place_fact, pit_with_places, block_line};
 
 use super::cutting::{Fields, Lines};
@@ -38,7 +38,7 @@ fn read_line<A: Allocator + Copy + Drop>(
 ) -> Result<(), Cause>
     ensures { MatchResult result
         (λ _. (fact : ℕ × (ℤ × ℤ × ℤ)) × (place_fact builder.old (fields_left fields.entry) ≡ Ok fact) × (builder.new ≡ with_place_fact builder.old fact))
-        (λ cause. IsCauseOf (place_fact builder.old (fields_left fields.entry)) cause) }
+        (λ cause. IsCauseOf Cause.NoMemory (place_fact builder.old (fields_left fields.entry)) cause) }
 {
     let (block, (x, y, z)) = place(fields)?;
     builder.set_place(block, x, y, z)?;

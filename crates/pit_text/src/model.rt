@@ -2,11 +2,11 @@
 ghost use Rattle.std.specs.Prelude.{◌≡◌, ◌≢◌, ◌∷◌, ◌++◌, [], List, Ok, Err, None, Some, MatchResult, ◌⊎◌};
 ghost use Rattle.pit_text.specs.Cutting.{cut_of, end_line};
 ghost use Rattle.pit_text.specs.Left.{fields_left, lines_left, end_left};
-ghost use Rattle.pit_text.specs.Stands.{StandsWhole, FailsWhole, IsReadTo};
-ghost use Rattle.pit_text.specs.Causes.{IsCauseOf};
+ghost use Rattle.pit_text.specs.Stands.{StandsWhole, FailsWhole};
+ghost use Rattle.pit_text.specs.Inside.Stands.{IsReadTo, IsCauseOf};
 ghost use Rattle.pit_text.specs.SectionFacts.{with_section_fact};
 ghost use Rattle.pit_text.specs.Model.{Fact, in_section, section_fact_line, model_line, model_end, pit_of, ModelStops};
-ghost use Rattle.pit_text.specs.Draft.{IsDraft, IsHeader, IsHeaderFact, IsBody, HasHeader};
+ghost use Rattle.pit_text.specs.Inside.Draft.{IsDraft, IsHeader, IsHeaderFact, IsBody, HasHeader};
 
 mod bound;
 mod draft;
@@ -114,7 +114,7 @@ fn read_line<A: Allocator + Copy + Drop>(
     requires { draft.old.section ≢ None }
     ensures { (facts : List Fact) → IsBody facts draft.old builder.old → MatchResult result
         (λ _. (fact : Fact) × (model_line facts (fields_left fields.entry) ≡ Ok fact) × IsBody (facts ++ fact ∷ []) draft.new builder.new × (draft.new.section ≢ None))
-        (λ cause. IsCauseOf (model_line facts (fields_left fields.entry)) cause) }
+        (λ cause. IsCauseOf Cause.NoMemory (model_line facts (fields_left fields.entry)) cause) }
 {
     let Some(first) = fields.next() else {
         return Ok(());
@@ -137,7 +137,7 @@ fn read_section_fact<A: Allocator + Copy + Drop>(
 ) -> Result<(), Cause>
     ensures { (facts : List Fact) → builder.old ≡ pit_of facts → MatchResult result
         (λ _. (said : SectionFact) × (section_fact_line facts section (first.now ∷ fields_left fields.entry) ≡ Ok (in_section said)) × (builder.new ≡ with_section_fact builder.old said))
-        (λ cause. IsCauseOf (section_fact_line facts section (first.now ∷ fields_left fields.entry)) cause) }
+        (λ cause. IsCauseOf Cause.NoMemory (section_fact_line facts section (first.now ∷ fields_left fields.entry)) cause) }
 {
     let said = section_fact_of(section, first, fields)?;
     add(builder, said)?;

@@ -2,8 +2,8 @@ ghost use Rattle.std.specs.Prelude.{◌≡◌, ◌==◌, ℕ, List, length, Ok, 
 ghost use Rattle.pit_text.specs.Cutting.{cut_of};
 ghost use Rattle.pit_text.specs.Left.{fields_left};
 ghost use Rattle.pit_text.specs.Stands.{StandsFor, StopsAt, FailsFirst};
-ghost use Rattle.pit_text.specs.Unlisted.{with_block, has_from};
-ghost use Rattle.pit_text.specs.Causes.{IsCauseOf};
+ghost use Rattle.pit_text.specs.Inside.Unlisted.{with_block, has_from};
+ghost use Rattle.pit_text.specs.Inside.Stands.{IsCauseOf};
 ghost use Rattle.pit_text.specs.Precedence.{wholes_of, preds_line, with_preds_fact, preds_fact, pit_with_preds, precedence_line};
 
 use super::cutting::{Fields, Lines};
@@ -44,7 +44,7 @@ fn read_line<A: Allocator + Copy + Drop, B: Allocator + Drop>(
 ) -> Result<(), Cause>
     ensures { MatchResult result
         (λ _. (fact : ℕ × List ℕ) × (preds_fact builder.old (fields_left fields.entry) ≡ Ok fact) × (builder.new ≡ with_preds_fact builder.old fact))
-        (λ cause. IsCauseOf (preds_fact builder.old (fields_left fields.entry)) cause) }
+        (λ cause. IsCauseOf Cause.NoMemory (preds_fact builder.old (fields_left fields.entry)) cause) }
 {
     match add_line(builder, listed, fields) {
         Ok(()) => Ok(()),

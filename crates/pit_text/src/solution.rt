@@ -3,7 +3,8 @@ ghost use Rattle.pit_num.specs.Fitting.{IsSchedule};
 ghost use Rattle.pit_text.specs.Cutting.{cut_of, end_line};
 ghost use Rattle.pit_text.specs.Left.{fields_left};
 ghost use Rattle.pit_text.specs.Stands.{StandsFor, FailsFirst};
-ghost use Rattle.pit_text.specs.Solution.{pair_in_range, mined_pair, scheduled_pair, solution_line, AreSlots, period_in, schedule_of, SolutionStops};
+ghost use Rattle.pit_text.specs.Solution.{pair_in_range, mined_pair, scheduled_pair, solution_line, period_in, schedule_of, SolutionStops};
+ghost use Rattle.pit_text.specs.Inside.Solution.{AreSlots};
 
 use super::cutting::{Fields, Lines};
 use super::error::{Cause, TextError};

@@ -1,7 +1,8 @@
 ghost use Rattle.std.specs.Prelude.{◌≡◌, ◌+◌, ◌<◌, ◌≤◌, ◌++◌, None, IsTrue, OnErr, IfOk, length, take, drop, slice_index_or};
 ghost use Rattle.pit_num.specs.Printed.{AppendsFront, WritesIfAny};
 ghost use Rattle.pit_text.specs.Solution.{schedule_of};
-ghost use Rattle.pit_text.specs.SolutionText.{line_text, slot_text, solution_text, Gathers};
+ghost use Rattle.pit_text.specs.SolutionText.{line_text, solution_text};
+ghost use Rattle.pit_text.specs.Inside.SolutionText.{slot_text, Gathers};
 
 use itoa::write_digits;
 use pit_num::{Sink, WriteFault, write_text};

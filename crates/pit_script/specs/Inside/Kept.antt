@@ -24,9 +24,9 @@ abbrev pub start_from : ℕ → List (ℕ × JobEnd) → ℕ → ℕ
 start_from from ends i = if nat_eq i 0 then from else (end_at ends (i - 1)).0
 
 -- the ends don't fall, and none is past the last step
-unfoldable pub AreEnds : ℕ → ℕ → List (ℕ × JobEnd) → Type 0
-AreEnds from count [] = from ≤ count
-AreEnds from count (end ∷ ends) = (from ≤ end.0) × AreEnds end.0 count ends
+unfoldable pub AreJobEnds : ℕ → ℕ → List (ℕ × JobEnd) → Type 0
+AreJobEnds from count [] = from ≤ count
+AreJobEnds from count (end ∷ ends) = (from ≤ end.0) × AreJobEnds end.0 count ends
 
 abbrev pub open_count : Bool → ℕ
 open_count is_open = if is_open then 1 else 0
@@ -38,6 +38,6 @@ abbrev pub progress_in : List Step → List (ℕ × JobEnd) → Bool → Progres
 progress_in steps ends is_open = record { jobs = jobs_in steps 0 ends; current = open_steps is_open (drop (last_end 0 ends) steps) }
 
 pub record IsKept (steps : List Step) (ends : List (ℕ × JobEnd)) (is_open : Bool) : Type 0 where
-  pub rising : AreEnds 0 (length steps) ends
+  pub rising : AreJobEnds 0 (length steps) ends
   pub closed : is_open ≡ false → last_end 0 ends ≡ length steps
   pub few : length ends + open_count is_open ≤ JOBS_MAX

@@ -1,7 +1,7 @@
 ghost use Rattle.std.specs.Prelude.{◌≡◌, ◌+◌, ◌≤◌, not, ◌==◌, length};
 ghost use Rattle.std.specs.List.{position, prefix_len};
 ghost use Rattle.std.specs.Simd.Lanes.{chunk};
-ghost use Rattle.pit_text.specs.Cutting.{HasNoFeedBefore};
+ghost use Rattle.pit_text.specs.Inside.Cutting.{HasNoFeedBefore};
 
 use std::simd::prelude::*;
 

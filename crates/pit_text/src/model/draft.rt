@@ -22,7 +22,7 @@ pub(crate) struct Draft {
 }
 
 impl Draft {
-    ghost use Rattle.pit_text.specs.Draft.{IsDraft, HasHeader, number_at, missing_key_in};
+    ghost use Rattle.pit_text.specs.Inside.Draft.{IsDraft, HasHeader, number_at, missing_key_in};
 
     pub(crate) fn new() -> Draft
         ensures { IsDraft [] result }

@@ -1,5 +1,5 @@
 use Rattle.std.proofs.Common.{rules, arith, ℕ, ◌-◌, ◌≤◌, sym, subst, ◌∙◌, ap, length, take, drop}
-use Rattle.pit_script.specs.Kept.{end_at}
+use Rattle.pit_script.specs.Inside.Kept.{end_at}
 use Rattle.pit_script.proofs.Kept.{job-at, job-within}
 use Rattle.pit_script.proofs.script.part_at.Goals as goal
 

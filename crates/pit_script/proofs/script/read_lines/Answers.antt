@@ -1,11 +1,13 @@
 use Rattle.std.proofs.Common.{[], Result, refl, ap, sym, ◌∙◌, subst}
 use Rattle.pit_text.specs.Cutting.{cut_of}
 use Rattle.pit_text.specs.Left.{cut_seen, fields_left, lines_left}
-use Rattle.pit_text.proofs.CallerLemmas.{read_more, read_all}
-use Rattle.pit_script.specs.Jobs.{Progress, with_fact, fact_in, script_line, IsAnsweredFor}
+use Rattle.pit_text.specs.Inside.Stands.{IsCauseOf}
+use Rattle.pit_text.proofs.CallerLemmas.{read_more, read_all, read_stops}
+use Rattle.pit_script.specs.Jobs.{Progress, with_fact, fact_in, script_line}
 use Rattle.pit_script.specs.declared.error.ScriptCause.{ScriptCause}
+use Rattle.pit_script.specs.declared.error.ScriptCause.TheVariants.{NoMemory}
 use Rattle.pit_script.specs.declared.fact.ScriptFact.{ScriptFact}
-use Rattle.pit_script.proofs.Progressing.{progress_of-none, progress_of-more, judged, script_stops}
+use Rattle.pit_script.proofs.Progressing.{progress_of-none, progress_of-more, judged}
 use Rattle.pit_script.proofs.Ranging.{in_range-begins, in_range-more}
 use Rattle.pit_script.proofs.script.read_lines.Goals as goal
 
@@ -41,8 +43,8 @@ returns-in-Err-clause-result g c =
     let was = c.loop-line.invariant.facts in
     let pit = c.args.pit.now in
     let fields = fields_left c.in-Some.line.fields in
-    script_stops pit (cut_of c.args.text.now) (lines_left c.loop-line.lines) (lines_left c.next.new.self) (cut_seen c.in-Some.line) was.0 c.in-Err.cause was.1 c.in-Some.ensures.steps.0
-    (subst (λ (r : Result ScriptFact ScriptCause). IsAnsweredFor r c.in-Err.cause)
+    read_stops NoMemory (script_line pit) (cut_of c.args.text.now) (lines_left c.loop-line.lines) (lines_left c.next.new.self) (cut_seen c.in-Some.line) was.0 c.in-Err.cause was.1 c.in-Some.ensures.steps.0
+    (subst (λ (r : Result ScriptFact ScriptCause). IsCauseOf NoMemory r c.in-Err.cause)
     (sym (judged pit c.loop-line.draft was.0 fields (fact_in pit c.loop-line.draft fields) was.2 refl)) c.in-Err.ensures)
 
 pub returns-clause-result : goal.returns-clause-result

@@ -1,9 +1,9 @@
 use Rattle.std.proofs.Common.{◌≡◌, List, length}
 use Rattle.pit_text.specs.Cutting.{cut_of, end_line}
 use Rattle.pit_text.specs.Left.{lines_left, end_left}
-use Rattle.pit_text.specs.Stands.{IsReadTo}
+use Rattle.pit_text.specs.Inside.Stands.{IsReadTo}
 use Rattle.pit_script.specs.Jobs.{progress_of, script_line}
-use Rattle.pit_script.specs.Ranges.{IsProgressIn}
+use Rattle.pit_script.specs.Inside.Ranges.{IsProgressIn}
 use Rattle.pit_script.specs.declared.fact.ScriptFact.{ScriptFact}
 use Rattle.pit_script.proofs.script.read_lines.Given as goal
 

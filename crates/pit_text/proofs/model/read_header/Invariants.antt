@@ -1,8 +1,8 @@
 use Rattle.std.proofs.Common.{◌≡◌, List, [], None, length}
 use Rattle.pit_text.specs.Left.{lines_left, end_left}
-use Rattle.pit_text.specs.Stands.{IsReadTo}
+use Rattle.pit_text.specs.Inside.Stands.{IsReadTo}
 use Rattle.pit_text.specs.Model.{Fact, section_facts, model_line}
-use Rattle.pit_text.specs.Draft.{IsDraft}
+use Rattle.pit_text.specs.Inside.Draft.{IsDraft}
 use Rattle.pit_text.proofs.model.read_header.Given as goal
 
 abbrev pub invariant-loop-line : goal.invariant-loop-line

@@ -1,8 +1,9 @@
 use Rattle.std.proofs.Common.{ap, sym, ◌∙◌, inr, subst, Result}
 use Rattle.pit_text.specs.Left.{fields_left}
 use Rattle.pit_text.specs.Model.{Fact, skipped, section, in_section, model_line}
-use Rattle.pit_text.specs.Causes.{IsCauseOf}
+use Rattle.pit_text.specs.Inside.Stands.{IsCauseOf}
 use Rattle.pit_text.specs.declared.error.Cause.{Cause}
+use Rattle.pit_text.specs.declared.error.Cause.TheVariants.{NoMemory}
 use Rattle.pit_text.proofs.ModelLines.{line_empty, line_section, line_section_fact, match_map}
 use Rattle.pit_text.proofs.Bodies.{body-section, body-skipped, body-section_fact, is_begun, not_none}
 use Rattle.pit_text.proofs.model.read_line.Goals as goal
@@ -27,5 +28,5 @@ returns g c = λ facts is.
     let line = ap (λ fs. model_line facts fs) c.in-Some.ensures.steps ∙ line_section_fact facts c.in-Some.first.now (fields_left c.next.new.self) s (sym c.section_of.ensures ∙ c.in_default-section_of.is) inside in
     match_map c.read_section_fact.result
     (λ _ ok. (in_section ok.0, line ∙ ok.1, body-section_fact facts ok.0 c.args.draft.now c.args.builder.now c.read_section_fact.new.builder is ok.2, c.requires))
-    (λ cause err. subst (λ (r : Result Fact Cause). IsCauseOf r cause) (sym line) err)
+    (λ cause err. subst (λ (r : Result Fact Cause). IsCauseOf NoMemory r cause) (sym line) err)
     (c.read_section_fact.ensures facts is.says)

@@ -1,9 +1,9 @@
 use Rattle.std.proofs.Common.{◌≡◌, List, [], None, length}
 use Rattle.pit_text.specs.Cutting.{cut_of}
 use Rattle.pit_text.specs.Left.{lines_left}
-use Rattle.pit_text.specs.Stands.{IsReadTo}
+use Rattle.pit_text.specs.Inside.Stands.{IsReadTo}
 use Rattle.pit_text.specs.Model.{Fact, model_line}
-use Rattle.pit_text.specs.Draft.{IsBody}
+use Rattle.pit_text.specs.Inside.Draft.{IsBody}
 use Rattle.pit_text.proofs.model.read_model.Given as goal
 
 abbrev pub invariant-loop-line : goal.invariant-loop-line

@@ -1,7 +1,7 @@
 use Rattle.std.proofs.Common.{◌≡◌, ℕ, List, length}
 use Rattle.pit_text.specs.Cutting.{cut_of}
 use Rattle.pit_text.specs.Left.{lines_left}
-use Rattle.pit_text.specs.Stands.{IsReadTo}
+use Rattle.pit_text.specs.Inside.Stands.{IsReadTo}
 use Rattle.pit_text.specs.Precedence.{precedence_line, pit_with_preds}
 use Rattle.pit_text.proofs.precedence.read_precedence.Given as goal
 

@@ -1,6 +1,7 @@
 use Rattle.std.proofs.Common.{◌≡◌, ◌<◌, ℕ, Option, Some, None, Ok, is_some, true, inl, inr, refl, ap, sym, ◌∙◌, slice_index_or, List}
 use Rattle.pit_text.specs.Left.{fields_left}
-use Rattle.pit_text.specs.Solution.{period_in, AreSlots}
+use Rattle.pit_text.specs.Solution.{period_in}
+use Rattle.pit_text.specs.Inside.Solution.{AreSlots}
 use Rattle.pit_text.proofs.Standing.{some_of, slots_made, slots_more, slots_same, slot_is, is_none, line_none, line_new, line_again, line_bad}
 use Rattle.pit_text.proofs.solution.read_line.Goals as goal
 

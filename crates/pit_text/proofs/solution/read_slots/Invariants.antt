@@ -1,8 +1,9 @@
 use Rattle.std.proofs.Common.{◌≡◌, ℕ, List, Option, length}
 use Rattle.pit_text.specs.Cutting.{cut_of, end_line}
 use Rattle.pit_text.specs.Left.{lines_left, end_left}
-use Rattle.pit_text.specs.Stands.{IsReadTo}
-use Rattle.pit_text.specs.Solution.{solution_line, AreSlots}
+use Rattle.pit_text.specs.Inside.Stands.{IsReadTo}
+use Rattle.pit_text.specs.Solution.{solution_line}
+use Rattle.pit_text.specs.Inside.Solution.{AreSlots}
 use Rattle.pit_text.proofs.solution.read_slots.Given as goal
 
 abbrev pub invariant-loop-line : goal.invariant-loop-line

@@ -2,7 +2,8 @@ use Rattle.std.proofs.Common.{◌≡◌, ℕ, List, Option, None, inl, inr, refl
 use Rattle.pit_num.specs.Fitting.{IsSchedule}
 use Rattle.pit_text.specs.Cutting.{cut_of}
 use Rattle.pit_text.specs.Stands.{StandsFor}
-use Rattle.pit_text.specs.Solution.{schedule_of, period_in, solution_line, AreSlots}
+use Rattle.pit_text.specs.Solution.{schedule_of, period_in, solution_line}
+use Rattle.pit_text.specs.Inside.Solution.{AreSlots}
 use Rattle.pit_text.proofs.Standing.{schedule_of-slots, slots-some}
 use Rattle.pit_text.proofs.Solutions.{period-range, schedule_of-is_schedule}
 use Rattle.pit_text.proofs.solution.read_solution.Goals as goal

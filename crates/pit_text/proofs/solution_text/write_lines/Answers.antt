@@ -1,7 +1,8 @@
 use Rattle.std.proofs.Common.{rules, ◌≡◌, ℕ, ◌+◌, ◌++◌, [], List, None, Option, length, take, slice_index_or, ap, sym, ◌∙◌, subst, arith, refl}
 use Rattle.pit_num.proofs.CallerLemmas.{failed_early_if_any}
 use Rattle.pit_text.specs.Solution.{schedule_of}
-use Rattle.pit_text.specs.SolutionText.{slot_text, solution_text, Gathers}
+use Rattle.pit_text.specs.SolutionText.{solution_text}
+use Rattle.pit_text.specs.Inside.SolutionText.{slot_text, Gathers}
 use Rattle.pit_text.proofs.SolutionTexts.{text_none, text_more, text_grows, gathers_none, gathers_more, gathers_front, has_line, none_held, held_of_some, last_written, untouched_more}
 use Rattle.pit_text.proofs.solution_text.write_lines.Goals as goal
 

@@ -1,6 +1,7 @@
 use Rattle.std.proofs.Common.{◌≡◌, ◌≤◌, None, [], length, take, slice_index_or}
 use Rattle.pit_text.specs.Solution.{schedule_of}
-use Rattle.pit_text.specs.SolutionText.{solution_text, Gathers}
+use Rattle.pit_text.specs.SolutionText.{solution_text}
+use Rattle.pit_text.specs.Inside.SolutionText.{Gathers}
 use Rattle.pit_text.proofs.solution_text.write_lines.Given as goal
 
 abbrev pub invariant-loop-block : goal.invariant-loop-block

@@ -1,6 +1,6 @@
 use Rattle.std.proofs.Common.{◌≡◌, ℕ, [], ◌∷◌, ◌++◌, ap, sym, ◌∙◌, length, rules}
 use Rattle.std.specs.Vec.{vec_len}
-use Rattle.pit_script.specs.Kept.{progress_in}
+use Rattle.pit_script.specs.Inside.Kept.{progress_in}
 use Rattle.pit_script.specs.declared.fact.ScriptFact.TheVariants.{Does, Ends}
 use Rattle.pit_script.proofs.Drafts.{kept-begins, kept-does, kept-ends, progress-does, progress-ends, may-begin, open-does, open-ends, added}
 use Rattle.pit_script.proofs.draft.Draft.add.Goals as goal

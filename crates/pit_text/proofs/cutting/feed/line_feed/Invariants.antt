@@ -1,5 +1,5 @@
 use Rattle.std.proofs.Common.{◌-◌, ◌≤◌, length}
-use Rattle.pit_text.specs.Cutting.{HasNoFeedBefore}
+use Rattle.pit_text.specs.Inside.Cutting.{HasNoFeedBefore}
 use Rattle.pit_text.proofs.cutting.feed.line_feed.Given as goal
 
 abbrev pub invariant-loop-from : goal.invariant-loop-from

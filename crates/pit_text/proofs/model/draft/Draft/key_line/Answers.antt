@@ -2,7 +2,7 @@ use Rattle.std.proofs.Common.{◌≡◌, ◌++◌, ◌∷◌, [], ℕ, List, Som
 use Rattle.pit_text.specs.Left.{fields_left}
 use Rattle.pit_text.specs.Header.{value_of_key}
 use Rattle.pit_text.specs.Model.{header, header_value, key_line}
-use Rattle.pit_text.specs.Draft.{IsDraft}
+use Rattle.pit_text.specs.Inside.Draft.{IsDraft}
 use Rattle.pit_text.proofs.Drafts.{draft-header, value-range}
 use Rattle.pit_text.proofs.ModelLines.{new_key}
 use Rattle.pit_text.proofs.Standing.{is_none}

@@ -3,7 +3,7 @@ use Rattle.std.specs.List.{list_any}
 use Rattle.pit_text.specs.declared.error.Cause.TheVariants.{SectionTwice}
 use Rattle.pit_text.specs.Keys.{same_section}
 use Rattle.pit_text.specs.Model.{section, sections, missing_key, section_after}
-use Rattle.pit_text.specs.Draft.{IsDraft}
+use Rattle.pit_text.specs.Inside.Draft.{IsDraft}
 use Rattle.pit_text.proofs.Drafts.{missing_key-draft, draft-section}
 use Rattle.pit_text.proofs.model.draft.Draft.start.Goals as goal
 

@@ -1,0 +1,6 @@
+-- Definitions that no public contract cites.
+pub mod Kept
+pub mod Parts
+pub mod Benches
+pub mod Lines
+pub mod Ranges

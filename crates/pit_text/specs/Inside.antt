@@ -1,0 +1,7 @@
+-- Definitions that no public contract cites.
+pub mod Draft
+pub mod Unlisted
+pub mod Cutting
+pub mod Solution
+pub mod SolutionText
+pub mod Stands
