@@ -24,12 +24,12 @@ micro_text z end = fixed_text 6 z ++ end ∷ []
 abbrev pub load_text : ℕ → ℕ → ℤ → ℤ → List ℕ
 load_text resource period load limit = field_text resource 32 ++ (field_text period 32 ++ (micro_text load 32 ++ micro_text limit 10))
 
-abbrev pub pair_text : ℕ → ℕ → List ℕ
-pair_text block before = field_text block 32 ++ field_text before 10
+abbrev pub precedence_text : ℕ → ℕ → List ℕ
+precedence_text block before = field_text block 32 ++ field_text before 10
 
 abbrev pub breach_text : Option Breach → List ℕ
 breach_text None = []
-breach_text (Some (Precedence block before)) = codes "precedence " ++ pair_text block before
+breach_text (Some (Precedence block before)) = codes "precedence " ++ precedence_text block before
 breach_text (Some (Over resource period load limit)) = codes "over " ++ load_text resource period load limit
 
 abbrev pub short_text : Short → List ℕ

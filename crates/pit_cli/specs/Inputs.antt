@@ -89,6 +89,3 @@ model_step model = input_step Model model (λ _. IsModel) (λ _. IsBadModel) (λ
 
 abbrev pub order_step : Reading → Step CliFault Pit Pit
 order_step precedence = input_step Precedence precedence IsOrder IsBadOrder IsOrderStop
-
-abbrev pub schedule_step : Reading → Step CliFault Pit (List (ℕ × ℕ))
-schedule_step solution = input_step Solution solution IsSolutionOf IsBadSolution IsSolutionStop

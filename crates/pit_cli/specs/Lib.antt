@@ -5,3 +5,4 @@ pub mod Statuses
 pub mod CheckText
 pub mod Value
 pub mod Check
+pub mod Inside

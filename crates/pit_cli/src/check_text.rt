@@ -2,7 +2,7 @@
 ghost use Rattle.std.specs.Prelude.{◌≡◌, ◌++◌, if◌then◌else◌, OnOk, IfOk, codes, decimal};
 ghost use Rattle.std.specs.Io.KnownBytes.{Appends};
 ghost use Rattle.pit_num.specs.Printed.{fixed_text};
-ghost use Rattle.pit_cli.specs.CheckText.{load_text, pair_text, breach_text, short_text, shorts_text, is_fine as fine_of, fine_text, check_text, check_status};
+ghost use Rattle.pit_cli.specs.CheckText.{load_text, precedence_text, breach_text, short_text, shorts_text, is_fine as fine_of, fine_text, check_text, check_status};
 ghost use Rattle.pit_cli.specs.declared.status.Status.TheVariants.{Fine, Failed};
 
 use super::status::Status;
@@ -67,7 +67,7 @@ fn write_breach<W: Sink>(w: &mut W, breach: Option<Breach>) -> Result<(), WriteF
 }
 
 fn write_precedence<W: Sink>(w: &mut W, block: u32, before: u32) -> Result<(), WriteFault>
-    ensures { OnOk result (Appends (W.contents w.old) (W.contents w.new) (codes "precedence " ++ pair_text block before)) }
+    ensures { OnOk result (Appends (W.contents w.old) (W.contents w.new) (codes "precedence " ++ precedence_text block before)) }
 {
     write_text(w, b"precedence ")?;
     write_pair(w, block, before)
@@ -109,7 +109,7 @@ fn write_short<W: Sink>(w: &mut W, short: Short) -> Result<(), WriteFault>
 }
 
 fn write_pair<W: Sink>(w: &mut W, block: u32, before: u32) -> Result<(), WriteFault>
-    ensures { OnOk result (Appends (W.contents w.old) (W.contents w.new) (pair_text block before)) }
+    ensures { OnOk result (Appends (W.contents w.old) (W.contents w.new) (precedence_text block before)) }
 {
     write_field(w, block, b" ")?;
     write_field(w, before, b"\n")

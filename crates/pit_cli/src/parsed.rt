@@ -1,7 +1,8 @@
 ghost use Rattle.std.specs.Prelude.{◌≡◌, IfOk, MatchResult};
 ghost use Rattle.pit_cli.specs.Steps.{IsResultOf};
 ghost use Rattle.pit_cli.specs.Devices.{reading_of, IsWhole, IsInputFault, IsTextFault};
-ghost use Rattle.pit_cli.specs.Inputs.{IsModel, IsBadModel, IsModelStop, IsOrder, IsBadOrder, IsOrderStop, IsPlaced, IsBadPlaces, IsPlacesStop, IsSolutionOf, IsBadSolution, IsSolutionStop, IsScheduleOf, model_step, schedule_step};
+ghost use Rattle.pit_cli.specs.Inputs.{IsModel, IsBadModel, IsModelStop, IsOrder, IsBadOrder, IsOrderStop, IsPlaced, IsBadPlaces, IsPlacesStop, IsSolutionOf, IsBadSolution, IsSolutionStop, IsScheduleOf, model_step};
+ghost use Rattle.pit_cli.specs.Inside.Inputs.{schedule_step};
 
 use super::fault::CliFault;
 use super::input::Input;
