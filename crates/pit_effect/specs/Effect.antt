@@ -29,16 +29,18 @@ pub data Effect : Type 0 where
 abbrev pub no_change : Commit
 no_change = record { writes = []; revises = [] }
 
-abbrev pub with_period : Commit → ℕ → Option ℕ → Commit
-with_period own b period = record { writes = with_write nat_eq own.writes b period; revises = own.revises }
+-- one write more
+abbrev pub with_written : Commit → ℕ → Option ℕ → Commit
+with_written own b period = record { writes = with_write nat_eq own.writes b period; revises = own.revises }
 
-abbrev pub with_limit : Commit → ℕ → ℕ → Option ℤ → Commit
-with_limit own r t upper = record { writes = own.writes; revises = with_write pair_eq own.revises (r, t) upper }
+-- one revision more
+abbrev pub with_revised : Commit → ℕ → ℕ → Option ℤ → Commit
+with_revised own r t upper = record { writes = own.writes; revises = with_write pair_eq own.revises (r, t) upper }
 
 -- one block after another is put into a period
 abbrev pub with_bench : Commit → List ℕ → ℕ → Commit
 with_bench own [] t = own
-with_bench own (b ∷ blocks) t = with_bench (with_period own b (Some t)) blocks t
+with_bench own (b ∷ blocks) t = with_bench (with_written own b (Some t)) blocks t
 
 -- what is known with the own writes laid over
 abbrev pub seen : Known → Commit → ℕ → Option (Option ℕ)
@@ -51,7 +53,7 @@ looked own (Some period) = changes own
 
 abbrev pub put_at : Commit → ℕ → Option ℕ → Effect
 put_at own b None = nothing
-put_at own b (Some t) = changes (with_period own b (Some t))
+put_at own b (Some t) = changes (with_written own b (Some t))
 
 -- a shift of a block of which this is known
 abbrev pub moved_by : ℕ → Commit → ℕ → Bool → ℕ → Option (Option ℕ) → Effect
@@ -62,11 +64,11 @@ moved_by periods own b is_back by (Some (Some t)) = put_at own b (shifted period
 -- what one step does after these changes
 abbrev pub step_after : Pit → Known → Commit → Step → Effect
 step_after pit known own (step.Read b) = looked own (seen known own b)
-step_after pit known own (step.Put b t) = changes (with_period own b (Some t))
-step_after pit known own (step.Clear b) = changes (with_period own b None)
+step_after pit known own (step.Put b t) = changes (with_written own b (Some t))
+step_after pit known own (step.Clear b) = changes (with_written own b None)
 step_after pit known own (step.Shift b is_back by) = moved_by pit.periods own b is_back by (seen known own b)
 step_after pit known own (step.Bench height t) = changes (with_bench own (bench_of pit height) t)
-step_after pit known own (step.Revise r t upper) = changes (with_limit own r t upper)
+step_after pit known own (step.Revise r t upper) = changes (with_revised own r t upper)
 
 -- what comes next, where nothing ended it
 abbrev pub next : Effect → (Commit → Effect) → Effect
@@ -87,10 +89,6 @@ ended ending.Abort e = next e (λ own. nothing)
 -- what a job does to what is known
 unfoldable pub effect : Pit → Job → Known → Effect
 effect pit job known = ended job.end (steps_after pit known no_change job.steps)
-
--- one map holds all that the other does
-abbrev pub Agrees : Known → Known → Type 0
-Agrees known more = (b : ℕ) (v : Option ℕ) → known b ≡ Some v → more b ≡ Some v
 
 -- a schedule, which knows every block
 abbrev pub whole : (ℕ → Option ℕ) → Known

@@ -10,8 +10,8 @@ use Rattle.pit_job.specs.declared.outcome.Outcome.{Outcome}
 use Rattle.pit_job.specs.declared.outcome.RunEnd.{RunEnd}
 use Rattle.pit_job.specs.declared.outcome.RunEnd.TheVariants as end
 use Rattle.pit_job.specs.Outcomes.{IsItem}
-use Rattle.pit_job.specs.Runs.{Ran, RanFrom, StopsAt}
-use Rattle.pit_job.specs.Laws.{of_job, HasOwnEffect, EndsAfter}
+use Rattle.pit_job.specs.Runs.{Ran, RanFrom, EndedBefore}
+use Rattle.pit_job.specs.Inside.Laws.{of_job, HasOwnEffect, EndsAfter}
 
 All-map : {X : Type 0} (P Q : X → Type 0) → ((x : X) → P x → Q x) → (xs : List X) → All P xs → All Q xs
 All-map P Q f xs all = λ k d less. f (get_or xs k d) (all k d less)
@@ -78,12 +78,12 @@ each-job pit retries n (x ∷ xs) es (p ∷ ps) ended (here, later, cut, ran, mo
     let moved : Ran pit task retries (n + suc j) (of_job (n + suc j) later) o = subst (λ (m : ℕ). Ran pit task retries m (of_job m later) o) number rest in
     subst (λ (xs : List Answered). Ran pit task retries (n + suc j) xs o) (sym same) moved
 
-stops-before : (n : ℕ) (task : Job) (rest : List Job) (ended : RunEnd) → StopsAt n ended → EndsAfter n (task ∷ rest) [] ended
-stops-before n task rest end.Whole stop = absurd stop
-stops-before n task rest (end.Full job) stop = (stop ∙ sym (add-zero n), omega arith)
-stops-before n task rest (end.NoMemory job) stop = (stop ∙ sym (add-zero n), omega arith)
-stops-before n task rest (end.NoEntry job) stop = (stop ∙ sym (add-zero n), omega arith)
-stops-before n task rest end.NoThread stop = absurd stop
+ends-after-none : (n : ℕ) (task : Job) (rest : List Job) (ended : RunEnd) → EndedBefore n ended → EndsAfter n (task ∷ rest) [] ended
+ends-after-none n task rest end.Whole stop = absurd stop
+ends-after-none n task rest (end.Full job) stop = (stop ∙ sym (add-zero n), omega arith)
+ends-after-none n task rest (end.NoMemory job) stop = (stop ∙ sym (add-zero n), omega arith)
+ends-after-none n task rest (end.NoEntry job) stop = (stop ∙ sym (add-zero n), omega arith)
+ends-after-none n task rest end.NoThread stop = absurd stop
 
 ends-more : (n : ℕ) (task : Job) (rest : List Job) (o : Outcome) (os : List Outcome) (ended : RunEnd) → EndsAfter (n + 1) rest os ended → EndsAfter n (task ∷ rest) (o ∷ os) ended
 ends-more n task rest o os end.Whole is = omega arith
@@ -95,5 +95,5 @@ ends-more n task rest o os end.NoThread is = is
 pub ends-after : (pit : Pit) (retries n : ℕ) (jobs : List Job) (es : List Answered) (os : List Outcome) (ended : RunEnd) → RanFrom pit retries n jobs es os ended → EndsAfter n jobs os ended
 ends-after pit retries n [] es [] ended (none, whole) = subst (EndsAfter n [] []) (sym whole) refl
 ends-after pit retries n [] es (o ∷ os) ended ran = absurd ran
-ends-after pit retries n (task ∷ rest) es [] ended (stop, repeats) = stops-before n task rest ended stop
+ends-after pit retries n (task ∷ rest) es [] ended (stop, repeats) = ends-after-none n task rest ended stop
 ends-after pit retries n (task ∷ rest) es (o ∷ os) ended (here, later, cut, ran, more) = ends-more n task rest o os ended (ends-after pit retries (n + 1) rest later os ended more)

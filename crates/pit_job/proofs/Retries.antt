@@ -20,8 +20,10 @@ use Rattle.pit_job.specs.declared.outcome.Outcome.{Outcome}
 use Rattle.pit_job.specs.declared.outcome.Outcome.TheVariants as outcome
 use Rattle.pit_job.specs.declared.outcome.RunEnd.{RunEnd}
 use Rattle.pit_job.specs.declared.outcome.RunEnd.TheVariants as end
-use Rattle.pit_job.specs.Outcomes.{IsItem, Repeats, Tries, Grows, outcome_of, is_moved}
-use Rattle.pit_job.specs.Runs.{Ran, RanJob, RanFrom, StopsAt, Front, reply_of, tries_of, end_of}
+use Rattle.pit_job.specs.Outcomes.{IsItem, Repeats, Grows, is_moved_reply}
+use Rattle.pit_job.specs.Inside.Outcomes.{Tries, outcome_of}
+use Rattle.pit_job.specs.Runs.{Ran, RanFrom, EndedBefore, reply_of, tries_of}
+use Rattle.pit_job.specs.Inside.Runs.{RanJob, RanUpTo, end_of}
 
 pub grows-none : (a : PlannerState) → Grows a [] a
 grows-none a = record { number = refl; items = sym (append-nil a.items) }
@@ -36,7 +38,7 @@ grows-more a b c es fs f g = record {
 pub repeats-more : (pit : Pit) (task : Job) (n k m : ℕ) (es fs : List Answered) → Repeats pit task n k es → Repeats pit task n m fs → Repeats pit task n (k + m) (es ++ fs)
 repeats-more pit task n k m es fs a b = record {
   items = All-append (λ e. IsItem pit task n e) es fs a.items b.items;
-  moved = All-append (λ e. is_moved e.reply ≡ true) es fs a.moved b.moved;
+  moved = All-append (λ e. is_moved_reply e.reply ≡ true) es fs a.moved b.moved;
   few = let f = a.few in let g = b.few in omega (arith, length-append es fs);
 }
 
@@ -64,7 +66,7 @@ settles pit task retries n k es fs r few repeats (e, is, item, same, other) = in
   repeats = repeats;
   item = item;
   answer = same ∙ sym (reply-of-outcome r (k + 1));
-  other = ap is_moved same ∙ other;
+  other = ap is_moved_reply same ∙ other;
   tries = tries-of-outcome r (k + 1);
   few = few;
 })
@@ -113,74 +115,74 @@ try-last pit task retries n k a b c t block version (es, grew, repeats) (fs, gro
 drop-here : (xs : List Job) (i : ℕ) (task : Job) → i < length xs → job_at xs i ≡ task → drop i xs ≡ task ∷ drop (i + 1) xs
 drop-here xs i task h is = rw (add-one, drop-cons xs i empty_job, is)
 
-pub front-none : (pit : Pit) (retries : ℕ) (jobs : List Job) → Front pit retries jobs 0 1 [] []
-front-none pit retries jobs later more ended ran = ran
+pub up_to-none : (pit : Pit) (retries : ℕ) (jobs : List Job) → RanUpTo pit retries jobs 0 1 [] []
+up_to-none pit retries jobs later more ended ran = ran
 
 -- one job more
-pub front-next : (pit : Pit) (retries : ℕ) (jobs : List Job) (i n : ℕ) (task : Job) (es mine : List Answered) (os : List Outcome) (o : Outcome) → i < length jobs → job_at jobs i ≡ task
-    → Front pit retries jobs i n es os → Ran pit task retries n mine o → Front pit retries jobs (i + 1) (n + 1) (es ++ mine) (os ++ o ∷ [])
-front-next pit retries jobs i n task es mine os o less at front ran later more ended rest =
+pub up_to-next : (pit : Pit) (retries : ℕ) (jobs : List Job) (i n : ℕ) (task : Job) (es mine : List Answered) (os : List Outcome) (o : Outcome) → i < length jobs → job_at jobs i ≡ task
+    → RanUpTo pit retries jobs i n es os → Ran pit task retries n mine o → RanUpTo pit retries jobs (i + 1) (n + 1) (es ++ mine) (os ++ o ∷ [])
+up_to-next pit retries jobs i n task es mine os o less at up_to ran later more ended rest =
     let here : RanFrom pit retries n (drop i jobs) (mine ++ later) (o ∷ more) ended =
     subst (λ (xs : List Job). RanFrom pit retries n xs (mine ++ later) (o ∷ more) ended) (sym (drop-here jobs i task less at)) (mine, later, refl, ran, rest) in
-    let all : RanFrom pit retries 1 jobs (es ++ (mine ++ later)) (os ++ o ∷ more) ended = front (mine ++ later) (o ∷ more) ended here in
+    let all : RanFrom pit retries 1 jobs (es ++ (mine ++ later)) (os ++ o ∷ more) ended = up_to (mine ++ later) (o ∷ more) ended here in
     let a : RanFrom pit retries 1 jobs ((es ++ mine) ++ later) (os ++ o ∷ more) ended =
     subst (λ (xs : List Answered). RanFrom pit retries 1 jobs xs (os ++ o ∷ more) ended) (sym (append_assoc es mine later)) all in
     subst (λ (xs : List Outcome). RanFrom pit retries 1 jobs ((es ++ mine) ++ later) xs ended) (sym (append_assoc os (o ∷ []) more)) a
 
 -- the run stops at a job
-pub front-stop : (pit : Pit) (retries : ℕ) (jobs : List Job) (i n : ℕ) (task : Job) (es mine : List Answered) (os : List Outcome) (ended : RunEnd) → i < length jobs → job_at jobs i ≡ task
-    → Front pit retries jobs i n es os → StopsAt n ended → Repeats pit task n retries mine → RanFrom pit retries 1 jobs (es ++ mine) os ended
-front-stop pit retries jobs i n task es mine os ended less at front stop repeats =
+pub up_to-stop : (pit : Pit) (retries : ℕ) (jobs : List Job) (i n : ℕ) (task : Job) (es mine : List Answered) (os : List Outcome) (ended : RunEnd) → i < length jobs → job_at jobs i ≡ task
+    → RanUpTo pit retries jobs i n es os → EndedBefore n ended → Repeats pit task n retries mine → RanFrom pit retries 1 jobs (es ++ mine) os ended
+up_to-stop pit retries jobs i n task es mine os ended less at up_to stop repeats =
     let here : RanFrom pit retries n (drop i jobs) mine [] ended =
     subst (λ (xs : List Job). RanFrom pit retries n xs mine [] ended) (sym (drop-here jobs i task less at)) (stop, repeats) in
-    subst (λ (xs : List Outcome). RanFrom pit retries 1 jobs (es ++ mine) xs ended) (append-nil os) (front mine [] ended here)
+    subst (λ (xs : List Outcome). RanFrom pit retries 1 jobs (es ++ mine) xs ended) (append-nil os) (up_to mine [] ended here)
 
 -- all jobs have their outcomes
-pub front-whole : (pit : Pit) (retries : ℕ) (jobs : List Job) (i n : ℕ) (es : List Answered) (os : List Outcome) → length jobs ≤ i
-    → Front pit retries jobs i n es os → RanFrom pit retries 1 jobs es os end.Whole
-front-whole pit retries jobs i n es os past front =
+pub up_to-whole : (pit : Pit) (retries : ℕ) (jobs : List Job) (i n : ℕ) (es : List Answered) (os : List Outcome) → length jobs ≤ i
+    → RanUpTo pit retries jobs i n es os → RanFrom pit retries 1 jobs es os end.Whole
+up_to-whole pit retries jobs i n es os past up_to =
     let here : RanFrom pit retries n (drop i jobs) [] [] end.Whole =
     subst (λ (xs : List Job). RanFrom pit retries n xs [] [] end.Whole) (sym (drop_all i jobs past)) (refl, refl) in
-    let all : RanFrom pit retries 1 jobs (es ++ []) (os ++ []) end.Whole = front [] [] end.Whole here in
+    let all : RanFrom pit retries 1 jobs (es ++ []) (os ++ []) end.Whole = up_to [] [] end.Whole here in
     let a = subst (λ (xs : List Outcome). RanFrom pit retries 1 jobs (es ++ []) xs end.Whole) (append-nil os) all in
     subst (λ (xs : List Answered). RanFrom pit retries 1 jobs xs os end.Whole) (append-nil es) a
 
-stops-at : (s : JobStop) (n : ℕ) → StopsAt n (end_of s n)
-stops-at stop.Full n = refl
-stops-at stop.NoMemory n = refl
-stops-at stop.NoEntry n = refl
+end_of-before : (s : JobStop) (n : ℕ) → EndedBefore n (end_of s n)
+end_of-before stop.Full n = refl
+end_of-before stop.NoMemory n = refl
+end_of-before stop.NoEntry n = refl
 
 -- a job has its outcome
 pub job-done : (pit : Pit) (retries : ℕ) (jobs : List Job) (i n : ℕ) (task : Job) (a b c : PlannerState) (os outs : List Outcome) (o : Outcome) (answer : Result Outcome JobStop)
-    → i < length jobs → job_at jobs i ≡ task → ((es : List Answered) × Grows a es b × Front pit retries jobs i n es os)
+    → i < length jobs → job_at jobs i ≡ task → ((es : List Answered) × Grows a es b × RanUpTo pit retries jobs i n es os)
     → ((fs : List Answered) × Grows b fs c × RanJob pit task retries n fs answer) → answer ≡ Ok o → outs ≡ os ++ o ∷ []
-    → (es : List Answered) × Grows a es c × Front pit retries jobs (i + 1) (n + 1) es outs
-job-done pit retries jobs i n task a b c os outs o answer less at (es, grew, front) (fs, grows, ran) is pushed = (
+    → (es : List Answered) × Grows a es c × RanUpTo pit retries jobs (i + 1) (n + 1) es outs
+job-done pit retries jobs i n task a b c os outs o answer less at (es, grew, up_to) (fs, grows, ran) is pushed = (
   es ++ fs,
   grows-more a b c es fs grew grows,
-  subst (Front pit retries jobs (i + 1) (n + 1) (es ++ fs)) (sym pushed) (front-next pit retries jobs i n task es fs os o less at front (subst (RanJob pit task retries n fs) is ran)),
+  subst (RanUpTo pit retries jobs (i + 1) (n + 1) (es ++ fs)) (sym pushed) (up_to-next pit retries jobs i n task es fs os o less at up_to (subst (RanJob pit task retries n fs) is ran)),
 )
 
 -- a job stops the run
 pub job-stops : (pit : Pit) (retries : ℕ) (jobs : List Job) (i n : ℕ) (task : Job) (a b c : PlannerState) (os outs : List Outcome) (s : JobStop) (answer : Result Outcome JobStop) (ended : RunEnd)
-    → i < length jobs → job_at jobs i ≡ task → ((es : List Answered) × Grows a es b × Front pit retries jobs i n es os)
+    → i < length jobs → job_at jobs i ≡ task → ((es : List Answered) × Grows a es b × RanUpTo pit retries jobs i n es os)
     → ((fs : List Answered) × Grows b fs c × RanJob pit task retries n fs answer) → answer ≡ Err s → ended ≡ end_of s n → outs ≡ os
     → (es : List Answered) × Grows a es c × RanFrom pit retries 1 jobs es outs ended
-job-stops pit retries jobs i n task a b c os outs s answer ended less at (es, grew, front) (fs, grows, ran) is result same = (
+job-stops pit retries jobs i n task a b c os outs s answer ended less at (es, grew, up_to) (fs, grows, ran) is result same = (
   es ++ fs,
   grows-more a b c es fs grew grows,
   subst (λ (xs : List Outcome). RanFrom pit retries 1 jobs (es ++ fs) xs ended) (sym same)
-      (front-stop pit retries jobs i n task es fs os ended less at front (subst (StopsAt n) (sym result) (stops-at s n)) (subst (RanJob pit task retries n fs) is ran)),
+      (up_to-stop pit retries jobs i n task es fs os ended less at up_to (subst (EndedBefore n) (sym result) (end_of-before s n)) (subst (RanJob pit task retries n fs) is ran)),
 )
 
 -- there is no room for its outcome
 pub job-unasked : (pit : Pit) (retries : ℕ) (jobs : List Job) (i n : ℕ) (task : Job) (a b : PlannerState) (os outs : List Outcome)
-    → i < length jobs → job_at jobs i ≡ task → ((es : List Answered) × Grows a es b × Front pit retries jobs i n es os) → outs ≡ os
+    → i < length jobs → job_at jobs i ≡ task → ((es : List Answered) × Grows a es b × RanUpTo pit retries jobs i n es os) → outs ≡ os
     → (es : List Answered) × Grows a es b × RanFrom pit retries 1 jobs es outs (end.NoMemory n)
-job-unasked pit retries jobs i n task a b os outs less at (es, grew, front) same = (
+job-unasked pit retries jobs i n task a b os outs less at (es, grew, up_to) same = (
   es,
   grew,
   subst (λ (xs : List Outcome). RanFrom pit retries 1 jobs es xs (end.NoMemory n)) (sym same)
       (subst (λ (xs : List Answered). RanFrom pit retries 1 jobs xs os (end.NoMemory n)) (append-nil es)
-      (front-stop pit retries jobs i n task es [] os (end.NoMemory n) less at front refl (repeats-none pit task n retries))),
+      (up_to-stop pit retries jobs i n task es [] os (end.NoMemory n) less at up_to refl (repeats-none pit task n retries))),
 )

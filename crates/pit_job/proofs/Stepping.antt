@@ -15,10 +15,11 @@ use Rattle.pit_share.specs.declared.error.ReadStop.{ReadStop}
 use Rattle.pit_script.specs.Benches.{bench_of}
 use Rattle.pit_script.specs.declared.step.Step.{Step}
 use Rattle.pit_script.specs.declared.step.Step.TheVariants as step
-use Rattle.pit_effect.specs.Effect.{Known, Effect, changes, read_in, seen, looked, moved_by, put_at, with_period, with_limit, with_bench, step_after, next, steps_after, Agrees}
+use Rattle.pit_effect.specs.Effect.{Known, Effect, changes, read_in, seen, looked, moved_by, put_at, with_written, with_revised, with_bench, step_after, next, steps_after}
+use Rattle.pit_effect.specs.Inside.Effect.{Agrees}
 use Rattle.pit_effect.specs.Shifts.{shifted}
 use Rattle.pit_effect.proofs.CallerLemmas.{seen-agrees}
-use Rattle.pit_job.specs.Doing.{own_of, SameLog, Same, LooksUp, Puts, DoesStep, DoesSteps}
+use Rattle.pit_job.specs.Inside.Doing.{own_of, SameLog, Same, LooksUp, Puts, DoesStep, DoesSteps}
 
 -- ---- reads
 
@@ -124,14 +125,14 @@ own-does pit old new s own same stated is = record {
   does = λ known agrees. stated known ∙ ap changes (sym is);
 }
 
-pub put-does : (pit : Pit) (old new : TransactionState) (b t : ℕ) → Same old new → own_of new.work ≡ with_period (own_of old.work) b (Some t) → DoesStep pit old (step.Put b t) true new
-put-does pit old new b t same is = own-does pit old new (step.Put b t) (with_period (own_of old.work) b (Some t)) same (λ known. refl) is
+pub put-does : (pit : Pit) (old new : TransactionState) (b t : ℕ) → Same old new → own_of new.work ≡ with_written (own_of old.work) b (Some t) → DoesStep pit old (step.Put b t) true new
+put-does pit old new b t same is = own-does pit old new (step.Put b t) (with_written (own_of old.work) b (Some t)) same (λ known. refl) is
 
-pub clear-does : (pit : Pit) (old new : TransactionState) (b : ℕ) → Same old new → own_of new.work ≡ with_period (own_of old.work) b None → DoesStep pit old (step.Clear b) true new
-clear-does pit old new b same is = own-does pit old new (step.Clear b) (with_period (own_of old.work) b None) same (λ known. refl) is
+pub clear-does : (pit : Pit) (old new : TransactionState) (b : ℕ) → Same old new → own_of new.work ≡ with_written (own_of old.work) b None → DoesStep pit old (step.Clear b) true new
+clear-does pit old new b same is = own-does pit old new (step.Clear b) (with_written (own_of old.work) b None) same (λ known. refl) is
 
-pub revise-does : (pit : Pit) (old new : TransactionState) (r t : ℕ) (upper : Option ℤ) → Same old new → own_of new.work ≡ with_limit (own_of old.work) r t upper → DoesStep pit old (step.Revise r t upper) true new
-revise-does pit old new r t upper same is = own-does pit old new (step.Revise r t upper) (with_limit (own_of old.work) r t upper) same (λ known. refl) is
+pub revise-does : (pit : Pit) (old new : TransactionState) (r t : ℕ) (upper : Option ℤ) → Same old new → own_of new.work ≡ with_revised (own_of old.work) r t upper → DoesStep pit old (step.Revise r t upper) true new
+revise-does pit old new r t upper same is = own-does pit old new (step.Revise r t upper) (with_revised (own_of old.work) r t upper) same (λ known. refl) is
 
 pub bench-does : (pit : Pit) (old new : TransactionState) (height : ℤ) (t : ℕ) → Same old new → own_of new.work ≡ with_bench (own_of old.work) (bench_of pit height) t → DoesStep pit old (step.Bench height t) true new
 bench-does pit old new height t same is = own-does pit old new (step.Bench height t) (with_bench (own_of old.work) (bench_of pit height) t) same (λ known. refl) is
@@ -151,13 +152,13 @@ shift-out pit old new b by t is_back is out = record {
 }
 
 pub shift-does : (pit : Pit) (old mid new : TransactionState) (b by t u : ℕ) (is_back : Bool) → LooksUp old b (Some t) mid → shifted pit.periods is_back by t ≡ Some u → Same mid new
-    → own_of new.work ≡ with_period (own_of mid.work) b (Some u) → DoesStep pit old (step.Shift b is_back by) true new
+    → own_of new.work ≡ with_written (own_of mid.work) b (Some u) → DoesStep pit old (step.Shift b is_back by) true new
 shift-does pit old mid new b by t u is_back is in_range same put = record {
   same = same-trans old mid new is.same same;
   does = λ known agrees.
       ap (moved_by pit.periods (own_of old.work) b is_back by) (look-seen old mid b (Some t) is known (Agrees-trans (read_in mid.work.reads) (read_in new.work.reads) known same.reads agrees))
       ∙ ap (put_at (own_of old.work) b) in_range
-      ∙ ap (λ (own : Commit). changes (with_period own b (Some u))) (sym is.own)
+      ∙ ap (λ (own : Commit). changes (with_written own b (Some u))) (sym is.own)
       ∙ ap changes (sym put);
 }
 

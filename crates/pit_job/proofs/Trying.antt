@@ -22,19 +22,20 @@ use Rattle.pit_effect.specs.Effect.{nothing, no_change, read_in, effect, ended, 
 use Rattle.pit_job.specs.declared.outcome.JobStop.{JobStop}
 use Rattle.pit_job.specs.declared.outcome.Tried.{Tried}
 use Rattle.pit_job.specs.declared.outcome.Tried.TheVariants as tried
-use Rattle.pit_job.specs.Doing.{own_of, SameLog, DoesSteps, IsFresh, come_to}
-use Rattle.pit_job.specs.Outcomes.{IsItem, Repeats, Tries, EndsBy, Grows, tried_of, is_moved}
+use Rattle.pit_job.specs.Inside.Doing.{own_of, SameLog, DoesSteps, IsFresh, come_to}
+use Rattle.pit_job.specs.Outcomes.{IsItem, Repeats, Grows, is_moved_reply}
+use Rattle.pit_job.specs.Inside.Outcomes.{Tries, EndsBy, tried_of}
 
 -- one entry that was answered Moved
-pub repeats-one : (pit : Pit) (task : Job) (n : ℕ) (e : Answered) → IsItem pit task n e → is_moved e.reply ≡ true → Repeats pit task n 1 (e ∷ [])
+pub repeats-one : (pit : Pit) (task : Job) (n : ℕ) (e : Answered) → IsItem pit task n e → is_moved_reply e.reply ≡ true → Repeats pit task n 1 (e ∷ [])
 repeats-one pit task n e item moved = record {
   items = All-cons (λ e. IsItem pit task n e) e [] item (All-nil (λ e. IsItem pit task n e));
-  moved = All-cons (λ e. is_moved e.reply ≡ true) e [] moved (All-nil (λ e. is_moved e.reply ≡ true));
+  moved = All-cons (λ e. is_moved_reply e.reply ≡ true) e [] moved (All-nil (λ e. is_moved_reply e.reply ≡ true));
   few = omega arith;
 }
 
 pub repeats-none : (pit : Pit) (task : Job) (n most : ℕ) → Repeats pit task n most []
-repeats-none pit task n most = record { items = All-nil (λ e. IsItem pit task n e); moved = All-nil (λ e. is_moved e.reply ≡ true); few = omega arith }
+repeats-none pit task n most = record { items = All-nil (λ e. IsItem pit task n e); moved = All-nil (λ e. is_moved_reply e.reply ≡ true); few = omega arith }
 
 -- an ending is a try's, where the call has the job's effect
 pub tries-of : (pit : Pit) (task : Job) (n : ℕ) (how : Act) (w : Sets) (es : List Answered) (t : Tried) → w.job ≡ n → HasEffect pit task (work_call w how)

@@ -1,4 +1,4 @@
-pub mod Doing
 pub mod Outcomes
 pub mod Runs
 pub mod Laws
+pub mod Inside

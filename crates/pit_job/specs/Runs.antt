@@ -1,17 +1,15 @@
 -- What becomes of a planner's script.
-use Rattle.std.specs.Prelude.{◌≡◌, ℕ, ◌+◌, ◌≤◌, ◌⊎◌, true, false, List, [], ◌∷◌, ◌++◌, drop, Result, Ok, Err}
+use Rattle.std.specs.Prelude.{◌≡◌, ℕ, ◌+◌, ◌≤◌, ◌⊎◌, true, false, List, [], ◌∷◌, ◌++◌}
 use Rattle.pit_model.specs.Pit.{Pit}
 use Rattle.pit_book.specs.History.{Answered}
 use Rattle.pit_book.specs.declared.reply.EntryReply.{EntryReply}
 use Rattle.pit_book.specs.declared.reply.EntryReply.TheVariants as reply
-use Rattle.pit_job.specs.declared.outcome.JobStop.{JobStop}
-use Rattle.pit_job.specs.declared.outcome.JobStop.TheVariants as stop
 use Rattle.pit_script.specs.Jobs.{Job}
 use Rattle.pit_job.specs.declared.outcome.Outcome.{Outcome}
 use Rattle.pit_job.specs.declared.outcome.Outcome.TheVariants as outcome
 use Rattle.pit_job.specs.declared.outcome.RunEnd.{RunEnd}
 use Rattle.pit_job.specs.declared.outcome.RunEnd.TheVariants as end
-use Rattle.pit_job.specs.Outcomes.{IsItem, Repeats, is_moved}
+use Rattle.pit_job.specs.Outcomes.{IsItem, Repeats, is_moved_reply}
 
 abbrev pub reply_of : Outcome → EntryReply
 reply_of (outcome.Committed number tries) = reply.Committed number
@@ -32,46 +30,32 @@ pub record Settled (pit : Pit) (task : Job) (retries n : ℕ) (es : List Answere
   pub repeats : Repeats pit task n before repeated
   pub item : IsItem pit task n last
   pub answer : last.reply ≡ reply_of o
-  pub other : is_moved last.reply ≡ false
+  pub other : is_moved_reply last.reply ≡ false
   pub tries : tries_of o ≡ before + 1
   pub few : before ≤ retries
 
 -- each entry is Moved, and so is the outcome, after all tries
 pub record GivenUp (pit : Pit) (task : Job) (retries n : ℕ) (es : List Answered) (o : Outcome) : Type 0 where
   pub repeats : Repeats pit task n (retries + 1) es
-  pub moved : is_moved (reply_of o) ≡ true
+  pub moved : is_moved_reply (reply_of o) ≡ true
   pub tries : tries_of o ≡ retries + 1
 
 -- the entries of one job, and its outcome
 abbrev pub Ran : Pit → Job → ℕ → ℕ → List Answered → Outcome → Type 0
 Ran pit task retries n es o = Settled pit task retries n es o ⊎ GivenUp pit task retries n es o
 
-abbrev pub RanJob : Pit → Job → ℕ → ℕ → List Answered → Result Outcome JobStop → Type 0
-RanJob pit task retries n es (Ok o) = Ran pit task retries n es o
-RanJob pit task retries n es (Err why) = Repeats pit task n retries es
-
-abbrev pub end_of : JobStop → ℕ → RunEnd
-end_of stop.Full n = end.Full n
-end_of stop.NoMemory n = end.NoMemory n
-end_of stop.NoEntry n = end.NoEntry n
-
 -- the run ended before job n had its outcome
-abbrev pub StopsAt : ℕ → RunEnd → Type 0
-StopsAt n end.Whole = ⊥
-StopsAt n (end.Full job) = job ≡ n
-StopsAt n (end.NoMemory job) = job ≡ n
-StopsAt n (end.NoEntry job) = job ≡ n
-StopsAt n end.NoThread = ⊥
+abbrev pub EndedBefore : ℕ → RunEnd → Type 0
+EndedBefore n end.Whole = ⊥
+EndedBefore n (end.Full job) = job ≡ n
+EndedBefore n (end.NoMemory job) = job ≡ n
+EndedBefore n (end.NoEntry job) = job ≡ n
+EndedBefore n end.NoThread = ⊥
 
 -- the entries of jobs that are numbered from n, one after the other, with their outcomes, and how that ended
 abbrev pub RanFrom : Pit → ℕ → ℕ → List Job → List Answered → List Outcome → RunEnd → Type 0
 RanFrom pit retries n [] es [] ended = (es ≡ []) × (ended ≡ end.Whole)
 RanFrom pit retries n [] es (o ∷ os) ended = ⊥
-RanFrom pit retries n (task ∷ rest) es [] ended = StopsAt n ended × Repeats pit task n retries es
+RanFrom pit retries n (task ∷ rest) es [] ended = EndedBefore n ended × Repeats pit task n retries es
 RanFrom pit retries n (task ∷ rest) es (o ∷ os) ended =
     (mine : List Answered) × (later : List Answered) × (es ≡ mine ++ later) × Ran pit task retries n mine o × RanFrom pit retries (n + 1) rest later os ended
-
--- whatever the jobs from the i-th on, which has the number n, come to, all come to this and then that
-abbrev pub Front : Pit → ℕ → List Job → ℕ → ℕ → List Answered → List Outcome → Type 0
-Front pit retries jobs i n es os =
-    (later : List Answered) (more : List Outcome) (ended : RunEnd) → RanFrom pit retries n (drop i jobs) later more ended → RanFrom pit retries 1 jobs (es ++ later) (os ++ more) ended

@@ -4,8 +4,9 @@ ghost use Rattle.pit_book.specs.History.{Answered};
 ghost use Rattle.pit_book.specs.declared.entry.Act.TheVariants.{Commit as commit_act, Withdraw as withdraw_act};
 ghost use Rattle.pit_script.specs.Benches.{AreBenchesOf};
 ghost use Rattle.pit_script.specs.Ranges.{IsStepIn};
-ghost use Rattle.pit_job.specs.Doing.{IsFresh};
-ghost use Rattle.pit_job.specs.Outcomes.{Grows, Tries, EndsBy, tried_of as tried_by};
+ghost use Rattle.pit_job.specs.Inside.Doing.{IsFresh};
+ghost use Rattle.pit_job.specs.Outcomes.{Grows};
+ghost use Rattle.pit_job.specs.Inside.Outcomes.{Tries, EndsBy, tried_of as tried_by};
 
 use crate::doing::{StepStop, do_steps};
 use crate::gate::Gate;

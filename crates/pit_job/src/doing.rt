@@ -2,7 +2,7 @@
 ghost use Rattle.std.specs.Prelude.{◌≡◌, ◌<◌, IfOk, OnOk, All, Some, None};
 ghost use Rattle.pit_script.specs.Benches.{AreBenchesOf};
 ghost use Rattle.pit_script.specs.Ranges.{IsStepIn};
-ghost use Rattle.pit_job.specs.Doing.{SameLog, LooksUp, Puts, DoesStep, DoesSteps};
+ghost use Rattle.pit_job.specs.Inside.Doing.{SameLog, LooksUp, Puts, DoesStep, DoesSteps};
 
 use pit_board::Session;
 use pit_effect::shifted;

@@ -1,5 +1,5 @@
 ghost use Rattle.std.specs.Prelude.{◌≡◌};
-ghost use Rattle.pit_job.specs.Outcomes.{outcome_of as outcome_by};
+ghost use Rattle.pit_job.specs.Inside.Outcomes.{outcome_of as outcome_by};
 
 use pit_book::{EntryReply, Refusal};
 

@@ -4,7 +4,8 @@ ghost use Rattle.pit_book.specs.History.{Answered};
 ghost use Rattle.pit_script.specs.Benches.{AreBenchesOf};
 ghost use Rattle.pit_script.specs.Ranges.{IsStepIn, AreJobsIn};
 ghost use Rattle.pit_job.specs.Outcomes.{Grows};
-ghost use Rattle.pit_job.specs.Runs.{RanJob, RanFrom, end_of as end_by};
+ghost use Rattle.pit_job.specs.Runs.{RanFrom};
+ghost use Rattle.pit_job.specs.Inside.Runs.{RanJob, end_of as end_by};
 ghost use Rattle.pit_job.specs.declared.planner_run.TheConstants.{RETRIES_MAX};
 
 use crate::attempt::attempt;

@@ -20,9 +20,6 @@ pub record RunState : Type 0 where
   pub jobs : List Outcome
   pub ended : RunEnd
 
-abbrev pub run_of : ℕ → List Outcome → RunEnd → RunState
-run_of planner jobs ended = record { planner = planner; jobs = jobs; ended = ended }
-
 -- no thread could be started for it
 pub record NotStarted (es : List Answered) (run : RunState) : Type 0 where
   pub ended : run.ended ≡ end.NoThread

@@ -1,5 +1,5 @@
 ghost use Rattle.std.specs.Prelude.{◌≡◌};
-ghost use Rattle.pit_run.specs.Reports.{run_of};
+ghost use Rattle.pit_run.specs.Inside.Reports.{run_of};
 
 use pit_job::{Outcome, RunEnd};
 use std::alloc::Allocator;
@@ -14,7 +14,8 @@ pub struct PlannerRun<A: Allocator + Drop> {
 }
 
 impl<A: Allocator + Drop> Model for PlannerRun<A> {
-    ghost use Rattle.pit_run.specs.Reports.{RunState, run_of};
+    ghost use Rattle.pit_run.specs.Reports.{RunState};
+    ghost use Rattle.pit_run.specs.Inside.Reports.{run_of};
 
     ghost Value = { RunState };
 

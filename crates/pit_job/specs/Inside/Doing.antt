@@ -5,7 +5,8 @@ use Rattle.pit_plan.specs.Schedule.{Commit}
 use Rattle.pit_tx.specs.Sets.{Sets, known_of}
 use Rattle.pit_script.specs.declared.step.Step.{Step}
 use Rattle.pit_share.specs.Planners.{PlannerState, TransactionState}
-use Rattle.pit_effect.specs.Effect.{Known, Effect, changes, nothing, read_in, Agrees, with_period, step_after, steps_after}
+use Rattle.pit_effect.specs.Effect.{Known, Effect, changes, nothing, read_in, with_written, step_after, steps_after}
+use Rattle.pit_effect.specs.Inside.Effect.{Agrees}
 
 -- what a work changes
 abbrev pub own_of : Sets → Commit
@@ -51,4 +52,4 @@ pub record IsFresh (n : ℕ) (t : TransactionState) : Type 0 where
 -- one more write of the own ones
 pub record Puts (old : TransactionState) (b : ℕ) (period : Option ℕ) (new : TransactionState) : Type 0 where
   pub same : Same old new
-  pub own : own_of new.work ≡ with_period (own_of old.work) b period
+  pub own : own_of new.work ≡ with_written (own_of old.work) b period

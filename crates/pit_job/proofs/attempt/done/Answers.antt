@@ -2,7 +2,7 @@ use Rattle.std.proofs.Common.{rules, ◌∙◌, true, false}
 use Rattle.pit_book.specs.declared.entry.Act.TheVariants as act
 use Rattle.pit_script.specs.Jobs.{Job}
 use Rattle.pit_job.specs.declared.outcome.JobStop.TheVariants.{NoMemory, NoEntry}
-use Rattle.pit_job.specs.Doing.{DoesSteps, SameLog}
+use Rattle.pit_job.specs.Inside.Doing.{DoesSteps, SameLog}
 use Rattle.pit_job.proofs.Trying.{ends-tries, moved-tries, stopped-tries, commit-has, abort-has, failed-has}
 use Rattle.pit_job.proofs.attempt.done.Goals as goal
 

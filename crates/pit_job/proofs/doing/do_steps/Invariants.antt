@@ -1,6 +1,6 @@
 use Rattle.std.proofs.Common.{Bool, drop}
 use Rattle.pit_share.specs.Planners.{TransactionState}
-use Rattle.pit_job.specs.Doing.{SameLog, DoesSteps}
+use Rattle.pit_job.specs.Inside.Doing.{SameLog, DoesSteps}
 use Rattle.pit_job.proofs.doing.do_steps.Given as goal
 
 abbrev pub invariant-loop-step : goal.invariant-loop-step

@@ -1,15 +1,15 @@
 use Rattle.std.proofs.Common.{rules, ◌+◌, ◌≤◌, ◌<◌, length, [], subst, sym, refl}
 use Rattle.pit_script.specs.Jobs.{Job, empty_job, job_at}
 use Rattle.pit_script.specs.Ranges.{IsJobIn}
-use Rattle.pit_job.specs.Runs.{Front}
-use Rattle.pit_job.proofs.Retries.{grows-none, front-none, front-whole, job-done, job-stops, job-unasked}
+use Rattle.pit_job.specs.Inside.Runs.{RanUpTo}
+use Rattle.pit_job.proofs.Retries.{grows-none, up_to-none, up_to-whole, job-done, job-stops, job-unasked}
 use Rattle.pit_job.proofs.planner_run.run_script.Goals as goal
 
 pub loop-i-init : goal.loop-i-init
 loop-i-init g c = (
   [],
   grows-none c.args.planner,
-  subst (Front g.S.Session.instance c.args.retries c.args.script.now 0 1 []) (sym c.new-outcomes.ensures.items) (front-none g.S.Session.instance c.args.retries c.args.script.now),
+  subst (RanUpTo g.S.Session.instance c.args.retries c.args.script.now 0 1 []) (sym c.new-outcomes.ensures.items) (up_to-none g.S.Session.instance c.args.retries c.args.script.now),
 )
 
 pub run_job-next-requires-clause-in_range : goal.run_job-next-requires-clause-in_range
@@ -41,4 +41,4 @@ pub returns : goal.returns
 returns g c =
     let i = c.loop-i.invariant in
     let all : length c.args.script.now ≤ c.loop-i.i = search rules in
-    (i.0, i.1, front-whole g.S.Session.instance c.args.retries c.args.script.now c.loop-i.i (c.loop-i.i + 1) i.0 c.loop-i.outcomes.items all i.2)
+    (i.0, i.1, up_to-whole g.S.Session.instance c.args.retries c.args.script.now c.loop-i.i (c.loop-i.i + 1) i.0 c.loop-i.outcomes.items all i.2)

@@ -1,0 +1,5 @@
+-- Definitions that no public contract cites.
+pub mod Doing
+pub mod Laws
+pub mod Outcomes
+pub mod Runs

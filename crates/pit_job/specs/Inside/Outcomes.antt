@@ -1,0 +1,50 @@
+-- What a try comes to.
+use Rattle.std.specs.Prelude.{◌≡◌, ℕ, true, false, List, [], ◌∷◌}
+use Rattle.pit_model.specs.Pit.{Pit}
+use Rattle.pit_tx.specs.Sets.{Sets}
+use Rattle.pit_book.specs.History.{Answered}
+use Rattle.pit_book.specs.Calls.{work_call}
+use Rattle.pit_book.specs.declared.entry.Act.{Act}
+use Rattle.pit_book.specs.declared.reply.Refusal.{Refusal}
+use Rattle.pit_book.specs.declared.reply.Refusal.TheVariants as refusal
+use Rattle.pit_book.specs.declared.reply.Reply.{Reply}
+use Rattle.pit_book.specs.declared.reply.Reply.TheVariants as answered
+use Rattle.pit_book.specs.declared.reply.EntryReply.{EntryReply}
+use Rattle.pit_book.specs.declared.reply.EntryReply.TheVariants as reply
+use Rattle.pit_script.specs.Jobs.{Job}
+use Rattle.pit_job.specs.declared.outcome.Tried.{Tried}
+use Rattle.pit_job.specs.declared.outcome.Tried.TheVariants as tried
+use Rattle.pit_job.specs.declared.outcome.Outcome.{Outcome}
+use Rattle.pit_job.specs.declared.outcome.Outcome.TheVariants as outcome
+use Rattle.pit_job.specs.Outcomes.{is_moved_reply, IsItem, Repeats}
+
+abbrev pub outcome_of : EntryReply → ℕ → Outcome
+outcome_of (reply.Committed number) tries = outcome.Committed number tries
+outcome_of (reply.Refused why) tries = outcome.Refused why tries
+outcome_of reply.Withdrawn tries = outcome.Withdrawn tries
+
+-- what one try adds to the log
+abbrev pub Tries : Pit → Job → ℕ → List Answered → Tried → Type 0
+Tries pit task n es (tried.Moved block version) = Repeats pit task n 1 es
+Tries pit task n es (tried.Answered answer) =
+    (e : Answered) × (es ≡ e ∷ []) × IsItem pit task n e × (e.reply ≡ answer) × (is_moved_reply answer ≡ false)
+Tries pit task n es (tried.Stopped why) = es ≡ []
+
+-- what the ending of a transaction with this work adds to the log
+abbrev pub EndsBy : Act → Sets → List Answered → Tried → Type 0
+EndsBy ending work es (tried.Moved block version) =
+    (answer : EntryReply) × (es ≡ record { call = work_call work ending; reply = answer } ∷ []) × (is_moved_reply answer ≡ true)
+EndsBy ending work es (tried.Answered answer) = (es ≡ record { call = work_call work ending; reply = answer } ∷ []) × (is_moved_reply answer ≡ false)
+EndsBy ending work es (tried.Stopped why) = es ≡ []
+
+abbrev pub tried_refused : Refusal → Tried
+tried_refused (refusal.Ahead start commits) = tried.Answered (reply.Refused (refusal.Ahead start commits))
+tried_refused (refusal.Moved block version) = tried.Moved block version
+tried_refused (refusal.Misread block) = tried.Answered (reply.Refused (refusal.Misread block))
+tried_refused (refusal.Precedence block before) = tried.Answered (reply.Refused (refusal.Precedence block before))
+tried_refused (refusal.Over resource period load limit) = tried.Answered (reply.Refused (refusal.Over resource period load limit))
+
+-- what a commit's reply makes of a try
+abbrev pub tried_of : Reply → Tried
+tried_of (answered.Committed number) = tried.Answered (reply.Committed number)
+tried_of (answered.Refused why) = tried_refused why

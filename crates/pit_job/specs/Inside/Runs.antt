@@ -1,0 +1,26 @@
+-- What becomes of a planner's script, job by job.
+use Rattle.std.specs.Prelude.{ℕ, List, ◌++◌, drop, Result, Ok, Err}
+use Rattle.pit_model.specs.Pit.{Pit}
+use Rattle.pit_book.specs.History.{Answered}
+use Rattle.pit_job.specs.declared.outcome.JobStop.{JobStop}
+use Rattle.pit_job.specs.declared.outcome.JobStop.TheVariants as stop
+use Rattle.pit_script.specs.Jobs.{Job}
+use Rattle.pit_job.specs.declared.outcome.Outcome.{Outcome}
+use Rattle.pit_job.specs.declared.outcome.RunEnd.{RunEnd}
+use Rattle.pit_job.specs.declared.outcome.RunEnd.TheVariants as end
+use Rattle.pit_job.specs.Outcomes.{Repeats}
+use Rattle.pit_job.specs.Runs.{Ran, RanFrom}
+
+abbrev pub RanJob : Pit → Job → ℕ → ℕ → List Answered → Result Outcome JobStop → Type 0
+RanJob pit task retries n es (Ok o) = Ran pit task retries n es o
+RanJob pit task retries n es (Err why) = Repeats pit task n retries es
+
+abbrev pub end_of : JobStop → ℕ → RunEnd
+end_of stop.Full n = end.Full n
+end_of stop.NoMemory n = end.NoMemory n
+end_of stop.NoEntry n = end.NoEntry n
+
+-- whatever the jobs from the i-th on, which has the number n, come to, all come to this and then that
+abbrev pub RanUpTo : Pit → ℕ → List Job → ℕ → ℕ → List Answered → List Outcome → Type 0
+RanUpTo pit retries jobs i n es os =
+    (later : List Answered) (more : List Outcome) (ended : RunEnd) → RanFrom pit retries n (drop i jobs) later more ended → RanFrom pit retries 1 jobs (es ++ later) (os ++ more) ended
