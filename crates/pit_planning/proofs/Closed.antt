@@ -12,11 +12,11 @@ use Rattle.pit_cli.specs.declared.status.Status.{Status}
 use Rattle.pit_planning.specs.declared.plan_fault.PlanFault.{PlanFault}
 use Rattle.pit_planning.specs.declared.plan_fault.PlanFault.TheVariants as plan
 use Rattle.pit_planning.specs.Outcomes.{IsTold, IsOneHistory, IsToldOfOne}
-use Rattle.pit_planning.specs.Telling.{IsRunOf, IsPlanned}
+use Rattle.pit_planning.specs.Telling.{IsTextsRun, IsPlanned}
 use Rattle.pit_planning.specs.Texts.{Texts, AreTextsOf}
 use Rattle.pit_planning.proofs.OneOutcome.{fine_told, stopped_told}
 
-one-history : (texts : Texts) (retries : ℕ) (closed : State) (runs : List RunState) → IsRunOf texts retries closed runs → IsOneHistory texts retries closed runs
+one-history : (texts : Texts) (retries : ℕ) (closed : State) (runs : List RunState) → IsTextsRun texts retries closed runs → IsOneHistory texts retries closed runs
 one-history texts retries closed runs run =
     let pit : Pit = closed.plan.pit in
     let opening : List Answered = opening_history run.start in

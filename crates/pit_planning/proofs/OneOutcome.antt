@@ -20,7 +20,7 @@ use Rattle.pit_planning.specs.declared.plan_fault.PlanFault.{PlanFault}
 use Rattle.pit_planning.specs.declared.plan_fault.PlanFault.TheVariants as plan
 use Rattle.pit_planning.specs.Statuses.{plan_fault_status}
 use Rattle.pit_planning.specs.Texts.{Texts}
-use Rattle.pit_planning.specs.Telling.{status_by, all_whole, report_text, told_of, HasWhole, HasFront, Told, IsWritten, IsRunOf, IsNoRun, IsPlanned}
+use Rattle.pit_planning.specs.Telling.{status_by, all_whole, report_text, told_of, HasWhole, HasFront, Told, IsWritten, IsTextsRun, IsNoRun, IsPlanned}
 use Rattle.pit_planning.specs.Telling.IsWritten.{whole, no_solution, no_report, no_history}
 use Rattle.pit_planning.specs.Telling.IsPlanned.{ran, untold, refused}
 use Rattle.pit_planning.specs.Outcomes.{MayRun, AreRefused, IsUnwritten, closed_end, IsTold, IsDecisive, has_failed_if, HasFailed}
@@ -48,7 +48,7 @@ end_stopped closed runs fault result p q =
 
 -- ---- a run
 
-run_may : (texts : Texts) (retries : ℕ) (closed : State) (runs : List RunState) → IsRunOf texts retries closed runs → MayRun texts
+run_may : (texts : Texts) (retries : ℕ) (closed : State) (runs : List RunState) → IsTextsRun texts retries closed runs → MayRun texts
 run_may texts retries closed runs is = record { pit = is.pit; start = is.start; scripts = is.scripts; stand = is.stand; good = is.run.good; count = is.run.count }
 
 some_report : (pit : Pit) (commits : List Commit) (runs : List RunState) → 0 < length (report_text pit commits runs)
@@ -85,7 +85,7 @@ of_written out lines kept told ended result (no_history a b c d e is) = inr (is,
 -- ---- by the answer
 
 module _ (texts : Texts) (retries : ℕ) (out lines : Writing) (kept : Option Writing) where
-  told_whole : (result : Result Status PlanFault) (closed : State) (runs : List RunState) → IsRunOf texts retries closed runs → result ≢ Err (plan.Cli cli.CannotWrite)
+  told_whole : (result : Result Status PlanFault) (closed : State) (runs : List RunState) → IsTextsRun texts retries closed runs → result ≢ Err (plan.Cli cli.CannotWrite)
       → IsWholeOrFailed out lines kept (told_of closed runs) (closed_end closed runs) result → IsTold texts retries out lines kept result
   told_whole result closed runs run some (inl is) = record { closed = closed; runs = runs; run = run; ended = is.0; solution = is.1; report = is.2; sound = is.3; history = is.4 }
   told_whole result closed runs run some (inr is) = absurd (some is.0)

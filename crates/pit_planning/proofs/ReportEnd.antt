@@ -15,7 +15,7 @@ use Rattle.pit_job.specs.declared.outcome.Outcome.TheVariants as outcome
 use Rattle.pit_job.specs.declared.outcome.RunEnd.{RunEnd}
 use Rattle.pit_job.specs.declared.outcome.RunEnd.TheVariants as end
 use Rattle.pit_run.specs.Reports.{RunState}
-use Rattle.pit_report.specs.ReportText.{numbered_text, refusal_text, outcome_text, job_text, jobs_text, stopped_text, end_text, run_text, runs_text}
+use Rattle.pit_report.specs.ReportText.{numbered_text, refused_text, outcome_text, job_text, jobs_text, stopped_text, run_end_text, run_text, runs_text}
 use Rattle.pit_cli.specs.CheckText.{value_text, field_text, micro_text, load_text, short_text, shorts_text}
 use Rattle.pit_cli.specs.declared.status.Status.{Status}
 use Rattle.pit_cli.specs.declared.status.Status.TheVariants.{Fine, Failed}
@@ -142,7 +142,7 @@ passes_number : (word_text : List ℕ) (n : ℕ) → Passes word_text → Passes
 unfolding numbered_text
 passes_number word_text n p = passes_then word_text (decimal n) p (rest_high (decimal n) (high_decimal n))
 
-passes_refusal : (why : Refusal) → Passes (refusal_text why)
+passes_refusal : (why : Refusal) → Passes (refused_text why)
 passes_refusal (refusal.Ahead start commits) =
     passes_then (numbered_text (codes "ahead ") start) (numbered_text (codes " ") commits) (passes_number (codes "ahead ") start (λ e m. refl)) (passes_number (codes " ") commits (λ e m. refl))
 passes_refusal (refusal.Moved block version) =
@@ -164,8 +164,8 @@ passes_outcome (outcome.Committed n tries) =
     passes_then (numbered_text (codes "committed ") n) (numbered_text (codes " tries ") tries) (passes_number (codes "committed ") n (λ e m. refl)) (passes_number (codes " tries ") tries (λ e m. refl))
 passes_outcome (outcome.Withdrawn tries) = passes_number (codes "withdrawn tries ") tries (λ e m. refl)
 passes_outcome (outcome.Refused why tries) =
-    passes_then (codes "refused ") (refusal_text why ++ numbered_text (codes " tries ") tries) (λ e m. refl)
-    (passes_then (refusal_text why) (numbered_text (codes " tries ") tries) (passes_refusal why) (passes_number (codes " tries ") tries (λ e m. refl)))
+    passes_then (codes "refused ") (refused_text why ++ numbered_text (codes " tries ") tries) (λ e m. refl)
+    (passes_then (refused_text why) (numbered_text (codes " tries ") tries) (passes_refusal why) (passes_number (codes " tries ") tries (λ e m. refl)))
 
 -- ---- whole lines
 
@@ -208,8 +208,8 @@ reads_stopped planner job why p =
 abbrev at_end : RunEnd → Ending → Ending
 at_end ended ending = if is_whole ended then ending else Err Stopped
 
-reads_end : (planner : ℕ) (ended : RunEnd) → ReadsLines (at_end ended) (end_text planner ended)
-unfolding end_text
+reads_end : (planner : ℕ) (ended : RunEnd) → ReadsLines (at_end ended) (run_end_text planner ended)
+unfolding run_end_text
 reads_end planner end.Whole = λ e m. refl
 reads_end planner (end.Full job) = reads_stopped planner job (codes ": full\n") (λ e m. refl)
 reads_end planner (end.NoMemory job) = reads_stopped planner job (codes ": no memory\n") (λ e m. refl)
@@ -226,7 +226,7 @@ unfolding runs_text
 reads_runs [] = λ e m. refl
 reads_runs (run ∷ runs) =
     reads_then begins begins begins (at_end run.ended) (by_runs runs) (run_text run) (flat_map run_text runs)
-    (reads_then begins begins begins same (at_end run.ended) (jobs_text run.planner 1 run.jobs) (end_text run.planner run.ended) (reads_jobs run.planner 1 run.jobs) (reads_end run.planner run.ended))
+    (reads_then begins begins begins same (at_end run.ended) (jobs_text run.planner 1 run.jobs) (run_end_text run.planner run.ended) (reads_jobs run.planner 1 run.jobs) (reads_end run.planner run.ended))
     (reads_runs runs)
 
 reads_value : (z : ℤ) → ReadsLines same (codes "value " ++ value_text z)

@@ -20,7 +20,7 @@ use Rattle.pit_planning.specs.declared.plan_fault.PlanFault.{PlanFault}
 use Rattle.pit_planning.specs.declared.plan_fault.PlanFault.TheVariants.{Stopped}
 use Rattle.pit_planning.specs.Statuses.{plan_fault_status}
 use Rattle.pit_planning.specs.Texts.{Texts, AreTextsOf}
-use Rattle.pit_planning.specs.Telling.{IsLeft, HasWhole, IsRunOf, IsNoRun, ended_of, told_of}
+use Rattle.pit_planning.specs.Telling.{IsLeft, HasWhole, IsTextsRun, IsNoRun, ended_of, told_of}
 
 -- ---- by the texts alone
 
@@ -57,7 +57,7 @@ closed_end closed runs = ended_of runs (shortfalls_of closed.plan.pit (held_peri
 pub record IsTold (texts : Texts) (retries : ℕ) (out lines : Writing) (kept : Option Writing) (result : Result Status PlanFault) : Type 0 where
   pub closed : State
   pub runs : List RunState
-  pub run : IsRunOf texts retries closed runs
+  pub run : IsTextsRun texts retries closed runs
   pub ended : result ≡ closed_end closed runs
   pub solution : Appends out.before out.after (told_of closed runs).solution
   pub report : Appends lines.before lines.after (told_of closed runs).report

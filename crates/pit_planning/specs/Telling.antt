@@ -92,7 +92,7 @@ pub data IsWritten (out lines : Writing) (kept : Option Writing) (told : Told) (
       → HasFront kept told.history → result ≡ Err (Cli CannotWrite) → IsWritten out lines kept told ended result
 
 -- the texts stand for a pit, a start and scripts, and planners did these from it
-pub record IsRunOf (texts : Texts) (retries : ℕ) (closed : State) (runs : List RunState) : Type 0 where
+pub record IsTextsRun (texts : Texts) (retries : ℕ) (closed : State) (runs : List RunState) : Type 0 where
   pub pit : Pit
   pub start : List (ℕ × ℕ)
   pub scripts : List (List Job)
@@ -116,10 +116,10 @@ told_of closed runs = record {
 -- What `plan` does. Where there is a run, the solution that it left, its report and its history are written, unless memory is wanting for them; else
 -- nothing is written.
 pub data IsPlanned (texts : Texts) (retries : ℕ) (out lines : Writing) (kept : Option Writing) (result : Result Status PlanFault) : Type 0 where
-  ran : (closed : State) (runs : List RunState) → IsRunOf texts retries closed runs
+  ran : (closed : State) (runs : List RunState) → IsTextsRun texts retries closed runs
       → IsWritten out lines kept (told_of closed runs) (ended_of runs (shortfalls_of closed.plan.pit (held_period (commits_of closed.history)))) result
       → IsPlanned texts retries out lines kept result
-  untold : (closed : State) (runs : List RunState) → IsRunOf texts retries closed runs → Keeps out.before out.after → Keeps lines.before lines.after → IsLeft kept
+  untold : (closed : State) (runs : List RunState) → IsTextsRun texts retries closed runs → Keeps out.before out.after → Keeps lines.before lines.after → IsLeft kept
       → result ≡ Err (Cli NoMemory) → IsPlanned texts retries out lines kept result
   refused : (fault : PlanFault) → IsNoRun texts retries fault → Keeps out.before out.after → Keeps lines.before lines.after → IsLeft kept → result ≡ Err fault
       → IsPlanned texts retries out lines kept result

@@ -14,18 +14,18 @@ use Rattle.pit_run.specs.Reports.{RunState}
 unfoldable pub numbered_text : List ℕ → ℕ → List ℕ
 numbered_text word n = word ++ decimal n
 
-abbrev pub refusal_text : Refusal → List ℕ
-refusal_text (refusal.Ahead start commits) = numbered_text (codes "ahead ") start ++ numbered_text (codes " ") commits
-refusal_text (refusal.Moved block version) = numbered_text (codes "moved ") block ++ numbered_text (codes " ") version
-refusal_text (refusal.Misread block) = numbered_text (codes "misread ") block
-refusal_text (refusal.Precedence block before) = numbered_text (codes "precedence ") block ++ numbered_text (codes " ") before
-refusal_text (refusal.Over resource period load limit) =
+abbrev pub refused_text : Refusal → List ℕ
+refused_text (refusal.Ahead start commits) = numbered_text (codes "ahead ") start ++ numbered_text (codes " ") commits
+refused_text (refusal.Moved block version) = numbered_text (codes "moved ") block ++ numbered_text (codes " ") version
+refused_text (refusal.Misread block) = numbered_text (codes "misread ") block
+refused_text (refusal.Precedence block before) = numbered_text (codes "precedence ") block ++ numbered_text (codes " ") before
+refused_text (refusal.Over resource period load limit) =
     numbered_text (codes "over ") resource ++ (numbered_text (codes " ") period ++ (codes " " ++ (fixed_text 6 load ++ (codes " " ++ fixed_text 6 limit))))
 
 abbrev pub outcome_text : Outcome → List ℕ
 outcome_text (outcome.Committed number tries) = numbered_text (codes "committed ") number ++ numbered_text (codes " tries ") tries
 outcome_text (outcome.Withdrawn tries) = numbered_text (codes "withdrawn tries ") tries
-outcome_text (outcome.Refused why tries) = codes "refused " ++ (refusal_text why ++ numbered_text (codes " tries ") tries)
+outcome_text (outcome.Refused why tries) = codes "refused " ++ (refused_text why ++ numbered_text (codes " tries ") tries)
 
 -- `planner K job J WORDS`, and a line feed
 unfoldable pub job_text : ℕ → ℕ → Outcome → List ℕ
@@ -40,15 +40,15 @@ unfoldable pub stopped_text : ℕ → ℕ → List ℕ → List ℕ
 stopped_text planner job why = numbered_text (codes "planner ") planner ++ (numbered_text (codes " stopped at job ") job ++ why)
 
 -- where the run isn't whole
-unfoldable pub end_text : ℕ → RunEnd → List ℕ
-end_text planner end.Whole = []
-end_text planner (end.Full job) = stopped_text planner job (codes ": full\n")
-end_text planner (end.NoMemory job) = stopped_text planner job (codes ": no memory\n")
-end_text planner (end.NoEntry job) = stopped_text planner job (codes ": no entry\n")
-end_text planner end.NoThread = numbered_text (codes "planner ") planner ++ codes " not started\n"
+unfoldable pub run_end_text : ℕ → RunEnd → List ℕ
+run_end_text planner end.Whole = []
+run_end_text planner (end.Full job) = stopped_text planner job (codes ": full\n")
+run_end_text planner (end.NoMemory job) = stopped_text planner job (codes ": no memory\n")
+run_end_text planner (end.NoEntry job) = stopped_text planner job (codes ": no entry\n")
+run_end_text planner end.NoThread = numbered_text (codes "planner ") planner ++ codes " not started\n"
 
 abbrev pub run_text : RunState → List ℕ
-run_text run = jobs_text run.planner 1 run.jobs ++ end_text run.planner run.ended
+run_text run = jobs_text run.planner 1 run.jobs ++ run_end_text run.planner run.ended
 
 unfoldable pub runs_text : List RunState → List ℕ
 runs_text runs = flat_map run_text runs

@@ -1,7 +1,7 @@
 ghost use Rattle.std.specs.Prelude.{◌≡◌, ◌++◌, IfOk, OnOk, codes, decimal};
 ghost use Rattle.std.specs.Io.KnownBytes.{Appends};
 ghost use Rattle.pit_num.specs.Printed.{fixed_text};
-ghost use Rattle.pit_report.specs.ReportText.{numbered_text, refusal_text, outcome_text, job_text, jobs_text, end_text, stopped_text, run_text, runs_text};
+ghost use Rattle.pit_report.specs.ReportText.{numbered_text, refused_text, outcome_text, job_text, jobs_text, run_end_text, stopped_text, run_text, runs_text};
 
 use itoa::Buffer;
 use pit_book::Refusal;
@@ -81,7 +81,7 @@ fn write_outcome<W: Sink>(w: &mut W, outcome: Outcome) -> Result<(), WriteFault>
 }
 
 fn write_refusal<W: Sink>(w: &mut W, refusal: Refusal) -> Result<(), WriteFault>
-    ensures { OnOk result (Appends (W.contents w.old) (W.contents w.new) (refusal_text refusal)) }
+    ensures { OnOk result (Appends (W.contents w.old) (W.contents w.new) (refused_text refusal)) }
 {
     match refusal {
         Refusal::Ahead { start, commits } => write_two(w, b"ahead ", start, commits),
@@ -101,9 +101,9 @@ fn write_refusal<W: Sink>(w: &mut W, refusal: Refusal) -> Result<(), WriteFault>
     }
 }
 
-#[tactic(auto, unfolding(crate::specs::ReportText::end_text))]
+#[tactic(auto, unfolding(crate::specs::ReportText::run_end_text))]
 fn write_end<W: Sink>(w: &mut W, planner: u32, ended: RunEnd) -> Result<(), WriteFault>
-    ensures { OnOk result (Appends (W.contents w.old) (W.contents w.new) (end_text planner ended)) }
+    ensures { OnOk result (Appends (W.contents w.old) (W.contents w.new) (run_end_text planner ended)) }
 {
     match ended {
         RunEnd::Whole => write_text(w, b""),
