@@ -18,8 +18,7 @@ use Rattle.pit_script.specs.declared.step.JobEnd.{JobEnd}
 use Rattle.pit_script.specs.declared.step.JobEnd.TheVariants as ending
 use Rattle.pit_script.specs.declared.step.Step.{Step}
 use Rattle.pit_script.specs.declared.step.Step.TheVariants as step
-use Rattle.pit_effect.specs.Effect.{Known, Effect, changes, unread, nothing, no_change, seen, looked, moved_by, step_after, next, steps_after, ended, effect, whole, read_in, HasEffect, IsEffectOf}
-use Rattle.pit_effect.specs.Inside.Effect.{Agrees}
+use Rattle.pit_effect.specs.Effect.{Known, Agrees, Effect, changes, unread, nothing, no_change, seen, looked, moved_by, step_after, next, steps_after, ended, effect, whole, read_in, HasEffect, IsEffectOf}
 
 pub seen-agrees : (s t : Known) (own : Commit) → Agrees s t → (b : ℕ) (v : Option ℕ) → seen s own b ≡ Some v → seen t own b ≡ Some v
 seen-agrees s t own same b v is = by (at_key nat_eq own.writes b) is

@@ -90,6 +90,10 @@ ended ending.Abort e = next e (λ own. nothing)
 unfoldable pub effect : Pit → Job → Known → Effect
 effect pit job known = ended job.end (steps_after pit known no_change job.steps)
 
+-- one map holds all that the other does
+abbrev pub Agrees : Known → Known → Type 0
+Agrees known more = (b : ℕ) (v : Option ℕ) → known b ≡ Some v → more b ≡ Some v
+
 -- a schedule, which knows every block
 abbrev pub whole : (ℕ → Option ℕ) → Known
 whole schedule b = Some (schedule b)

@@ -5,8 +5,7 @@ ghost use Rattle.pit_book.specs.History.{Answered, commit_of};
 ghost use Rattle.pit_book.specs.OneThread.{IsOfOneThread, held_period_after};
 ghost use Rattle.pit_book.specs.declared.reply.EntryReply.TheVariants.{Committed as committed};
 ghost use Rattle.pit_script.specs.Jobs.{Job};
-ghost use Rattle.pit_effect.specs.Effect.{Known, Effect, effect, changes, unread, whole, HasEffect};
-ghost use Rattle.pit_effect.specs.Inside.Effect.{Agrees};
+ghost use Rattle.pit_effect.specs.Effect.{Known, Agrees, Effect, effect, changes, unread, whole, HasEffect};
 
 /// A law of effects: where the effect over what was read isn't unread, whatever agrees with it has the same.
 pub fn one_effect()

@@ -15,8 +15,7 @@ use Rattle.pit_share.specs.declared.error.ReadStop.{ReadStop}
 use Rattle.pit_script.specs.Benches.{bench_of}
 use Rattle.pit_script.specs.declared.step.Step.{Step}
 use Rattle.pit_script.specs.declared.step.Step.TheVariants as step
-use Rattle.pit_effect.specs.Effect.{Known, Effect, changes, read_in, seen, looked, moved_by, put_at, with_written, with_revised, with_bench, step_after, next, steps_after}
-use Rattle.pit_effect.specs.Inside.Effect.{Agrees}
+use Rattle.pit_effect.specs.Effect.{Agrees, Known, Effect, changes, read_in, seen, looked, moved_by, put_at, with_written, with_revised, with_bench, step_after, next, steps_after}
 use Rattle.pit_effect.specs.Shifts.{shifted}
 use Rattle.pit_effect.proofs.CallerLemmas.{seen-agrees}
 use Rattle.pit_job.specs.Inside.Doing.{own_of, SameLog, Same, LooksUp, Puts, DoesStep, DoesSteps}

@@ -1,9 +1,32 @@
 -- What runs come to, job by job.
-use Rattle.std.specs.Prelude.{◌≡◌, ℕ, ◌+◌, List, Option, slice_get, Some}
+use Rattle.std.specs.Prelude.{◌≡◌, ℕ, ◌+◌, ◌<◌, ◌==◌, List, Option, slice_get, Some, filter, length}
 use Rattle.pit_model.specs.Pit.{Pit}
 use Rattle.pit_book.specs.History.{Answered, commit_of}
 use Rattle.pit_script.specs.Jobs.{Job}
-use Rattle.pit_effect.specs.Effect.{effect, changes, whole}
+use Rattle.pit_effect.specs.Effect.{HasEffect, effect, changes, whole}
+use Rattle.pit_job.specs.declared.outcome.Outcome.{Outcome}
+use Rattle.pit_job.specs.declared.outcome.RunEnd.{RunEnd}
+use Rattle.pit_job.specs.declared.outcome.RunEnd.TheVariants as end
+
+-- the entries of a job
+abbrev pub of_job : ℕ → List Answered → List Answered
+of_job n es = filter (λ e. e.call.job == n) es
+
+-- its job is one of these, the first of which has the number n, and has its effect
+pub record HasOwnEffect (pit : Pit) (n : ℕ) (jobs : List Job) (e : Answered) : Type 0 where
+  pub place : ℕ
+  pub task : Job
+  pub number : e.call.job ≡ n + place
+  pub at : slice_get jobs place ≡ Some task
+  pub effect : HasEffect pit task e.call
+
+-- Whole has an outcome for every job, and an end that names a job has one for each job before it
+abbrev pub EndsAfter : ℕ → List Job → List Outcome → RunEnd → Type 0
+EndsAfter n jobs os end.Whole = length os ≡ length jobs
+EndsAfter n jobs os (end.Full job) = (job ≡ n + length os) × (length os < length jobs)
+EndsAfter n jobs os (end.NoMemory job) = (job ≡ n + length os) × (length os < length jobs)
+EndsAfter n jobs os (end.NoEntry job) = (job ≡ n + length os) × (length os < length jobs)
+EndsAfter n jobs os end.NoThread = ⊥
 
 -- its job is one of the script's, and it wrote that job's effect over the schedule
 pub record WroteEffect (pit : Pit) (script : List Job) (schedule : ℕ → Option ℕ) (e : Answered) : Type 0 where

@@ -6,7 +6,7 @@ ghost use Rattle.pit_script.specs.Jobs.{Job};
 ghost use Rattle.pit_job.specs.declared.outcome.Outcome.{Outcome};
 ghost use Rattle.pit_job.specs.declared.outcome.RunEnd.{RunEnd};
 ghost use Rattle.pit_job.specs.Runs.{RanFrom, Ran};
-ghost use Rattle.pit_job.specs.Inside.Laws.{of_job, HasOwnEffect, EndsAfter};
+ghost use Rattle.pit_job.specs.Laws.{of_job, HasOwnEffect, EndsAfter};
 
 /// A law of runs: each job's entries are settled by its outcome, each entry has its own job's effect, and the end says how many jobs have
 /// an outcome.
