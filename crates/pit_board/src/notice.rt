@@ -39,10 +39,6 @@ impl<S: Session, A: Allocator + Copy + Drop> Notice<S, A> {
         })
     }
 
-    pub(crate) fn operation(&self) -> &Operation<S, A> {
-        &self.operation
-    }
-
     pub(crate) fn into_parts(self) -> (Changes<A>, Operation<S, A>)
         ensures { result.0 ≡ self }
     {

@@ -17,7 +17,7 @@ use std::sync::{Mutex, Wait};
 #[derive(Drop)]
 pub struct Planner<'a, S: Session, R: Wait + Drop, A: Allocator + Copy + Drop> {
     floor: &'a Mutex<Floor<S, R, A>>,
-    account: Account<S, A>,
+    account: Box<Account<S, A>, A>,
 }
 
 impl<'a, S: Session, R: Wait + Drop, A: Allocator + Copy + Drop> Model for Planner<'a, S, R, A> {
@@ -25,15 +25,15 @@ impl<'a, S: Session, R: Wait + Drop, A: Allocator + Copy + Drop> Model for Plann
 
     ghost Value = { PlannerState };
 
-    ghost view = { λ p. p.account };
+    ghost view = { λ p. p.account.value };
 }
 
 impl<'a, S: Session, R: Wait + Drop, A: Allocator + Copy + Drop> Planner<'a, S, R, A> {
     pub(crate) fn new(
         floor: &'a Mutex<Floor<S, R, A>>,
-        account: Account<S, A>,
+        account: Box<Account<S, A>, A>,
     ) -> Planner<'a, S, R, A>
-        ensures { result ≡ account }
+        ensures { result ≡ account.value }
     {
         Planner { floor, account }
     }
@@ -70,6 +70,6 @@ impl<'a, S: Session, R: Wait + Drop, A: Allocator + Copy + Drop> Planner<'a, S, 
         ensures { result ≡ self.entry }
     {
         let Planner { floor: _, account } = self;
-        account.into_log()
+        Box::into_inner(account).into_log()
     }
 }

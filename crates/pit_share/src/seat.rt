@@ -1,5 +1,5 @@
 //! Seats of a workspace.
-ghost use Rattle.std.specs.Prelude.{◌≡◌, ◌≢◌, ◌+◌, ◌<◌, ◌≤◌, [], IfOk, OnOk, IfErr, IfSome};
+ghost use Rattle.std.specs.Prelude.{◌≡◌, ◌≢◌, ◌+◌, ◌<◌, ◌≤◌, [], IfOk, OnOk, IfErr};
 ghost use Rattle.pit_book.specs.History.{commits_of};
 ghost use Rattle.pit_share.specs.Accounts.{AreSizes};
 ghost use Rattle.pit_share.specs.Logs.{IsPlanner};
@@ -19,7 +19,7 @@ use std::sync::ledger::Share;
 /// The right to be one planner of a workspace. Contracts see the planner's number.
 #[derive(Drop)]
 pub struct Seat<S: Session, A: Allocator + Copy + Drop> {
-    account: Account<S, A>,
+    account: Box<Account<S, A>, A>,
 }
 
 impl<S: Session, A: Allocator + Copy + Drop> Model for Seat<S, A> {
@@ -29,9 +29,9 @@ impl<S: Session, A: Allocator + Copy + Drop> Model for Seat<S, A> {
 
     ghost Value = { ℕ };
 
-    ghost view = { λ s. s.account.number };
+    ghost view = { λ s. s.account.value.number };
 
-    ghost invariant = { λ s. s.account ≡ planner_of s.account.number [] (commits_of S.opening) };
+    ghost invariant = { λ s. s.account.value ≡ planner_of s.account.value.number [] (commits_of S.opening) };
 }
 
 impl<S: Session, A: Allocator + Copy + Drop> Seat<S, A> {
@@ -43,9 +43,9 @@ impl<S: Session, A: Allocator + Copy + Drop> Seat<S, A> {
         Planner::new(workspace.floor(), account)
     }
 
-    fn new(account: Account<S, A>) -> Seat<S, A>
-        requires { account ≡ planner_of account.number [] (commits_of S.opening) }
-        ensures { result ≡ account.number }
+    fn new(account: Box<Account<S, A>, A>) -> Seat<S, A>
+        requires { account.value ≡ planner_of account.value.number [] (commits_of S.opening) }
+        ensures { result ≡ account.value.number }
     {
         Seat { account }
     }
@@ -71,8 +71,9 @@ pub(crate) fn seats_of<S: Session, R: Wait + Drop, A: Allocator + Copy + Drop>(
 {
     let mut seats: Vec<Seat<S, A>, A> = Vec::new(alloc);
     for before in 0..planners {
-        let Some(seat) = seat_of(alloc, hall, rest, sizes, before + 1) else {
-            return Err(OpenError::NoPlace);
+        let seat = match seat_of(alloc, hall, rest, sizes, before + 1) {
+            Ok(seat) => seat,
+            Err(error) => return Err(error),
         };
         let Ok(()) = seats.push(seat) else {
             return Err(OpenError::NoMemory);
@@ -81,23 +82,29 @@ pub(crate) fn seats_of<S: Session, R: Wait + Drop, A: Allocator + Copy + Drop>(
     Ok(seats)
 }
 
-/// One seat, if a place at the board is left.
+/// One seat, where a place at the board is left.
 fn seat_of<S: Session, R: Wait + Drop, A: Allocator + Copy + Drop>(
     alloc: A,
     hall: &Hall<S, R, A>,
     rest: &mut Share<S>,
     sizes: Sizes,
     number: u32,
-) -> Option<Seat<S, A>>
+) -> Result<Seat<S, A>, OpenError>
     requires hall { hall.now ≡ commits_of S.opening }
     requires number { IsPlanner S.planners number }
     requires part { 0 < rest.old.parts }
     requires none_left { rest.old.amount ≡ 0 }
     requires sizes { AreSizes S.instance sizes }
-    ensures seat { IfSome result (λ seat. seat ≡ number) }
-    ensures parts { IfSome result (λ seat. rest.new.parts + 1 ≡ rest.old.parts) }
+    ensures seat { IfOk result (λ seat. seat ≡ number) }
+    ensures parts { OnOk result (rest.new.parts + 1 ≡ rest.old.parts) }
     ensures none_left { rest.new.amount ≡ 0 }
+    ensures count { IfErr result (λ error. error ≢ OpenError.PlannerCount) }
 {
-    let view = hall.view(rest)?;
-    Some(Seat::new(Account::new(alloc, number, view, sizes)))
+    let Some(view) = hall.view(rest) else {
+        return Err(OpenError::NoPlace);
+    };
+    match Box::new(alloc, Account::new(alloc, number, view, sizes)) {
+        Ok(account) => Ok(Seat::new(account)),
+        Err(_) => Err(OpenError::NoMemory),
+    }
 }

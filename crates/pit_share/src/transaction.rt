@@ -30,7 +30,7 @@ use std::sync::{Mutex, Wait};
 /// `start` of the commits that the planner has seen. Contracts see the planner, and the sets.
 pub struct Transaction<'a, S: Session, R: Wait + Drop, A: Allocator + Copy + Drop> {
     floor: &'a Mutex<Floor<S, R, A>>,
-    account: Account<S, A>,
+    account: Box<Account<S, A>, A>,
     work: Work<A>,
 }
 
@@ -40,19 +40,19 @@ impl<'a, S: Session, R: Wait + Drop, A: Allocator + Copy + Drop> Model
 
     ghost Value = { TransactionState };
 
-    ghost view = { λ t. record { planner = t.account; work = t.work } };
+    ghost view = { λ t. record { planner = t.account.value; work = t.work } };
 
-    ghost invariant = { λ t. IsTransactionKept S.instance (record { planner = t.account; work = t.work }) };
+    ghost invariant = { λ t. IsTransactionKept S.instance (record { planner = t.account.value; work = t.work }) };
 }
 
 impl<'a, S: Session, R: Wait + Drop, A: Allocator + Copy + Drop> Transaction<'a, S, R, A> {
     pub(crate) fn new(
         floor: &'a Mutex<Floor<S, R, A>>,
-        account: Account<S, A>,
+        account: Box<Account<S, A>, A>,
         work: Work<A>,
     ) -> Transaction<'a, S, R, A>
-        requires { IsTransactionKept S.instance (record { planner = account; work = work }) }
-        ensures { result ≡ record { planner = account; work = work } }
+        requires { IsTransactionKept S.instance (record { planner = account.value; work = work }) }
+        ensures { result ≡ record { planner = account.value; work = work } }
     {
         Transaction {
             floor,
@@ -67,6 +67,7 @@ impl<'a, S: Session, R: Wait + Drop, A: Allocator + Copy + Drop> Transaction<'a,
         ensures kept { IsTransactionKept S.instance self.now }
         ensures lawful { AreLawful S.instance self.now.planner.seen }
     {
+        // shows that what was seen is lawful
         let _front = self.account.front();
         self.work.start()
     }

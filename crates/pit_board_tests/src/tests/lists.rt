@@ -140,7 +140,7 @@ fn publish_all<S: Session, R: Wait + Drop, W: Wait + Abort>(
     }
 }
 
-/// Publishes a drawn commit, in one case of three behind a notice that isn't published.
+/// Publishes a drawn commit.
 fn publish<S: Session, R: Wait + Drop, W: Wait + Abort>(
     rt: &W,
     alloc: Global,
@@ -150,11 +150,8 @@ fn publish<S: Session, R: Wait + Drop, W: Wait + Abort>(
 ) {
     let writes = draw_writes(rt, alloc, series);
     let revises = draw_revises(rt, alloc, series);
-    if series.below(3) == 0 {
-        assert!(rt; opened.give_up(&writes, &revises).is_ok());
-    }
     let work = work_of(rt, alloc, opened.desk.plan(), &writes, &revises);
-    opened.commit(rt, work);
+    assert!(rt; opened.commit(rt, work).is_ok());
     keep(rt, kept, opened.count(), &writes);
     drop(writes);
     drop(revises);

@@ -1,11 +1,10 @@
 //! Want of memory, and calls that take none.
 ghost use Rattle.std.specs.Prelude.{◌≡◌, ◌<◌};
-ghost use Rattle.pit_board_tests.specs.Made.{IsMade};
 
-use super::{Made, OpenHall, Pair, Reader, Revision, desk_over, work_of};
+use super::{OpenHall, Pair, Reader, Revision, desk_over, work_of};
 use linked_list_allocator::LocalHeap;
 use pit_board::{Changes, EmptyList, Front, Session, Slot};
-use pit_book::{Desk, Stop};
+use pit_book::Desk;
 use pit_refuse::{Count, Refusing};
 use pit_sample::Size;
 use pit_tx::Work;
@@ -32,9 +31,6 @@ type Slots = [Option<Slot>; 4];
 
 /// The places of a hall.
 const READERS: u32 = 2;
-
-/// The notices that aren't published, past the doublings of what they are kept in.
-const GIVEN_UP: u32 = 10;
 
 /// What each second commit writes.
 const WRITES: &[Pair] = &[(2, Some(1)), (0, None), (3, Some(0))];
@@ -64,45 +60,34 @@ fn refuse_each<W: Wait + Abort>(rt: &W, alloc: Global) {
 fn is_whole<W: Wait + Abort>(rt: &W, alloc: Global, number: u64) -> bool {
     let calm = Refusing::over_heap(alloc, BYTES, 0).expect(rt, "a heap");
     let heap = Refusing::over_heap(alloc, BYTES, number).expect(rt, "a heap");
-    let heaps = Heaps {
-        calm: &calm,
-        heap: &heap,
-    };
-    play_twice(rt, heaps, &calm, &heap);
+    play_twice(rt, &heap, &calm, &heap);
     assert!(rt; heap.used() == 0 && calm.used() == 0);
     !heap.count().has_refused()
-}
-
-/// The heap of the desk, which refuses nothing, and that of the hall.
-#[derive(Clone, Copy)]
-struct Heaps<'a> {
-    calm: Heap<'a>,
-    heap: Heap<'a>,
 }
 
 /// Opens a hall of a desk, and opens another for it where memory was refused. The desk's memory is calm.
 fn play_twice<A: Allocator + Copy + Drop, W: Wait + Abort>(
     rt: &W,
-    heaps: Heaps<'_>,
+    heap: Heap<'_>,
     calm: A,
     alloc: A,
 ) {
     let desk = desk_over(rt, calm, SIZE);
-    if let Some(desk) = play(rt, heaps, calm, alloc, desk) {
-        play_again(rt, heaps, calm, alloc, desk);
+    if let Some(desk) = play(rt, heap, calm, alloc, desk) {
+        play_again(rt, heap, calm, alloc, desk);
     }
 }
 
 fn play_again<A: Allocator + Copy + Drop, W: Wait + Abort>(
     rt: &W,
-    heaps: Heaps<'_>,
+    heap: Heap<'_>,
     calm: A,
     alloc: A,
     desk: Desk<A>,
 ) {
-    assert!(rt; heaps.heap.count().has_refused());
-    assert!(rt; heaps.heap.used() == 0);
-    let left = play(rt, heaps, calm, alloc, desk);
+    assert!(rt; heap.count().has_refused());
+    assert!(rt; heap.used() == 0);
+    let left = play(rt, heap, calm, alloc, desk);
     assert!(rt; left.is_none(), "no memory twice");
     drop(left);
 }
@@ -110,7 +95,7 @@ fn play_again<A: Allocator + Copy + Drop, W: Wait + Abort>(
 /// Makes each call of a hall. The desk is handed back where none is opened.
 fn play<A: Allocator + Copy + Drop, W: Wait + Abort>(
     rt: &W,
-    heaps: Heaps<'_>,
+    heap: Heap<'_>,
     calm: A,
     alloc: A,
     desk: Desk<A>,
@@ -118,7 +103,7 @@ fn play<A: Allocator + Copy + Drop, W: Wait + Abort>(
     in_session::<Brand, _, _, _>(
         rt,
         rt,
-        heaps,
+        heap,
         calm,
         alloc,
         EmptyList::new(),
@@ -130,7 +115,7 @@ fn play<A: Allocator + Copy + Drop, W: Wait + Abort>(
 fn in_session<S: Session, R: Wait + Drop, A: Allocator + Copy + Drop, W: Wait + Abort>(
     rt: &W,
     own: R,
-    heaps: Heaps<'_>,
+    heap: Heap<'_>,
     calm: A,
     alloc: A,
     list: EmptyList,
@@ -147,7 +132,7 @@ fn in_session<S: Session, R: Wait + Drop, A: Allocator + Copy + Drop, W: Wait + 
     let (total, rest) = shares.open::<S>();
     match OpenHall::<S, R, A>::open(own, alloc, list, desk, READERS) {
         Ok(opened) => {
-            each_call(rt, heaps, calm, opened, total, rest);
+            each_call(rt, heap, calm, opened, total, rest);
             None
         }
         Err(desk) => Some(desk),
@@ -157,7 +142,7 @@ fn in_session<S: Session, R: Wait + Drop, A: Allocator + Copy + Drop, W: Wait + 
 /// Takes each place, publishes, and ends the hall before its readers.
 fn each_call<S: Session, R: Wait + Drop, A: Allocator + Copy + Drop, W: Wait + Abort>(
     rt: &W,
-    heaps: Heaps<'_>,
+    heap: Heap<'_>,
     calm: A,
     mut opened: OpenHall<S, R, A>,
     mut total: Book<S>,
@@ -166,12 +151,12 @@ fn each_call<S: Session, R: Wait + Drop, A: Allocator + Copy + Drop, W: Wait + A
     requires parts { rest.parts ≡ 3 }
     requires left { rest.amount ≡ 0 }
 {
-    let before = heaps.heap.count();
+    let before = heap.count();
     let mut reader = opened.reader(&mut rest).expect(rt, "a place");
     let late = opened.reader(&mut rest).expect(rt, "a place");
     assert_taken(rt, &opened, &mut rest);
-    assert!(rt; heaps.heap.count() == before);
-    publish_all(rt, heaps, calm, &mut opened, &mut reader, &mut total);
+    assert!(rt; heap.count() == before);
+    publish_all(rt, heap, calm, &mut opened, &mut reader, &mut total);
     assert_same(rt, late, &mut reader);
     end(rt, opened, reader);
 }
@@ -213,27 +198,23 @@ fn end<S: Session, R: Wait + Drop, A: Allocator + Copy + Drop>(
     drop(reader);
 }
 
-/// Publishes four commits, the third behind notices that aren't published, and copies changes.
+/// Publishes four commits, and copies changes.
 fn publish_all<S: Session, R: Wait + Drop, A: Allocator + Copy + Drop, W: Wait + Abort>(
     rt: &W,
-    heaps: Heaps<'_>,
+    heap: Heap<'_>,
     calm: A,
     opened: &mut OpenHall<S, R, A>,
     reader: &mut Reader<S, A>,
     total: &mut Book<S>,
 ) {
-    publish_two(rt, heaps, calm, opened, reader, total, 1);
-    for _ in 0..GIVEN_UP {
-        give_up_twice(rt, heaps.heap, opened);
-    }
-    assert!(rt; read_all(reader) == slots_after(2));
-    publish_two(rt, heaps, calm, opened, reader, total, 3);
-    copy_twice(rt, heaps.heap, opened.alloc);
+    publish_two(rt, heap, calm, opened, reader, total, 1);
+    publish_two(rt, heap, calm, opened, reader, total, 3);
+    copy_twice(rt, heap, opened.alloc);
 }
 
 fn publish_two<S: Session, R: Wait + Drop, A: Allocator + Copy + Drop, W: Wait + Abort>(
     rt: &W,
-    heaps: Heaps<'_>,
+    heap: Heap<'_>,
     calm: A,
     opened: &mut OpenHall<S, R, A>,
     reader: &mut Reader<S, A>,
@@ -241,8 +222,8 @@ fn publish_two<S: Session, R: Wait + Drop, A: Allocator + Copy + Drop, W: Wait +
     first: u32,
 ) {
     for number in first..first.wrapping_add(2) {
-        publish(rt, heaps, calm, opened, number);
-        assert_quiet(rt, heaps.heap, opened, reader, total);
+        publish(rt, heap, calm, opened, number);
+        assert_quiet(rt, heap, opened, reader, total);
         assert!(rt; read_all(reader) == slots_after(number));
     }
 }
@@ -282,50 +263,32 @@ fn read_all<S: Session, A: Allocator + Copy + Drop>(reader: &mut Reader<S, A>) -
     ]
 }
 
-/// Publishes a commit. Once it is made it takes no memory, of the hall's and of the desk's.
+/// Publishes a commit, and again where memory was refused.
 fn publish<S: Session, R: Wait + Drop, A: Allocator + Copy + Drop, W: Wait + Abort>(
     rt: &W,
-    heaps: Heaps<'_>,
+    heap: Heap<'_>,
     calm: A,
     opened: &mut OpenHall<S, R, A>,
     number: u32,
 ) {
     let work = work_of(rt, calm, opened.desk.plan(), writes_by(number), REVISES);
-    let made = made_twice(rt, heaps.heap, opened, work);
-    let before = (heaps.calm.count(), heaps.heap.count());
-    opened.put(rt, made);
-    assert!(rt; (heaps.calm.count(), heaps.heap.count()) == before);
-}
-
-/// Makes all that grows for a commit, and makes it again where memory was refused.
-fn made_twice<S: Session, R: Wait + Drop, A: Allocator + Copy + Drop>(
-    rt: &impl Abort,
-    heap: Heap<'_>,
-    opened: &mut OpenHall<S, R, A>,
-    work: Work<A>,
-) -> Made<S, A>
-    ensures { IsMade opened.new result }
-{
     let before = (heap.count(), heap.used());
-    match opened.prepare(rt, work) {
-        Ok(made) => made,
-        Err((work, stop)) => {
-            assert!(rt; stop == Stop::NoMemory);
-            assert_refused(rt, heap, before);
-            made_again(rt, opened, work)
-        }
+    if let Err(work) = opened.commit(rt, work) {
+        assert_refused(rt, heap, before);
+        assert!(rt; opened.count() == number.wrapping_sub(1));
+        assert!(rt; opened.desk.plan().commits() == number.wrapping_sub(1));
+        assert!(rt; work.writes() == writes_by(number));
+        publish_again(rt, opened, work);
     }
 }
 
-fn made_again<S: Session, R: Wait + Drop, A: Allocator + Copy + Drop>(
-    rt: &impl Abort,
+fn publish_again<S: Session, R: Wait + Drop, A: Allocator + Copy + Drop, W: Wait + Abort>(
+    rt: &W,
     opened: &mut OpenHall<S, R, A>,
     work: Work<A>,
-) -> Made<S, A>
-    ensures { IsMade opened.new result }
-{
-    match opened.prepare(rt, work) {
-        Ok(made) => made,
+) {
+    match opened.commit(rt, work) {
+        Ok(()) => {}
         Err(_) => panic!(rt; "no memory twice"),
     }
 }
@@ -335,19 +298,6 @@ fn assert_refused(rt: &impl Abort, heap: Heap<'_>, before: (Count, usize)) {
     let (count, used) = before;
     assert!(rt; heap.count().has_refused_since(count));
     assert!(rt; heap.used() == used);
-}
-
-/// Lets a notice go, and another where memory was refused.
-fn give_up_twice<S: Session, R: Wait + Drop, A: Allocator + Copy + Drop>(
-    rt: &impl Abort,
-    heap: Heap<'_>,
-    opened: &mut OpenHall<S, R, A>,
-) {
-    let before = (heap.count(), heap.used());
-    if opened.give_up(WRITES, REVISES).is_err() {
-        assert_refused(rt, heap, before);
-        assert!(rt; opened.give_up(WRITES, REVISES).is_ok(), "no memory twice");
-    }
 }
 
 /// Copies changes, and copies them again where memory was refused.

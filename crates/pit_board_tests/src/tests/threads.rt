@@ -215,7 +215,7 @@ fn publish<S: Session, O: Wait + Drop, R: Wait + Abort, A: Allocator + Copy + Dr
 ) {
     let mut work = new_work(rt, alloc, opened.desk.plan());
     assert!(rt; write(&mut work, number).is_ok());
-    opened.commit(rt, work);
+    assert!(rt; opened.commit(rt, work).is_ok());
 }
 
 fn write<A: Allocator + Copy + Drop>(work: &mut Work<A>, number: u32) -> Result<(), WorkError> {

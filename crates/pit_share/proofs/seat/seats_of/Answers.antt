@@ -16,13 +16,13 @@ pub loop-before-preserved : goal.loop-before-preserved
 loop-before-preserved g c =
     let kept = c.loop-before.invariant in
     let seats : List ℕ = c.loop-before.seats.items in
-    let items : c.push.new.self.items ≡ seats ++ c.in-Some.seat ∷ [] = c.in-Ok.ensures.items in
+    let items : c.push.new.self.items ≡ seats ++ c.in-Ok.seat ∷ [] = c.in-Ok-push.ensures.items in
     let many : length seats ≡ c.loop-before.before = omega (arith, kept.many) in
-    let row = row-more seats c.in-Some.seat 1 (λ j less. omega (arith, kept.each j (omega (arith, less, many)))) (omega (arith, c.in-Some.ensures.seat, many)) in
+    let row = row-more seats c.in-Ok.seat 1 (λ j less. omega (arith, kept.each j (omega (arith, less, many)))) (omega (arith, c.in-Ok.ensures.seat, many)) in
     record {
-      parts = omega (arith, c.in-Some.ensures.parts, kept.parts);
+      parts = omega (arith, c.in-Ok.ensures.parts, kept.parts);
       none_left = c.seat_of.ensures.none_left;
-      many = omega (arith, c.in-Ok.ensures.len, kept.many);
+      many = omega (arith, c.in-Ok-push.ensures.len, kept.many);
       each = λ k less. subst (λ (xs : List ℕ). slice_index xs k ≡ k + 1) (sym items) (omega (arith, row k (omega (arith, less, many))));
     }
 

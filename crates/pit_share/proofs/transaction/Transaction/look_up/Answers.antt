@@ -15,6 +15,6 @@ note-requires-clause-held g c =
 pub returns-clause-looked : goal.returns-clause-looked
 returns-clause-looked g c =
     let within : c.in-Some.slot.version ≤ c.self.inside.work.start = omega (arith, c.if-version-start.false, c.start.ensures) in
-    let old : TransactionState = record { planner = c.self.inside.account; work = c.self.inside.work } in
+    let old : TransactionState = record { planner = c.self.inside.account.value; work = c.self.inside.work } in
     subst (λ (t : TransactionState). IsNoted t c.args.block c.in-Some.slot.period c.note.new.self) c.self.view_is
     (noted-slot old c.note.new.self c.read.new.self c.args.block c.in-Some.slot c.in-Some.ensures.slot within c.in-Ok.ensures.planner c.in-Ok.ensures.ok)
