@@ -1,4 +1,5 @@
 //! The readers against texts whose facts and faults were written down by hand.
+mod cuts;
 mod memory;
 mod models;
 mod others;
