@@ -3,6 +3,7 @@ mod engines;
 mod long;
 mod reads;
 mod runs;
+mod steps;
 
 use linked_list_allocator::LocalHeap;
 use pit_refuse::Refusing;

@@ -27,13 +27,29 @@ const CHECK: Run<'static> = Run {
     ..VALUE
 };
 
+const STEPS: Run<'static> = Run {
+    name: "the steps",
+    engine: Engine::Steps,
+    written: b"0 0\n1 0\n2 1\nvalue 37.772727272730000000\n",
+    ..VALUE
+};
+
+/// Runs, each with a number of requests that it makes at least.
+const RUNS: &[(Run<'static>, u64)] = &[
+    // Two texts, profits, factors, periods and pairs.
+    (VALUE, 6),
+    // Three texts, the facts, the plan and the answer.
+    (CHECK, 10),
+    // Profits, bounds, coefficients, predecessors, places, factors, a text, slots, pairs, and room for a line behind the text.
+    (STEPS, 10),
+];
+
 /// Each request is refused in turn.
 #[test]
 fn of_the_small_pit(rt: HostRuntime) {
-    // Two texts, profits, factors, periods and pairs.
-    refuse_each(&rt, rt.alloc(), VALUE, 6);
-    // Three texts, the facts, the plan and the answer.
-    refuse_each(&rt, rt.alloc(), CHECK, 10);
+    for (run, least) in RUNS {
+        refuse_each(&rt, rt.alloc(), *run, *least);
+    }
 }
 
 /// A model whose last line has too few fields, behind a coefficient.

@@ -1,4 +1,5 @@
 //! A run of an engine, in which each request is refused in turn.
+use super::steps::stepped;
 use super::{BYTES, Given, Heap, PIECE, device};
 use pit_cli::{CliFault, Status, check, value};
 use pit_refuse::Refusing;
@@ -10,6 +11,8 @@ use std::process::Abort;
 pub(super) enum Engine {
     Value,
     Check,
+    /// One that is made of the public steps.
+    Steps,
 }
 
 /// A row: its name, an engine, what it is given, how it ends, and what it writes, for which alone there is room.
@@ -28,6 +31,7 @@ fn answer_of(heap: Heap<'_>, run: Run<'_>, out: &mut Narrow) -> Result<Status, C
     match run.engine {
         Engine::Value => valued(heap, run, out),
         Engine::Check => checked(heap, run, out),
+        Engine::Steps => stepped(heap, run, out),
     }
 }
 
