@@ -25,6 +25,15 @@ const PERIOD_RANGE: Cause = Cause::Build(BuildError::PeriodRange);
 
 const REPEATED: Cause = Cause::Build(BuildError::Repeated);
 
+/// What a text is read as.
+#[derive(Clone, Copy)]
+enum Kind {
+    Model,
+    Precedence,
+    Blocks,
+    Solution,
+}
+
 /// The small pit, with nothing set.
 fn tiny(rt: &impl Abort, alloc: Global) -> Builder<Global> {
     TINY_SIZE.builder(alloc).expect(rt, "memory")

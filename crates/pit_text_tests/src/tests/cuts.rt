@@ -1,20 +1,11 @@
 //! The texts of the small pit, cut behind each byte.
-use super::{MALFORMED, bounds_of, built, tiny};
+use super::{Kind, MALFORMED, bounds_of, built, tiny};
 use pit_model::{Builder, Instance};
 use pit_sample::{TINY_BLOCKS, TINY_MODEL, TINY_PRECEDENCE, TINY_SOLUTION};
 use pit_text::Cause::{BadHeader, CountWrong, FieldCount, MissingHeader, NotCpit};
 use pit_text::{Cause, Key, TextError, read_blocks, read_model, read_precedence, read_solution};
 use std::alloc::Global;
 use std::process::Abort;
-
-/// What a text is read as.
-#[derive(Clone, Copy)]
-enum Kind {
-    Model,
-    Precedence,
-    Blocks,
-    Solution,
-}
 
 /// What a text that is read adds up to, or the line and the cause of its fault.
 type Answer = Result<i64, (u64, Cause)>;

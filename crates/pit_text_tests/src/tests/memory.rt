@@ -1,5 +1,5 @@
 //! Each allocation refused in turn, and what is freed after a fault.
-use super::{BLOCK_RANGE, REPEATED, fault};
+use super::{BLOCK_RANGE, Kind, REPEATED, fault};
 use linked_list_allocator::LocalHeap;
 use pit_model::{Builder, Instance};
 use pit_refuse::Refusing;
@@ -32,15 +32,6 @@ NRESOURCE_SIDE_CONSTRAINTS: 3
 DISCOUNT_RATE: 0.1
 RESOURCE_CONSTRAINT_COEFFICIENTS:
 ";
-
-/// What a text is read as.
-#[derive(Clone, Copy)]
-enum Kind {
-    Model,
-    Precedence,
-    Blocks,
-    Solution,
-}
 
 /// Want of memory for what a text is read into.
 const WANT: TextError = TextError {
