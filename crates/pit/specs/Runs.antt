@@ -93,14 +93,14 @@ pub record IsFileRun {F : Type 0} (at : CliFault → F) (up : Result Status F �
   pub is : result ≡ up answer
   pub quiet : IsQuiet
 
-pub record IsPlanOf (opens : Input → Option Bool) (told : Input → Option (List ℕ)) (keeps : Option Bool) (given : ArgMatches) (out lines : Writing) (result : Result Status PlanFault) : Type 0 where
+pub record IsAskedPlan (opens : Input → Option Bool) (told : Input → Option (List ℕ)) (keeps : Option Bool) (given : ArgMatches) (out lines : Writing) (result : Result Status PlanFault) : Type 0 where
   pub retries : ℕ
   pub retries_are : IsRetries given retries
   pub runs : IsPlanRun opens told keeps given retries out lines result
 
 pub record IsPlanning (opens : Input → Option Bool) (told : Input → Option (List ℕ)) (keeps : Option Bool) (given : ArgMatches) (out lines : Writing) (result : Result Status EngineFault) : Type 0 where
   pub answer : Result Status PlanFault
-  pub runs : IsPlanOf opens told keeps given out lines answer
+  pub runs : IsAskedPlan opens told keeps given out lines answer
   pub is : result ≡ of_plan answer
 
 -- the result is that of an engine on the files of its inputs

@@ -2,7 +2,7 @@
 ghost use Rattle.std.specs.Prelude.{◌≡◌};
 ghost use Rattle.pit_cli.specs.Devices.{writing_of};
 ghost use Rattle.pit.specs.declared.engine.Engine.TheVariants.{Value as value_engine, Check as check_engine, Replay as replay_engine};
-ghost use Rattle.pit.specs.Runs.{file_bytes, file_opens, history_opens, inputs_of, of_cli, of_plan, of_replay, OpensEach, IsRunOf, IsValueRun, IsCheckRun, IsPlanOf, IsReplayRun};
+ghost use Rattle.pit.specs.Runs.{file_bytes, file_opens, history_opens, inputs_of, of_cli, of_plan, of_replay, OpensEach, IsRunOf, IsValueRun, IsCheckRun, IsAskedPlan, IsReplayRun};
 
 use crate::argument::retries_of;
 use crate::engine::Engine;
@@ -146,7 +146,7 @@ fn run_plan<D: Disk, R: Threads + Wait + Sync, W: Sink, L: Sink>(
         let written = writing_of (W.contents out.old) (W.contents out.new) (W.has_failed out.new) in
         let lines = writing_of (L.contents report.old) (L.contents report.new) (L.has_failed report.new) in
         let keeps = history_opens (D.keeps_at disk.now) given.now in
-        IsPlanOf opens told keeps given.now written lines result }
+        IsAskedPlan opens told keeps given.now written lines result }
 {
     let retries = retries_of(given);
     let input = match plan_input(alloc, disk, given) {

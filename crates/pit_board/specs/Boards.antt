@@ -1,21 +1,7 @@
--- What a board shows of commits.
-use Rattle.std.specs.Prelude.{◌≡◌, ℕ, ◌<◌, List, length, slice_index_or, unwrap_or, is_some, if◌then◌else◌, nat_eq}
-use Rattle.std.specs.Map.{lookup}
-use Rattle.pit_plan.specs.Schedule.{Writes, Commit, held_period, last_number}
+-- What the commits leave of a block.
+use Rattle.std.specs.Prelude.{ℕ, List}
+use Rattle.pit_plan.specs.Schedule.{Commit, held_period, last_number}
 use Rattle.pit_board.specs.declared.slot.Slot.{Slot}
 
--- the slot of a block that has this one before a commit with these writes, whose number is n
-abbrev pub slot_after : ℕ → Writes → ℕ → Slot → Slot
-slot_after n writes b before = record {
-  period = unwrap_or (lookup (nat_eq b) writes) before.period;
-  version = if is_some (lookup (nat_eq b) writes) then n else before.version;
-}
-
--- what the commits leave of a block
 abbrev pub slot_of : List Commit → ℕ → Slot
 slot_of commits b = record { period = held_period commits b; version = last_number commits b }
-
--- a slot for each of so many blocks, which is what the commits leave of it
-pub record ShowsAll (blocks : ℕ) (commits : List Commit) (slots : List Slot) : Type 0 where
-  pub many : length slots ≡ blocks
-  pub each : (b : ℕ) (d : Slot) → b < blocks → slice_index_or slots b d ≡ slot_of commits b

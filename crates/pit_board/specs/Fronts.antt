@@ -1,5 +1,5 @@
 -- What is so of each beginning of the list of commits.
-use Rattle.std.specs.Prelude.{◌≡◌, ℕ, List, ◌++◌, length, All}
+use Rattle.std.specs.Prelude.{List, All}
 use Rattle.pit_num.specs.Fitting.{Fits}
 use Rattle.pit_model.specs.Pit.{Pit}
 use Rattle.pit_plan.specs.Schedule.{Commit}
@@ -9,10 +9,3 @@ use Rattle.pit_book.specs.Legal.{EachIsGood}
 pub record AreLawful (pit : Pit) (commits : List Commit) : Type 0 where
   pub good : EachIsGood pit commits
   pub fit : All (λ commit. Fits pit.blocks pit.periods commit.writes) commits
-
--- what a front keeps of the commits of the opening history and those that were added: how many there are in all, how many were added, and that they
--- are lawful
-pub record IsFrontKept (pit : Pit) (opening later : List Commit) (commits added : ℕ) : Type 0 where
-  pub count : commits ≡ length (opening ++ later)
-  pub later_count : added ≡ length later
-  pub lawful : AreLawful pit (opening ++ later)

@@ -1,5 +1,4 @@
 pub mod Fronts
 pub mod Boards
 pub mod Views
-pub mod InsideList
-pub mod InsideSlots
+pub mod Inside

@@ -1,7 +1,7 @@
 //! The board that readers see.
 ghost use Rattle.std.specs.Prelude.{◌≡◌, ◌<◌, ◌≤◌, ℕ, length, All, IfSome, slice_index_or, nat_eq, if◌then◌else◌};
 ghost use Rattle.pit_num.specs.declared.limits.TheConstants.{PERIODS_MAX};
-ghost use Rattle.pit_board.specs.Boards.{ShowsAll, slot_after};
+ghost use Rattle.pit_board.specs.Inside.Boards.{ShowsAll, slot_after};
 ghost use Rattle.pit_board.specs.declared.slot.Slot.{Slot};
 
 use crate::front::Front;
@@ -23,7 +23,7 @@ impl<S: Session, A: Allocator + Copy + Drop> Model for Board<S, A> {
     ghost use Rattle.std.specs.Prelude.{◌≤◌, List};
     ghost use Rattle.pit_num.specs.declared.limits.TheConstants.{PERIODS_MAX};
     ghost use Rattle.pit_plan.specs.Schedule.{Commit};
-    ghost use Rattle.pit_board.specs.Boards.{ShowsAll};
+    ghost use Rattle.pit_board.specs.Inside.Boards.{ShowsAll};
 
     ghost Value = { List Commit };
 

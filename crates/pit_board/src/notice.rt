@@ -9,7 +9,7 @@ use pit_num::NoMemory;
 use std::alloc::Allocator;
 use std::marker::Model;
 
-/// All that grows for the publication of a commit. Contracts see the commit.
+/// What a commit publishes, with the memory that it takes: its changes, and the board's operation. Contracts see the commit.
 #[derive(Drop)]
 pub struct Notice<S: Session, A: Allocator + Copy + Drop> {
     changes: Changes<A>,

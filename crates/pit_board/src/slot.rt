@@ -26,7 +26,7 @@ const _: () = prove!(size_of::<KeptSlot>() == 8);
 
 impl Model for KeptSlot {
     ghost use Rattle.pit_board.specs.declared.slot.Slot.{Slot};
-    ghost use Rattle.pit_board.specs.InsideSlots.{period_until, until_of, until_of-period_until};
+    ghost use Rattle.pit_board.specs.Inside.Slots.{period_until, until_of, until_of-period_until};
 
     ghost Value = { Slot };
 

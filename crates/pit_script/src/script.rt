@@ -5,7 +5,7 @@ ghost use Rattle.pit_text.specs.Stands.{StandsFor, StandsWhole, StopsAt, FailsFi
 ghost use Rattle.pit_text.specs.Inside.Stands.{IsCauseOf};
 ghost use Rattle.pit_script.specs.Jobs.{Job, job_at, jobs_of, progress_of, fact_in, with_fact, script_line, script_end};
 ghost use Rattle.pit_script.specs.Benches.{AreBenchesOf};
-ghost use Rattle.pit_script.specs.Inside.Kept.{jobs_in, AreJobEnds, start_from, end_at};
+ghost use Rattle.pit_script.specs.Inside.Kept.{jobs_in, AreJobEnds, start_from};
 ghost use Rattle.pit_script.specs.Ranges.{AreJobsIn};
 ghost use Rattle.pit_script.specs.Inside.Ranges.{IsFactIn, IsProgressIn};
 ghost use Rattle.pit_script.specs.declared.fact.ScriptFact.{ScriptFact as Fact};
@@ -32,10 +32,7 @@ pub struct Script<A: Allocator + Drop> {
 impl<A: Allocator + Drop> Model for Script<A> {
     ghost use Rattle.std.specs.Prelude.{List, length, ◌≤◌};
     ghost use Rattle.pit_script.specs.Jobs.{Job};
-    ghost use Rattle.pit_script.specs.Benches.{AreBenchesOf};
-    ghost use Rattle.pit_script.specs.Inside.Kept.{jobs_in, AreJobEnds, start_from, end_at};
-    ghost use Rattle.pit_script.specs.Ranges.{AreJobsIn};
-    ghost use Rattle.pit_script.specs.Inside.Ranges.{IsFactIn, IsProgressIn};
+    ghost use Rattle.pit_script.specs.Inside.Kept.{jobs_in, AreJobEnds};
     ghost use Rattle.pit_script.specs.declared.step.TheConstants.{JOBS_MAX as Most};
 
     ghost Value = { List Job };

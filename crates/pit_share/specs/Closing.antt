@@ -25,12 +25,7 @@ pub record IsFirstDiffering (pit : Pit) (opening : List Answered) (max_entries p
   pub goes_on : GoesOn pit opening max_entries planners desk
   pub least : IsLeastOf ◌<◌ (IsDiffering planners (drop (length opening) desk.history) logs) planner
 
--- the first refusal that applies to logs beside the entries past the opening history
-abbrev pub IsRefusedBeside : List Answered → ℕ → List PlannerState → CloseError → Type 0
-IsRefusedBeside past planners logs (error.Missing planner) = IsLeastOf ◌<◌ (IsMissing planners logs) planner
-IsRefusedBeside past planners logs (error.Differs planner) = HasEachLog planners logs × IsLeastOf ◌<◌ (IsDiffering planners past logs) planner
-
--- the same, of some such history
+-- the first refusal that applies to logs beside the entries of some such history, past the opening one
 abbrev pub IsCloseError : Pit → List Answered → ℕ → ℕ → List PlannerState → CloseError → Type 0
 IsCloseError pit opening max_entries planners logs (error.Missing planner) = IsLeastOf ◌<◌ (IsMissing planners logs) planner
 IsCloseError pit opening max_entries planners logs (error.Differs planner) = IsFirstDiffering pit opening max_entries planners logs planner

@@ -6,6 +6,4 @@ pub mod Logs
 pub mod GoingOn
 pub mod Closing
 pub mod Opening
-pub mod Floors
-pub mod Accounts
-pub mod Places
+pub mod Inside

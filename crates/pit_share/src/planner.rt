@@ -43,7 +43,7 @@ impl<'a, S: Session, R: Wait + Drop, A: Allocator + Copy + Drop> Planner<'a, S, 
         ensures number { result ≡ self.now.number }
         ensures lawful { AreLawful S.instance self.now.seen }
     {
-        // a call that shows what is lawful
+        // shows that what was seen is lawful
         let _front = self.account.front();
         self.account.number()
     }

@@ -1,7 +1,7 @@
 //! Seats of a workspace.
 ghost use Rattle.std.specs.Prelude.{◌≡◌, ◌≢◌, ◌+◌, ◌<◌, ◌≤◌, [], IfOk, OnOk, IfErr};
 ghost use Rattle.pit_book.specs.History.{commits_of};
-ghost use Rattle.pit_share.specs.Accounts.{AreSizes};
+ghost use Rattle.pit_share.specs.Inside.Accounts.{AreSizes};
 ghost use Rattle.pit_share.specs.Logs.{IsPlanner};
 ghost use Rattle.pit_share.specs.Opening.{AreSeats};
 ghost use Rattle.pit_share.specs.Planners.{planner_of};

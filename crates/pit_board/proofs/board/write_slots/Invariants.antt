@@ -1,5 +1,5 @@
 use Rattle.std.proofs.Common.{◌≡◌, ◌<◌, ◌≤◌, ℕ, length, drop, slice_index_or}
-use Rattle.pit_board.specs.Boards.{slot_after}
+use Rattle.pit_board.specs.Inside.Boards.{slot_after}
 use Rattle.pit_board.specs.declared.slot.Slot.{Slot}
 use Rattle.pit_board.proofs.board.write_slots.Given as goal
 

@@ -1,6 +1,7 @@
 use Rattle.std.proofs.Common.{◌≡◌, ◌+◌, ◌<◌, ◌++◌, ◌∷◌, [], List, length, ap, sym, subst, refl, ◌∙◌, arith, length-append}
 use Rattle.pit_plan.specs.Schedule.{Commit}
-use Rattle.pit_board.specs.Boards.{slot_after, slot_of}
+use Rattle.pit_board.specs.Boards.{slot_of}
+use Rattle.pit_board.specs.Inside.Boards.{slot_after}
 use Rattle.pit_board.specs.Fronts.{AreLawful}
 use Rattle.pit_board.proofs.Lawful.{last-periods}
 use Rattle.pit_board.proofs.Slots.{slot_of-push}

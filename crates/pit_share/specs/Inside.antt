@@ -1,0 +1,6 @@
+-- Definitions that no public contract cites.
+pub mod Snapshots
+pub mod Closing
+pub mod Floors
+pub mod Accounts
+pub mod Places
