@@ -15,31 +15,13 @@ usage() {
     echo "usage: $0 [-n COMMITS] [-b BLOCKS] [-t TWIN] NAME.." >&2
     exit 2
 }
-commits=100000
-among=4294967295
-twin=
-while getopts n:b:t: option; do
-    case $option in
-    n) commits=$OPTARG ;;
-    b) among=$OPTARG ;;
-    t) twin=$(realpath "$OPTARG") ;;
-    *) usage ;;
-    esac
-done
-shift $((OPTIND - 1))
-[ $# -ge 1 ] || usage
-for number in "$commits" "$among"; do
-    case $number in
-    '' | 0* | *[!0-9]*) usage ;;
-    esac
-done
-names=()
-for name in "$@"; do
-    [ -s "$name.sol" ] || usage
-    name=$(realpath "$name.sol")
-    names+=("${name%.sol}")
-done
-. "$(dirname "$(realpath "$0")")/program.sh"
+here=$(dirname "$(realpath "$0")")
+. "$here/words.sh"
+. "$here/program.sh"
+words n:b:t: 100000 "$@"
+commits=$count
+shift "$taken"
+named "$@"
 made_of desk pit_book pit_cli pit_model pit_num pit_text pit_tx
 
 # script NAME WRITES: the transactions of desk.txt, in the words of the twin.

@@ -11,25 +11,14 @@ usage() {
     echo "usage: $0 [-n JOBS] [-t TWIN] PIT NAME.." >&2
     exit 2
 }
-jobs=250000
-twin=
-while getopts n:t: option; do
-    case $option in
-    n) jobs=$OPTARG ;;
-    t) twin=$(realpath "$OPTARG") ;;
-    *) usage ;;
-    esac
-done
-shift $((OPTIND - 1))
+. "$(dirname "$(realpath "$0")")/words.sh"
+words n:t: 250000 "$@"
+jobs=$count
+shift "$taken"
 [ $# -ge 2 ] && [ -x "$1" ] || usage
-case $jobs in
-'' | 0* | *[!0-9]*) usage ;;
-esac
 pit=$(realpath "$1")
 shift
-for name in "$@"; do
-    [ -s "$name.sol" ] || usage
-done
+named "$@"
 work=$(mktemp -d)
 trap 'rm -rf "$work"' EXIT
 
@@ -75,7 +64,7 @@ whole() {
     echo
 }
 
-for name in "$@"; do
+for name in "${names[@]}"; do
     for seed in 1 2 3 4; do script "$name" "$seed"; done
     for _ in 1 2 3; do
         best "pit plan" "$pit" plan "$name.cpit" "$name.prec" --start "$name.sol" --history "$work/history" "$work"/script.[1-4]

@@ -12,31 +12,13 @@ usage() {
     echo "usage: $0 [-n TRANSACTIONS] [-b BLOCKS] [-t TWIN] NAME.." >&2
     exit 2
 }
-jobs=100000
-among=4294967295
-twin=
-while getopts n:b:t: option; do
-    case $option in
-    n) jobs=$OPTARG ;;
-    b) among=$OPTARG ;;
-    t) twin=$(realpath "$OPTARG") ;;
-    *) usage ;;
-    esac
-done
-shift $((OPTIND - 1))
-[ $# -ge 1 ] || usage
-for number in "$jobs" "$among"; do
-    case $number in
-    '' | 0* | *[!0-9]*) usage ;;
-    esac
-done
-names=()
-for name in "$@"; do
-    [ -s "$name.sol" ] || usage
-    name=$(realpath "$name.sol")
-    names+=("${name%.sol}")
-done
-. "$(dirname "$(realpath "$0")")/program.sh"
+here=$(dirname "$(realpath "$0")")
+. "$here/words.sh"
+. "$here/program.sh"
+words n:b:t: 100000 "$@"
+jobs=$count
+shift "$taken"
+named "$@"
 made_of share pit_board pit_book pit_cli pit_model pit_num pit_share pit_text pit_tx
 
 # script NAME SEED: a planner's transactions, in the words of the twin.

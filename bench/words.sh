@@ -1,0 +1,37 @@
+# For the scripts beside it, which read it in: what their words ask. Each has a function `usage`, which tells its words and ends it.
+
+# words OPTIONS COUNT WORD..: reads -n, -b and -t, as far as OPTIONS has them, into count, which is COUNT where it isn't said, among and twin. Sets
+# taken to how many words these were.
+words() {
+    local options=$1 option number OPTIND=1
+    count=$2
+    among=4294967295
+    twin=
+    shift 2
+    while getopts "$options" option; do
+        case $option in
+        n) count=$OPTARG ;;
+        b) among=$OPTARG ;;
+        t) twin=$(realpath "$OPTARG") ;;
+        *) usage ;;
+        esac
+    done
+    taken=$((OPTIND - 1))
+    for number in "$count" "$among"; do
+        case $number in
+        '' | 0* | *[!0-9]*) usage ;;
+        esac
+    done
+}
+
+# named NAME..: sets names to the whole paths of the pits, each of which has a solution.
+named() {
+    local name
+    [ $# -ge 1 ] || usage
+    names=()
+    for name in "$@"; do
+        [ -s "$name.sol" ] || usage
+        name=$(realpath "$name.sol")
+        names+=("${name%.sol}")
+    done
+}
