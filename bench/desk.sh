@@ -15,18 +15,14 @@ usage() {
     echo "usage: $0 [-n COMMITS] [-b BLOCKS] [-t TWIN] NAME.." >&2
     exit 2
 }
-here=$(dirname "$(realpath "$0")")
-. "$here/words.sh"
-. "$here/program.sh"
+. "$(dirname "$(realpath "$0")")/program.sh"
 words n:b:t: 100000 "$@"
-commits=$count
-shift "$taken"
-named "$@"
+named "${others[@]}"
 made_of desk pit_book pit_cli pit_model pit_num pit_text pit_tx
 
 # script NAME WRITES: the transactions of desk.txt, in the words of the twin.
 script() {
-    awk -v commits="$commits" -v among="$among" -v writes="$2" '
+    awk -v commits="$count" -v among="$among" -v writes="$2" '
         FILENAME != ARGV[1] && $1 == "NBLOCKS:" { blocks = $2; exit }
         FILENAME == ARGV[1] { period[$1] = $2 }
         END {
@@ -68,7 +64,7 @@ ratio() {
 declare -A micros replies
 for name in "${names[@]}"; do
     for _ in 1 2 3; do
-        "$program" "$name.cpit" "$name.prec" "$name.sol" "$commits" "$among" >"$build/answer"
+        "$program" "$name.cpit" "$name.prec" "$name.sol" "$count" "$among" >"$build/answer"
         while read -r writes revises took committed refused; do
             best desk "$name" "$writes" "$revises" "$took" "$committed" "$refused"
         done <"$build/answer"

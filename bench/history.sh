@@ -11,20 +11,13 @@ usage() {
     echo "usage: $0 [-n JOBS] [-t TWIN] PIT NAME.." >&2
     exit 2
 }
-. "$(dirname "$(realpath "$0")")/words.sh"
+. "$(dirname "$(realpath "$0")")/measure.sh"
 words n:t: 250000 "$@"
-jobs=$count
-shift "$taken"
-[ $# -ge 2 ] && [ -x "$1" ] || usage
-pit=$(realpath "$1")
-shift
-named "$@"
-work=$(mktemp -d)
-trap 'rm -rf "$work"' EXIT
+run_on "${others[@]}"
 
 # script NAME SEED: a planner's jobs.
 script() {
-    awk -v jobs="$jobs" -v x="$2" '
+    awk -v jobs="$count" -v x="$2" '
         FILENAME != ARGV[1] && $1 == "NBLOCKS:" { blocks = $2; exit }
         FILENAME == ARGV[1] { period[$1] = $2 }
         END {
@@ -38,45 +31,19 @@ script() {
         }' "$1.sol" "$1.cpit" >"$work/script.$2"
 }
 
-# best KEY PROGRAM WORD..: keeps the least seconds and the least peak memory, in KB, of the runs so far. A status above 1 ends the script.
-declare -A seconds memory
-best() {
-    local key=$1 status=0 begun ended m s
-    shift
-    begun=$EPOCHREALTIME
-    /usr/bin/time -f '%M' -o "$work/measured" "$@" >"$work/out" 2>"$work/err" || status=$?
-    ended=$EPOCHREALTIME
-    if [ "$status" -gt 1 ]; then
-        echo "$key: status $status" >&2
-        tail -2 "$work/err" >&2
-        exit 1
-    fi
-    m=$(tail -1 "$work/measured")
-    s=$(awk "BEGIN { print $ended - $begun }")
-    if awk "BEGIN { exit !($s < ${seconds[$key]:-999999}) }"; then seconds[$key]=$s; fi
-    if [ "$m" -lt "${memory[$key]:-999999999}" ]; then memory[$key]=$m; fi
-}
-
-# whole KEY TWIN WHAT: seconds and memory, and their ratios to the twin's.
-whole() {
-    printf '%-36s %8.2f s %10s KB' "$3" "${seconds[$1]}" "${memory[$1]}"
-    [ -z "$twin" ] || awk "BEGIN { printf \"   to the twin: time %.2f, memory %.2f\", ${seconds[$1]} / ${seconds[$2]}, ${memory[$1]} / ${memory[$2]} }"
-    echo
-}
-
 for name in "${names[@]}"; do
     for seed in 1 2 3 4; do script "$name" "$seed"; done
     for _ in 1 2 3; do
-        best "pit plan" "$pit" plan "$name.cpit" "$name.prec" --start "$name.sol" --history "$work/history" "$work"/script.[1-4]
+        best "pit plan" 1 "$pit" plan "$name.cpit" "$name.prec" --start "$name.sol" --history "$work/history" "$work"/script.[1-4]
         [ -z "$twin" ] ||
-            best "twin plan" "$twin" plan "$name.cpit" "$name.prec" --start "$name.sol" --history "$work/other" --reads board "$work"/script.[1-4]
+            best "twin plan" 1 "$twin" plan "$name.cpit" "$name.prec" --start "$name.sol" --history "$work/other" --reads board "$work"/script.[1-4]
     done
     sed 's/,/, /g' "$work/history" >"$work/spaced"
     for _ in 1 2 3; do
-        best "pit replay" "$pit" replay "$name.cpit" "$name.prec" "$work/history"
+        best "pit replay" 1 "$pit" replay "$name.cpit" "$name.prec" "$work/history"
         head -1 "$work/out" | grep -q '^legal ' || { echo "not legal" >&2; exit 1; }
-        [ -z "$twin" ] || best "twin replay" "$twin" replay "$name.cpit" "$name.prec" "$work/history"
-        best "pit spaced" "$pit" replay "$name.cpit" "$name.prec" "$work/spaced"
+        [ -z "$twin" ] || best "twin replay" 1 "$twin" replay "$name.cpit" "$name.prec" "$work/history"
+        best "pit spaced" 1 "$pit" replay "$name.cpit" "$name.prec" "$work/spaced"
     done
     echo "${name##*/}, $(($(wc -l <"$work/history") - 1)) entries, $(wc -c <"$work/history") bytes"
     whole "pit plan" "twin plan" "  plan --history"

@@ -11,16 +11,9 @@ usage() {
     echo "usage: $0 [-n JOBS] [-t TWIN] PIT NAME.." >&2
     exit 2
 }
-. "$(dirname "$(realpath "$0")")/words.sh"
+. "$(dirname "$(realpath "$0")")/measure.sh"
 words n:t: 50000 "$@"
-jobs=$count
-shift "$taken"
-[ $# -ge 2 ] && [ -x "$1" ] || usage
-pit=$(realpath "$1")
-shift
-named "$@"
-work=$(mktemp -d)
-trap 'rm -rf "$work"' EXIT
+run_on "${others[@]}"
 
 # script NAME SEED JOBS READS: a planner's jobs.
 script() {
@@ -44,26 +37,6 @@ script() {
         }' "$1.sol" "$1.cpit" >"$work/script.$2.$3.$4"
 }
 
-# best KEY STATUS PROGRAM WORD..: keeps the least seconds and the least peak memory, in KB, of the runs so far. A status above STATUS ends the
-# script.
-declare -A seconds memory
-best() {
-    local key=$1 most=$2 status=0 begun ended m s
-    shift 2
-    begun=$EPOCHREALTIME
-    /usr/bin/time -f '%M' -o "$work/measured" "$@" >"$work/out" 2>"$work/err" || status=$?
-    ended=$EPOCHREALTIME
-    if [ "$status" -gt "$most" ]; then
-        echo "$key: status $status" >&2
-        tail -2 "$work/err" >&2
-        exit 1
-    fi
-    m=$(tail -1 "$work/measured")
-    s=$(awk "BEGIN { print $ended - $begun }")
-    if awk "BEGIN { exit !($s < ${seconds[$key]:-999999}) }"; then seconds[$key]=$s; fi
-    if [ "$m" -lt "${memory[$key]:-999999999}" ]; then memory[$key]=$m; fi
-}
-
 # runs KEY NAME SCRIPT..: both programs, in turn, and each with a bad script behind the others. A status of 1 says that a load falls short.
 runs() {
     local key=$1 name=$2
@@ -75,16 +48,9 @@ runs() {
     best "twin $key parsed" 2 "$twin" plan "$name.cpit" "$name.prec" --start "$name.sol" --reads board "$@" "$work/bad"
 }
 
-# whole KEY WHAT: seconds and memory, and their ratios to the twin's.
-whole() {
-    printf '%-36s %8.2f s %10s KB' "$2" "${seconds[pit $1]}" "${memory[pit $1]}"
-    [ -z "$twin" ] || awk "BEGIN { printf \"   to the twin: time %.2f, memory %.2f\", ${seconds[pit $1]} / ${seconds[twin $1]}, ${memory[pit $1]} / ${memory[twin $1]} }"
-    echo
-}
-
 # rate KEY PLANNERS: jobs a second.
 rate() {
-    awk "BEGIN { printf \"%.0f\", $2 * $jobs / (${seconds[$1]} - ${seconds[$1 parsed]}) }"
+    awk "BEGIN { printf \"%.0f\", $2 * $count / (${seconds[$1]} - ${seconds[$1 parsed]}) }"
 }
 
 # rates KEY PLANNERS: jobs a second, and their ratio to the twin's.
@@ -99,21 +65,21 @@ rates() {
 echo bad >"$work/bad"
 for name in "${names[@]}"; do
     for seed in 1 2 3 4; do
-        script "$name" "$seed" "$jobs" 1
-        script "$name" "$seed" "$jobs" 32
+        script "$name" "$seed" "$count" 1
+        script "$name" "$seed" "$count" 32
     done
     printf 'begin\nput %s\ncommit\n' "$(awk '$1 ~ /^[0-9]+$/ { print $1, $2; exit }' "$name.sol")" >"$work/one"
     for _ in 1 2 3; do
         runs "$name one" "$name" "$work/one"
         for reads in 1 32; do
-            runs "$name $reads 1" "$name" "$work/script.1.$jobs.$reads"
-            runs "$name $reads 4" "$name" "$work"/script.[1-4]."$jobs.$reads"
+            runs "$name $reads 1" "$name" "$work/script.1.$count.$reads"
+            runs "$name $reads 4" "$name" "$work"/script.[1-4]."$count.$reads"
         done
     done
-    whole "$name one" "${name##*/}, one job of one line"
+    whole "pit $name one" "twin $name one" "${name##*/}, one job of one line"
     for reads in 1 32; do
         for planners in 1 4; do
-            whole "$name $reads $planners" "${name##*/}, reads $reads, planners $planners"
+            whole "pit $name $reads $planners" "twin $name $reads $planners" "${name##*/}, reads $reads, planners $planners"
             rates "$name $reads $planners" "$planners"
         done
     done

@@ -1,5 +1,7 @@
 # For the scripts beside it, which read it in: makes a program of a text over the crates, in a folder of its own. Wants the toolchain.
 
+. "$(dirname "$(realpath "${BASH_SOURCE[0]}")")/words.sh"
+
 # made_of NAME CRATE..: makes bench/data/NAME/crates/NAME/out/NAME of bench/NAME.txt, which uses the crates; sets `build` to the folder
 # bench/data/NAME and `program` to the program.
 made_of() {

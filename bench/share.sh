@@ -12,18 +12,14 @@ usage() {
     echo "usage: $0 [-n TRANSACTIONS] [-b BLOCKS] [-t TWIN] NAME.." >&2
     exit 2
 }
-here=$(dirname "$(realpath "$0")")
-. "$here/words.sh"
-. "$here/program.sh"
+. "$(dirname "$(realpath "$0")")/program.sh"
 words n:b:t: 100000 "$@"
-jobs=$count
-shift "$taken"
-named "$@"
+named "${others[@]}"
 made_of share pit_board pit_book pit_cli pit_model pit_num pit_share pit_text pit_tx
 
 # script NAME SEED: a planner's transactions, in the words of the twin.
 script() {
-    awk -v jobs="$jobs" -v among="$among" -v x="$2" '
+    awk -v jobs="$count" -v among="$among" -v x="$2" '
         FILENAME != ARGV[1] && $1 == "NBLOCKS:" { blocks = $2; exit }
         FILENAME == ARGV[1] { period[$1] = $2 }
         END {
@@ -73,7 +69,7 @@ for name in "${names[@]}"; do
     printf '%-40s %s\n' "${name##*/} boards and 64 seats" "$(memory "$name")"
     for _ in 1 2 3; do
         for planners in 1 2 4; do
-            read -r commits _ < <("$program" "$name.cpit" "$name.prec" "$name.sol" 0 "$planners" "$jobs" "$among")
+            read -r commits _ < <("$program" "$name.cpit" "$name.prec" "$name.sol" 0 "$planners" "$count" "$among")
             best "pit $name writes $planners" "$commits"
             [ -n "$twin" ] || continue
             scripts=()
@@ -85,15 +81,15 @@ for name in "${names[@]}"; do
             best "twin $name writes $planners" "$(sed -n 's|^jobs .* commits/s \([0-9]*\)$|\1|p' "$build/answer")"
         done
         for planners in 1 4; do
-            read -r _ reads < <("$program" "$name.cpit" "$name.prec" "$name.sol" 1 "$planners" "$jobs" "$among")
+            read -r _ reads < <("$program" "$name.cpit" "$name.prec" "$name.sol" 1 "$planners" "$count" "$among")
             best "pit $name reads $planners" "$reads"
-            read -r _ reads < <("$program" "$name.cpit" "$name.prec" "$name.sol" 2 $((planners + 1)) "$jobs" "$among")
+            read -r _ reads < <("$program" "$name.cpit" "$name.prec" "$name.sol" 2 $((planners + 1)) "$count" "$among")
             best "pit $name beside $planners" "$reads"
             [ -n "$twin" ] || continue
             for key in reads beside; do
                 writer=
                 [ $key = reads ] || writer=--writer
-                "$twin" reads "$name.cpit" "$name.prec" --start "$name.sol" --threads "$planners" --tx "$jobs" --per 32 $writer --reads board >"$build/answer"
+                "$twin" reads "$name.cpit" "$name.prec" --start "$name.sol" --threads "$planners" --tx "$count" --per 32 $writer --reads board >"$build/answer"
                 best "twin $name ${key} $planners" "$(sed -n 's|.* reads/s \([0-9]*\) .*|\1|p' "$build/answer")"
             done
         done

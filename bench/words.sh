@@ -1,7 +1,7 @@
 # For the scripts beside it, which read it in: what their words ask. Each has a function `usage`, which tells its words and ends it.
 
 # words OPTIONS COUNT WORD..: reads -n, -b and -t, as far as OPTIONS has them, into count, which is COUNT where it isn't said, among and twin. Sets
-# taken to how many words these were.
+# others to the words behind these.
 words() {
     local options=$1 option number OPTIND=1
     count=$2
@@ -16,7 +16,7 @@ words() {
         *) usage ;;
         esac
     done
-    taken=$((OPTIND - 1))
+    others=("${@:OPTIND}")
     for number in "$count" "$among"; do
         case $number in
         '' | 0* | *[!0-9]*) usage ;;

@@ -1,0 +1,39 @@
+# For the scripts beside it, which read it in: runs a program that is given, in turn with a twin. Wants GNU time.
+
+. "$(dirname "$(realpath "${BASH_SOURCE[0]}")")/words.sh"
+
+# run_on PIT NAME..: sets pit to the program, names to the pits, and work to a folder that is gone when the script ends.
+run_on() {
+    [ $# -ge 1 ] && [ -x "$1" ] || usage
+    pit=$(realpath "$1")
+    named "${@:2}"
+    work=$(mktemp -d)
+    trap 'rm -rf "$work"' EXIT
+}
+
+# best KEY STATUS PROGRAM WORD..: keeps the least seconds and the least peak memory, in KB, of the runs so far. A status above STATUS ends the
+# script.
+declare -A seconds memory
+best() {
+    local key=$1 most=$2 status=0 begun ended m s
+    shift 2
+    begun=$EPOCHREALTIME
+    /usr/bin/time -f '%M' -o "$work/measured" "$@" >"$work/out" 2>"$work/err" || status=$?
+    ended=$EPOCHREALTIME
+    if [ "$status" -gt "$most" ]; then
+        echo "$key: status $status" >&2
+        tail -2 "$work/err" >&2
+        exit 1
+    fi
+    m=$(tail -1 "$work/measured")
+    s=$(awk "BEGIN { print $ended - $begun }")
+    if awk "BEGIN { exit !($s < ${seconds[$key]:-999999}) }"; then seconds[$key]=$s; fi
+    if [ "$m" -lt "${memory[$key]:-999999999}" ]; then memory[$key]=$m; fi
+}
+
+# whole KEY TWIN WHAT: seconds and memory, and their ratios to those of the key TWIN.
+whole() {
+    printf '%-36s %8.2f s %10s KB' "$3" "${seconds[$1]}" "${memory[$1]}"
+    [ -z "$twin" ] || awk "BEGIN { printf \"   to the twin: time %.2f, memory %.2f\", ${seconds[$1]} / ${seconds[$2]}, ${memory[$1]} / ${memory[$2]} }"
+    echo
+}
