@@ -13,7 +13,7 @@ use Rattle.pit_book.specs.History.{Answered}
 use Rattle.pit_board.specs.Boards.{slot_of}
 use Rattle.pit_board.specs.Fronts.{AreLawful}
 use Rattle.pit_board.specs.declared.slot.Slot.{Slot}
-use Rattle.pit_share.specs.Snapshots.{AreHeld}
+use Rattle.pit_book.specs.Noted.{AreHeld}
 use Rattle.pit_share.specs.Planners.{PlannerState, TransactionState, planner_of, empty_sets, SeesOn, IsTransactionKept}
 use Rattle.pit_share.specs.Reads.{IsNoted}
 use Rattle.pit_share.proofs.Noted.{of-start-grows}

@@ -9,7 +9,7 @@ use Rattle.pit_book.specs.Replies.{IsReply}
 use Rattle.pit_book.specs.declared.reply.EntryReply.{EntryReply}
 use Rattle.pit_book.specs.declared.reply.EntryReply.TheVariants.{Committed}
 use Rattle.pit_book.proofs.CallerLemmas.{reads-held}
-use Rattle.pit_share.specs.Snapshots.{AreHeld}
+use Rattle.pit_book.specs.Noted.{AreHeld}
 use Rattle.pit_share.specs.Endings.{IsAnswered}
 use Rattle.pit_share.proofs.Prefixes.{take-prefix}
 

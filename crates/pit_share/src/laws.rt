@@ -7,7 +7,7 @@ ghost use Rattle.pit_book.specs.declared.reply.EntryReply.{EntryReply};
 ghost use Rattle.pit_book.specs.declared.reply.EntryReply.TheVariants.{Committed as committed};
 ghost use Rattle.pit_share.specs.Endings.{IsAnswered};
 ghost use Rattle.pit_share.specs.GoingOn.{IsShared};
-ghost use Rattle.pit_share.specs.Snapshots.{AreHeld};
+ghost use Rattle.pit_book.specs.Noted.{AreHeld};
 
 use crate::workspace::Workspace;
 use pit_board::Session;
