@@ -89,7 +89,41 @@ impl<A: Allocator + Copy + Drop> Work<A> {
           revises = [];
         }) }
     {
-        let reads = FilteredSet::new(alloc, FIRST_ROOM)?;
+        Work::with_room(
+            alloc, planner, job, start, blocks, periods, resources, FIRST_ROOM,
+        )
+    }
+
+    /// Empty sets, as `new` makes them, with room for so many reads.
+    pub fn with_room(
+        alloc: A,
+        planner: u32,
+        job: u32,
+        start: u32,
+        blocks: u32,
+        periods: u32,
+        resources: u32,
+        room: usize,
+    ) -> Result<Self, NoMemory>
+        requires some_block { 1 ≤ blocks }
+        requires few_blocks { blocks ≤ BLOCKS_MAX }
+        requires some_period { 1 ≤ periods }
+        requires few_periods { periods ≤ PERIODS_MAX }
+        requires few_resources { resources ≤ RESOURCES_MAX }
+        requires room { 1 ≤ room }
+        ensures { IfOk result (λ w. w ≡ record {
+          planner = planner;
+          job = job;
+          start = start;
+          blocks = blocks;
+          periods = periods;
+          resources = resources;
+          reads = [];
+          writes = [];
+          revises = [];
+        }) }
+    {
+        let reads = FilteredSet::new(alloc, room)?;
         let writes = KeyedSet::new(alloc, FIRST_ROOM)?;
         let revises = KeyedSet::new(alloc, FIRST_ROOM)?;
         Ok(Work {

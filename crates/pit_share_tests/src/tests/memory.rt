@@ -218,6 +218,45 @@ fn is_left_by_what_is_abandoned(rt: HostRuntime) {
     assert!(rt; asked_by(&rt, rt.alloc(), BEGUN_AGAIN) == before);
 }
 
+const BEGUN_BEHIND_READS: Row = Row {
+    name: "begun behind reads",
+    doings: &[
+        (1, Begin(7, 0)),
+        (1, Read(0, Ok(None))),
+        (1, Read(1, Ok(None))),
+        (1, Read(2, Ok(None))),
+        (1, Read(3, Ok(None))),
+        (1, Give),
+        (1, Begin(8, 0)),
+    ],
+    ..ROW
+};
+
+const READ_AGAIN: Row = Row {
+    name: "read again",
+    doings: &[
+        (1, Begin(7, 0)),
+        (1, Read(0, Ok(None))),
+        (1, Read(1, Ok(None))),
+        (1, Read(2, Ok(None))),
+        (1, Read(3, Ok(None))),
+        (1, Give),
+        (1, Begin(8, 0)),
+        (1, Read(3, Ok(None))),
+        (1, Read(2, Ok(None))),
+        (1, Read(1, Ok(None))),
+        (1, Read(0, Ok(None))),
+    ],
+    ..ROW
+};
+
+/// A transaction begins with room for as many reads as the one before it had.
+#[test]
+fn is_taken_at_once_for_as_many_reads(rt: HostRuntime) {
+    let before = asked_by(&rt, rt.alloc(), BEGUN_BEHIND_READS);
+    assert!(rt; asked_by(&rt, rt.alloc(), READ_AGAIN) == before);
+}
+
 fn is_last_refused<W: Wait + Abort>(rt: &W, alloc: Global, row: Row) -> bool {
     let Some((_, doings)) = row.doings.split_last() else {
         return false;
