@@ -30,6 +30,6 @@ returns-clause-done g c =
     (written_as _ _ _ _ _ _ _ _
     (left_as c.in_ok-ran.ran.closed c.desk-2.result.now c.plan.result.now c.periods.result.now c.desk-2.ensures c.plan.ensures.plan c.plan.ensures.kept c.periods.ensures.periods c.periods.ensures.count)
     (c.deref.ensures.value ∙ c.in-Ok.ensures.text)
-    (λ there. c.deref-2.ensures.value ∙ c.in-Ok-lines_if.ensures (c.is_some.ensures ∙ was_there _ c.args.history.now c.write_all.new.history there)
+    (λ there. c.deref-2.ensures.value ∙ c.in-Ok-lines_if.ensures (c.is_some.ensures ∙ was_there _ c.args.history.now c.write_all-answer.new.history there)
     ∙ ap (λ (es : List Answered). history_text es) (c.history.ensures.history ∙ ap (λ (d : State). d.history) c.desk.ensures))
-    c.in-Ok.ensures.ended c.write_all.ensures.written)
+    c.in-Ok.ensures.ended c.write_all-answer.ensures.written)
