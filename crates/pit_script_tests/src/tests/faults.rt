@@ -6,7 +6,7 @@ use ScriptCause::{
 };
 use pit_model::Instance;
 use pit_num::NumError;
-use pit_script::{JOBS_MAX, ScriptCause};
+use pit_script::{JOBS_MAX, ScriptCause, ScriptError};
 use std::alloc::Global;
 use std::process::Abort;
 
@@ -85,8 +85,13 @@ const FAULTS: &[(&[u8], u64, ScriptCause)] = &[
 #[test]
 fn are_found(rt: HostRuntime) {
     let pit = tiny(&rt, rt.alloc());
+    assert_found(&rt, rt.alloc(), &pit);
+    drop(pit);
+}
+
+fn assert_found(rt: &impl Abort, alloc: Global, pit: &Instance<Global>) {
     for (text, line, cause) in FAULTS {
-        let answer = read(rt.alloc(), &pit, text).err();
+        let answer = read(alloc, pit, text).err();
         assert_eq!(rt; answer, Some(fault(*line, *cause)));
     }
 }
@@ -96,15 +101,34 @@ const JOB: &[u8] = b"begin\ncommit\n";
 #[test]
 fn the_last_job_that_there_may_be(rt: HostRuntime) {
     let pit = tiny(&rt, rt.alloc());
-    let mut text = Vec::new(rt.alloc());
-    for _ in 0..JOBS_MAX {
-        assert!(rt; text.extend_from_slice(JOB).is_ok());
+    assert!(rt; read_jobs(&rt, rt.alloc(), &pit, JOBS_MAX) == Ok(JOBS_MAX));
+    let answer = read_jobs(&rt, rt.alloc(), &pit, JOBS_MAX + 1);
+    assert!(rt; answer == Err(fault(2_000_001, JobCount)));
+    drop(pit);
+}
+
+/// How many jobs a script of so many is read as.
+fn read_jobs(
+    rt: &impl Abort,
+    alloc: Global,
+    pit: &Instance<Global>,
+    jobs: u32,
+) -> Result<u32, ScriptError> {
+    let text = text_of(rt, alloc, jobs);
+    let script = read(alloc, pit, text.as_slice())?;
+    Ok(script.jobs())
+}
+
+fn text_of(rt: &impl Abort, alloc: Global, jobs: u32) -> Vec<u8> {
+    let mut text = Vec::new(alloc);
+    for _ in 0..jobs {
+        push(rt, &mut text, JOB);
     }
-    let script = read(rt.alloc(), &pit, text.as_slice());
-    assert!(rt; script.is_ok_and(|script| script.jobs() == JOBS_MAX));
-    assert!(rt; text.extend_from_slice(JOB).is_ok());
-    let answer = read(rt.alloc(), &pit, text.as_slice()).err();
-    assert_eq!(rt; answer, Some(fault(2_000_001, JobCount)));
+    text
+}
+
+fn push(rt: &impl Abort, text: &mut Vec<u8>, piece: &[u8]) {
+    assert!(rt; text.extend_from_slice(piece).is_ok());
 }
 
 /// Scripts that are cut.

@@ -1,6 +1,8 @@
 //! Scripts that have no fault, and their jobs.
 use super::{read, tiny};
-use pit_script::{Benches, JobEnd, Step};
+use pit_model::Instance;
+use pit_script::{Benches, JobEnd, Script, Step};
+use std::alloc::Global;
 use std::process::Abort;
 
 /// Each kind of line, spaces and line ends of each kind, a job without a step, and what stands behind the end.
@@ -74,10 +76,16 @@ const JOBS: &[(&[Step], JobEnd)] = &[
 fn of_each_kind(rt: HostRuntime) {
     let pit = tiny(&rt, rt.alloc());
     let script = read(rt.alloc(), &pit, SCRIPT).ok().expect(&rt, "no fault");
+    assert_jobs(&rt, &script);
+    drop(script);
+    drop(pit);
+}
+
+fn assert_jobs(rt: &impl Abort, script: &Script<Global>) {
     assert!(rt; script.jobs() == 3);
     for i in 0..script.jobs() {
         let job = script.job(i);
-        let wanted = JOBS.get(i as usize).expect(&rt, "a job");
+        let wanted = JOBS.get(i as usize).expect(rt, "a job");
         assert!(rt; job.0 == wanted.0);
         assert!(rt; job.1 == wanted.1);
     }
@@ -87,9 +95,15 @@ fn of_each_kind(rt: HostRuntime) {
 fn none(rt: HostRuntime) {
     let pit = tiny(&rt, rt.alloc());
     for text in [b"".as_slice(), b"\n\n", b"EOF\nbegin\n"] {
-        let script = read(rt.alloc(), &pit, text).ok().expect(&rt, "no fault");
-        assert!(rt; script.jobs() == 0);
+        assert!(rt; is_empty(rt.alloc(), &pit, text));
     }
+    drop(pit);
+}
+
+/// Whether a text is a script without jobs.
+fn is_empty(alloc: Global, pit: &Instance<Global>, text: &[u8]) -> bool {
+    let answer = read(alloc, pit, text);
+    answer.is_ok_and(|script| script.jobs() == 0)
 }
 
 /// A height, and the blocks of the small pit there.
@@ -106,6 +120,12 @@ const BENCHES: &[(i64, &[(i64, u32)])] = &[
 fn benches(rt: HostRuntime) {
     let pit = tiny(&rt, rt.alloc());
     let benches = Benches::of(rt.alloc(), &pit).ok().expect(&rt, "memory");
+    assert_benches(&rt, &benches);
+    drop(benches);
+    drop(pit);
+}
+
+fn assert_benches(rt: &impl Abort, benches: &Benches<Global>) {
     for (height, blocks) in BENCHES {
         assert!(rt; benches.bench(*height) == *blocks);
     }

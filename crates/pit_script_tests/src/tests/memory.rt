@@ -56,18 +56,47 @@ fn is_read(rt: &impl Abort, heap: Heap<'_>, pit: &Instance<Global>, text: &[u8])
 #[test]
 fn each_request_is_refused(rt: HostRuntime) {
     let pit = pit_of(&rt, rt.alloc());
-    let mut text = String::new(rt.alloc());
+    let text = text_of(&rt, rt.alloc());
+    refuse_each(&rt, rt.alloc(), &pit, text.as_bytes());
+    drop(text);
+    drop(pit);
+}
+
+/// A text of 1,000 jobs.
+fn text_of(rt: &impl Abort, alloc: Global) -> String {
+    let mut text = String::new(alloc);
     for b in 0..1_000u32 {
-        assert!(rt; writeln!(text, "begin\nread {b}\ncommit").is_ok());
+        push_job(rt, &mut text, b);
     }
+    text
+}
+
+fn push_job(rt: &impl Abort, text: &mut String, b: u32) {
+    assert!(rt; writeln!(text, "begin\nread {b}\ncommit").is_ok());
+}
+
+fn refuse_each(rt: &impl Abort, alloc: Global, pit: &Instance<Global>, text: &[u8]) {
     for number in 1..200 {
-        let heap = Refusing::over_heap(rt.alloc(), BYTES, number).expect(&rt, "a heap");
-        if is_read(&rt, &heap, &pit, text.as_bytes()) {
+        if is_whole(rt, alloc, number, pit, text) {
             assert!(rt; number > 12);
             return;
         }
     }
     panic!(rt; "never whole");
+}
+
+/// Whether no request had the number.
+fn is_whole(
+    rt: &impl Abort,
+    alloc: Global,
+    number: u64,
+    pit: &Instance<Global>,
+    text: &[u8],
+) -> bool {
+    let heap = Refusing::over_heap(alloc, BYTES, number).expect(rt, "a heap");
+    let is_whole = is_read(rt, &heap, pit, text);
+    drop(heap);
+    is_whole
 }
 
 /// Texts that take no memory, and what they are read as.
