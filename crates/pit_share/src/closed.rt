@@ -1,14 +1,16 @@
 //! What is left of a workspace.
 ghost use Rattle.std.specs.Prelude.{◌≡◌};
 
-use pit_book::Desk;
+use pit_book::{Desk, Entry};
 use std::alloc::Allocator;
 use std::marker::Model;
 
-/// The desk of a workspace that was closed. Contracts see it as they see the desk.
+/// The desk of a workspace that was closed, and the items of its logs, which are freed with it or once the desk is taken out: it takes long, and
+/// a program that ends needn't. Contracts see it as they see the desk.
 #[derive(Drop)]
 pub struct Closed<A: Allocator + Copy + Drop> {
     desk: Desk<A>,
+    items: Vec<Vec<Entry<A>, A>, A>,
 }
 
 impl<A: Allocator + Copy + Drop> Model for Closed<A> {
@@ -20,10 +22,10 @@ impl<A: Allocator + Copy + Drop> Model for Closed<A> {
 }
 
 impl<A: Allocator + Copy + Drop> Closed<A> {
-    pub(crate) fn new(desk: Desk<A>) -> Closed<A>
+    pub(crate) fn new(desk: Desk<A>, items: Vec<Vec<Entry<A>, A>, A>) -> Closed<A>
         ensures { result ≡ desk }
     {
-        Closed { desk }
+        Closed { desk, items }
     }
 
     /// The desk.
@@ -37,7 +39,10 @@ impl<A: Allocator + Copy + Drop> Closed<A> {
     pub fn into_desk(self) -> Desk<A>
         ensures { result ≡ self }
     {
-        let Closed { desk } = self;
+        let Closed {
+            desk,
+            items: _items,
+        } = self;
         desk
     }
 }

@@ -63,7 +63,10 @@ impl<S: Session, R: Wait + Drop, A: Allocator + Copy + Drop> Workspace<S, R, A> 
             Ok(seats) => seats,
             Err(error) => return Err((desk, error)),
         };
-        let floor = Mutex::new(Floor::new(desk, hall, total, rest, planners));
+        let Ok(items) = Vec::with_capacity(alloc, planners as usize) else {
+            return Err((desk, OpenError::NoMemory));
+        };
+        let floor = Mutex::new(Floor::new(desk, hall, total, rest, planners, items));
         Ok((Workspace { floor }, seats))
     }
 
@@ -84,7 +87,7 @@ impl<S: Session, R: Wait + Drop, A: Allocator + Copy + Drop> Workspace<S, R, A> 
             let floor = Mutex::new(floor);
             return Err((Workspace { floor }, logs, error));
         }
-        Ok(Closed::new(floor.into_desk(logs)))
+        Ok(floor.into_closed(logs))
     }
 
     pub(crate) fn floor(&self) -> &Mutex<Floor<S, R, A>> {
