@@ -1,6 +1,6 @@
 //! What a workspace and a transaction refuse.
 
-/// Why no workspace was opened: the first of these that applies.
+/// Why no workspace was opened. The number of planners is looked at first. No contract says which of the other two is answered.
 #[derive(Clone, Copy, Debug, PartialEq, Eq)]
 pub enum OpenError {
     /// There are no planners, or more than `PLANNERS_MAX`.
