@@ -1,5 +1,5 @@
 //! What one planner sees without a lock.
-ghost use Rattle.std.specs.Prelude.{◌≡◌, ◌+◌, ◌<◌, length, MatchOption, IfSome};
+ghost use Rattle.std.specs.Prelude.{◌≡◌, ◌+◌, ◌<◌, length, MatchOption, IfSome, IfNone};
 ghost use mathlib.Core.List.{IsPrefix};
 ghost use Rattle.pit_board.specs.Boards.{slot_of};
 ghost use Rattle.pit_board.specs.Fronts.{AreLawful};
@@ -100,7 +100,8 @@ impl<S: Session, A: Allocator + Copy + Drop> View<S, A> {
         ensures lawful { AreLawful S.instance self.new.seen }
         ensures amount { self.new.amount ≡ self.old.amount }
     {
-        self.look();
+        // no board has a slot for it
+        let _slot = self.look(u32::MAX);
         self.front.count()
     }
 
@@ -113,38 +114,44 @@ impl<S: Session, A: Allocator + Copy + Drop> View<S, A> {
         ensures lawful { AreLawful S.instance self.new.seen }
         ensures amount { self.new.amount ≡ self.old.amount }
     {
-        let slot = self.look_up(block);
+        let slot = self.look(block);
         // shows that what was seen is lawful
         let _count = self.front.count();
         slot
     }
 
-    /// The slot of a block, and with it the front of the board.
-    fn look_up(&mut self, block: u32) -> Option<Slot>
-        requires { block < S.instance.blocks }
+    /// Takes over what the board shows, and looks a block up, if the board has a slot for it. Where the reader isn't let in, or the board is
+    /// behind what was seen, nothing changes. Both ways to the board lead through here, so that a reader's steps are compiled once, and in place.
+    fn look(&mut self, block: u32) -> Option<Slot>
         ensures slot { IfSome result (λ slot. slot ≡ slot_of self.new.seen block) }
-        ensures seen { MatchOption result (self.new.seen ≡ self.old.seen) (λ slot. IsPrefix self.old.seen self.new.seen) }
+        ensures seen { IsPrefix self.old.seen self.new.seen }
+        ensures none { block < S.instance.blocks → IfNone result (self.new.seen ≡ self.old.seen) }
         ensures amount { self.new.amount ≡ self.old.amount }
     {
         let View { reader, front, .. } = self;
         let guard = reader.enter()?;
-        if !front.begins(guard.front()) {
-            return None;
-        }
-        let slot = guard.slots()[block as usize].slot();
-        *front = guard.front().again();
-        Some(slot)
+        shown(&guard, front, block)
     }
+}
 
-    /// Takes over what the board shows, where the reader is let in.
-    fn look(&mut self)
-        ensures seen { IsPrefix self.old.seen self.new.seen }
-        ensures amount { self.new.amount ≡ self.old.amount }
-    {
-        let View { reader, front, .. } = self;
-        let Some(guard) = reader.enter() else {
-            return;
-        };
-        front.grow(guard.front());
+/// Takes over the front of a board that isn't behind, and looks a block up, if the board has a slot for it.
+fn shown<S: Session, A: Allocator + Copy + Drop>(
+    board: &Board<S, A>,
+    front: &mut Front<S>,
+    block: u32,
+) -> Option<Slot>
+    ensures slot { IfSome result (λ slot. slot ≡ slot_of front.new block) }
+    ensures seen { IsPrefix front.old front.new }
+    ensures none { block < S.instance.blocks → IfNone result (front.new ≡ front.old) }
+{
+    if !front.begins(board.front()) {
+        return None;
     }
+    *front = board.front().again();
+    let slots = board.slots();
+    let at = block as usize;
+    if at < slots.len() {
+        return Some(slots[at].slot());
+    }
+    None
 }
