@@ -1,16 +1,21 @@
 #!/usr/bin/env bash
 # Times `pit plan`, in turn with a native program; the best of three runs.
-# usage: bench/plan.sh [-n JOBS] [-t TWIN] PIT NAME..   reads NAME.cpit, NAME.prec and NAME.sol, whose lines have two fields
+# usage: bench/plan.sh [-1] [-n JOBS] [-t TWIN] PIT NAME..   reads NAME.cpit, NAME.prec and NAME.sol, whose lines have two fields
 # Plans from the solution: with one planner who has one job of one line; then with 1 and 4 planners who have JOBS each (50,000 where it isn't
-# said), of one block, which is read and put where it is; then with 1 and 4 planners whose jobs read 32 blocks and put one. Prints seconds and
-# peak memory, and jobs a second: by the time of a run less that of one that ends once its scripts are parsed, since one more behind them is bad.
-# The twin is run as `TWIN plan .. --reads board`, on the same files. Wants GNU time.
+# said), of one block, which is read and put where it is; then with 1 and 4 planners whose jobs read 32 blocks and put one. With -1 the one job
+# is all. Prints seconds and peak memory, and jobs a second: by the time of a run less that of one that ends once its scripts are parsed, since
+# one more behind them is bad. The twin is run as `TWIN plan .. --reads board`, on the same files. Wants GNU time.
 set -eu
 
 usage() {
-    echo "usage: $0 [-n JOBS] [-t TWIN] PIT NAME.." >&2
+    echo "usage: $0 [-1] [-n JOBS] [-t TWIN] PIT NAME.." >&2
     exit 2
 }
+sizes=(1 32)
+if [ "${1:-}" = -1 ]; then
+    sizes=()
+    shift
+fi
 . "$(dirname "$(realpath "$0")")/measure.sh"
 words n:t: 50000 "$@"
 run_on "${others[@]}"
@@ -71,13 +76,13 @@ for name in "${names[@]}"; do
     printf 'begin\nput %s\ncommit\n' "$(awk '$1 ~ /^[0-9]+$/ { print $1, $2; exit }' "$name.sol")" >"$work/one"
     for _ in 1 2 3; do
         runs "$name one" "$name" "$work/one"
-        for reads in 1 32; do
+        for reads in "${sizes[@]}"; do
             runs "$name $reads 1" "$name" "$work/script.1.$count.$reads"
             runs "$name $reads 4" "$name" "$work"/script.[1-4]."$count.$reads"
         done
     done
     whole "pit $name one" "twin $name one" "${name##*/}, one job of one line"
-    for reads in 1 32; do
+    for reads in "${sizes[@]}"; do
         for planners in 1 4; do
             whole "pit $name $reads $planners" "twin $name $reads $planners" "${name##*/}, reads $reads, planners $planners"
             rates "$name $reads $planners" "$planners"
