@@ -3,8 +3,8 @@
 # usage: bench/share.sh [-n TRANSACTIONS] [-b BLOCKS] [-t TWIN] NAME..   reads NAME.cpit, NAME.prec and NAME.sol, whose lines have two fields
 # Makes a program of share.txt over the crates first, in bench/data/share. The solution is the first commit. Then 1, 2 and 4 planners, each
 # in a thread of its own, make TRANSACTIONS each (100,000 where it isn't said) that read a block of the pit, or of BLOCKS that are spread
-# evenly over it, and write to it the period that it has; and 1 and 4 planners make transactions of 32 reads, alone and beside one more planner
-# who commits. Prints what the boards and 64 seats take, the commits and the reads a second, and the ratios to the twin, which is run as
+# evenly over it, and write to it the period that it has; and then transactions of 32 reads, alone and beside one more planner who commits.
+# Prints what the boards and 64 seats take, the commits and the reads a second, and the ratios to the twin, which is run as
 # `TWIN plan .. --reads board` on a script for each planner, and as `TWIN reads .. --reads board`. Wants the toolchain.
 set -eu
 
@@ -80,7 +80,7 @@ for name in "${names[@]}"; do
             "$twin" plan "$name.cpit" "$name.prec" --start "$name.sol" --reads board --jobs-only --time "${scripts[@]}" 2>"$build/answer"
             best "twin $name writes $planners" "$(sed -n 's|^jobs .* commits/s \([0-9]*\)$|\1|p' "$build/answer")"
         done
-        for planners in 1 4; do
+        for planners in 1 2 4; do
             read -r _ reads < <("$program" "$name.cpit" "$name.prec" "$name.sol" 1 "$planners" "$count" "$among")
             best "pit $name reads $planners" "$reads"
             read -r _ reads < <("$program" "$name.cpit" "$name.prec" "$name.sol" 2 $((planners + 1)) "$count" "$among")
@@ -95,7 +95,7 @@ for name in "${names[@]}"; do
         done
     done
     for planners in 1 2 4; do told "$name writes $planners" "${name##*/} commits, planners $planners"; done
-    for planners in 1 4; do
+    for planners in 1 2 4; do
         told "$name reads $planners" "${name##*/} reads, planners $planners"
         told "$name beside $planners" "${name##*/} the same beside a writer"
     done
