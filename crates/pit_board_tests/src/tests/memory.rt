@@ -175,12 +175,13 @@ fn assert_taken<S: Session, R: Wait + Drop, A: Allocator + Copy + Drop>(
     drop(more);
 }
 
-/// Both read the same.
+/// Who looks late begins with all commits, and both read the same.
 fn assert_same<S: Session, A: Allocator + Copy + Drop>(
     rt: &impl Abort,
     mut late: Reader<S, A>,
     reader: &mut Reader<S, A>,
 ) {
+    assert!(rt; late.count() < reader.count() && late.begin() == reader.count());
     assert!(rt; read_all(&mut late) == read_all(reader));
     drop(late);
 }
