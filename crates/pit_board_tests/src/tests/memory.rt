@@ -35,6 +35,9 @@ const READERS: u32 = 2;
 /// What each second commit writes.
 const WRITES: &[Pair] = &[(2, Some(1)), (0, None), (3, Some(0))];
 
+/// The commits that are published, behind an opening history without any.
+const COMMITS: u32 = 4;
+
 /// What the others write.
 const FEWER: &[Pair] = &[(2, Some(1)), (0, None)];
 
@@ -181,7 +184,7 @@ fn assert_same<S: Session, A: Allocator + Copy + Drop>(
     mut late: Reader<S, A>,
     reader: &mut Reader<S, A>,
 ) {
-    assert!(rt; late.count() < reader.count() && late.begin() == reader.count());
+    assert!(rt; late.count() == 0 && late.begin() == COMMITS);
     assert!(rt; read_all(&mut late) == read_all(reader));
     drop(late);
 }
@@ -199,7 +202,7 @@ fn end<S: Session, R: Wait + Drop, A: Allocator + Copy + Drop>(
     drop(reader);
 }
 
-/// Publishes four commits, and copies changes.
+/// Publishes `COMMITS`, two at a time, and copies changes.
 fn publish_all<S: Session, R: Wait + Drop, A: Allocator + Copy + Drop, W: Wait + Abort>(
     rt: &W,
     heap: Heap<'_>,
