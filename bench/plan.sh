@@ -69,9 +69,8 @@ rates() {
 
 echo bad >"$work/bad"
 for name in "${names[@]}"; do
-    for seed in 1 2 3 4; do
-        script "$name" "$seed" "$count" 1
-        script "$name" "$seed" "$count" 32
+    for reads in "${sizes[@]}"; do
+        for seed in 1 2 3 4; do script "$name" "$seed" "$count" "$reads"; done
     done
     printf 'begin\nput %s\ncommit\n' "$(awk '$1 ~ /^[0-9]+$/ { print $1, $2; exit }' "$name.sol")" >"$work/one"
     for _ in 1 2 3; do
