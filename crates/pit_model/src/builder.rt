@@ -8,7 +8,7 @@ ghost use Rattle.pit_num.specs.Refused.{IsRefusedBy};
 use crate::bounds::{Bounds, cell_of, is_empty_interval, tighter_bounds};
 use crate::coefficients::Coefficients;
 use crate::error::BuildError;
-use crate::instance::Instance;
+use crate::instance::{Instance, Tables};
 use crate::places::Places;
 use crate::predecessors::Predecessors;
 use crate::profits::Profits;
@@ -16,6 +16,7 @@ use crate::successors::Successors;
 use pit_num::{Discount, NoMemory};
 use std::alloc::Allocator;
 use std::marker::Model;
+use std::sync::Arc;
 
 /// A pit that is being put together: MineLib's problem CPIT (2013), fact by fact.
 ///
@@ -214,18 +215,56 @@ impl<A: Allocator + Copy + Drop> Builder<A> {
             Ok(succs) => succs,
             Err(error) => return Err((self, error)),
         };
-        Ok(Instance {
-            blocks: self.blocks,
-            periods: self.periods,
-            resources: self.resources,
+        let Builder {
+            blocks,
+            periods,
+            resources,
+            rate,
+            profits,
+            coefs,
+            preds,
+            bounds,
+            places,
+        } = self;
+        let tables = Tables {
             discount,
-            profits: self.profits,
-            coefs: self.coefs.sorted(),
-            preds: self.preds,
+            profits,
+            coefs: coefs.sorted(),
+            preds,
             succs,
-            bounds: self.bounds,
-            places: self.places,
-        })
+            bounds,
+            places,
+        };
+        match Arc::new(alloc, tables) {
+            Ok(tables) => Ok(Instance {
+                blocks,
+                periods,
+                resources,
+                tables,
+            }),
+            Err(refused) => {
+                let Tables {
+                    profits,
+                    coefs,
+                    preds,
+                    bounds,
+                    places,
+                    ..
+                } = refused.value;
+                let builder = Builder {
+                    blocks,
+                    periods,
+                    resources,
+                    rate,
+                    profits,
+                    coefs: Coefficients::unsorted(coefs),
+                    preds,
+                    bounds,
+                    places,
+                };
+                Err((builder, NoMemory))
+            }
+        }
     }
 }
 

@@ -1,4 +1,4 @@
-ghost use Rattle.std.specs.Prelude.{◌≡◌, ◌<◌, ◌*◌, ◌^◌, pos, ◌≤ℤ◌, MatchOption};
+ghost use Rattle.std.specs.Prelude.{◌≡◌, ◌<◌, ◌*◌, ◌^◌, pos, ◌≤ℤ◌, IfOk, MatchOption};
 ghost use Rattle.pit_num.specs.Least.{IsLeast};
 ghost use Rattle.pit_model.specs.Pit.{IsSound, profit_of, factor_of, coefs_of, preds_of, succs_of, lower_of, upper_of, cell_of, place_of, IsUnmeetable, IsFirstUnmeetable, IsMeetable, AreCoefs, ArePreds};
 
@@ -8,9 +8,10 @@ use crate::predecessors::Predecessors;
 use crate::profits::Profits;
 use crate::sorted_coefficients::SortedCoefficients;
 use crate::successors::Successors;
-use pit_num::Discount;
+use pit_num::{Discount, NoMemory};
 use std::alloc::Allocator;
 use std::marker::Model;
+use std::sync::Arc;
 
 /// A pit: an instance of MineLib's problem CPIT (2013). Its readers take no memory.
 #[derive(Drop)]
@@ -18,6 +19,12 @@ pub struct Instance<A: Allocator + Drop> {
     pub(crate) blocks: u32,
     pub(crate) periods: u32,
     pub(crate) resources: u32,
+    pub(crate) tables: Arc<Tables<A>, A>,
+}
+
+/// What a pit has of each block, period and resource. It never changes, so one may serve several threads.
+#[derive(Drop)]
+pub(crate) struct Tables<A: Allocator + Drop> {
     pub(crate) discount: Discount<A>,
     pub(crate) profits: Profits<A>,
     pub(crate) coefs: SortedCoefficients<A>,
@@ -34,13 +41,26 @@ impl<A: Allocator + Drop> Model for Instance<A> {
 
     ghost Value = { Pit };
 
-    ghost view = { λ i. record { blocks = i.blocks; periods = i.periods; resources = i.resources; rate = i.discount.rate; profits = i.profits; coefs = i.coefs; preds = i.preds; bounds = i.bounds.items; places = i.places } };
+    ghost view = { λ i. record { blocks = i.blocks; periods = i.periods; resources = i.resources; rate = i.tables.value.discount.rate; profits = i.tables.value.profits; coefs = i.tables.value.coefs; preds = i.tables.value.preds; bounds = i.tables.value.bounds.items; places = i.tables.value.places } };
 
-    ghost invariant = { λ i. IsSound (record { blocks = i.blocks; periods = i.periods; resources = i.resources; rate = i.discount.rate; profits = i.profits; coefs = i.coefs; preds = i.preds; bounds = i.bounds.items; places = i.places })
-        × (i.discount.periods ≡ i.periods) × (i.succs ≡ map (succs_in i.preds) (range_with_len 0 (length i.preds))) };
+    ghost invariant = { λ i. IsSound (record { blocks = i.blocks; periods = i.periods; resources = i.resources; rate = i.tables.value.discount.rate; profits = i.tables.value.profits; coefs = i.tables.value.coefs; preds = i.tables.value.preds; bounds = i.tables.value.bounds.items; places = i.tables.value.places })
+        × (i.tables.value.discount.periods ≡ i.periods)
+        × (i.tables.value.succs ≡ map (succs_in i.tables.value.preds) (range_with_len 0 (length i.tables.value.preds))) };
 }
 
 impl<A: Allocator + Copy + Drop> Instance<A> {
+    /// The same pit once more. Its tables are shared, so that it takes no memory; it is refused where there are 2^63 already.
+    pub fn again(&self) -> Result<Instance<A>, NoMemory>
+        ensures { IfOk result (λ again. again ≡ self.now) }
+    {
+        Ok(Instance {
+            blocks: self.blocks,
+            periods: self.periods,
+            resources: self.resources,
+            tables: Arc::try_clone(&self.tables)?,
+        })
+    }
+
     /// The number of blocks; they are numbered from 0.
     pub fn blocks(&self) -> u32
         ensures count { result ≡ self.now.blocks }
@@ -68,7 +88,7 @@ impl<A: Allocator + Copy + Drop> Instance<A> {
         requires { b < self.now.blocks }
         ensures { result ≡ profit_of self.now b }
     {
-        self.profits.profit(b).unwrap_or(0)
+        self.tables.profits.profit(b).unwrap_or(0)
     }
 
     /// The discount factor of a period, in units of 10^-12.
@@ -78,7 +98,7 @@ impl<A: Allocator + Copy + Drop> Instance<A> {
         ensures low { pos 0 ≤ℤ result }
         ensures high { result ≤ℤ pos (10 ^ 12) }
     {
-        self.discount.factor(t)
+        self.tables.discount.factor(t)
     }
 
     /// The coefficients of a block that were set, each with its resource, in millionths, rising by resource. The others are 0.
@@ -87,7 +107,7 @@ impl<A: Allocator + Copy + Drop> Instance<A> {
         ensures value { result.now ≡ coefs_of self.now b }
         ensures sound { AreCoefs self.now.resources result.now }
     {
-        self.coefs.row(b)
+        self.tables.coefs.row(b)
     }
 
     /// The blocks that have to be mined no later than a block: rising, each once, and without the block.
@@ -96,7 +116,7 @@ impl<A: Allocator + Copy + Drop> Instance<A> {
         ensures value { result.now ≡ preds_of self.now b }
         ensures sound { ArePreds self.now.blocks b result.now }
     {
-        self.preds.row(b)
+        self.tables.preds.row(b)
     }
 
     /// The blocks that have a block among their predecessors, rising.
@@ -105,7 +125,7 @@ impl<A: Allocator + Copy + Drop> Instance<A> {
         ensures value { result.now ≡ succs_of self.now b }
         ensures sound { ArePreds self.now.blocks b result.now }
     {
-        self.succs.row(b)
+        self.tables.succs.row(b)
     }
 
     /// The cell of a resource in a period: cells go by period, and in it by resource.
@@ -124,7 +144,7 @@ impl<A: Allocator + Copy + Drop> Instance<A> {
         requires period { t < self.now.periods }
         ensures { result ≡ lower_of self.now r t }
     {
-        self.bounds[self.cell(r, t) as usize].0
+        self.tables.bounds[self.cell(r, t) as usize].0
     }
 
     /// The least upper bound that was given for the load of a resource in a period, in millionths.
@@ -133,7 +153,7 @@ impl<A: Allocator + Copy + Drop> Instance<A> {
         requires period { t < self.now.periods }
         ensures { result ≡ upper_of self.now r t }
     {
-        self.bounds[self.cell(r, t) as usize].1
+        self.tables.bounds[self.cell(r, t) as usize].1
     }
 
     /// The place of a block, each coordinate in millionths.
@@ -141,7 +161,7 @@ impl<A: Allocator + Copy + Drop> Instance<A> {
         requires { b < self.now.blocks }
         ensures { result ≡ place_of self.now b }
     {
-        self.places.place(b)
+        self.tables.places.place(b)
     }
 
     /// The resource and the period of the least period, and in it of the least resource, whose upper bound is below zero.

@@ -1,5 +1,4 @@
 -- Definitions that no public contract cites.
 pub mod Closing
 pub mod Floors
-pub mod Accounts
 pub mod Places

@@ -8,6 +8,7 @@
 #![tactic(auto)]
 
 mod account;
+mod ahead;
 mod blank;
 mod closed;
 mod comparing;

@@ -1,16 +1,16 @@
 //! Seats of a workspace.
 ghost use Rattle.std.specs.Prelude.{◌≡◌, ◌≢◌, ◌+◌, ◌<◌, ◌≤◌, [], IfOk, OnOk, IfErr};
 ghost use Rattle.pit_book.specs.History.{commits_of};
-ghost use Rattle.pit_share.specs.Inside.Accounts.{AreSizes};
 ghost use Rattle.pit_share.specs.Logs.{IsPlanner};
 ghost use Rattle.pit_share.specs.Opening.{AreSeats};
 ghost use Rattle.pit_share.specs.Planners.{planner_of};
 
-use crate::account::{Account, Sizes};
+use crate::account::Account;
 use crate::error::OpenError;
 use crate::planner::Planner;
 use crate::workspace::Workspace;
 use pit_board::{Hall, Session};
+use pit_model::Instance;
 use std::alloc::Allocator;
 use std::marker::Model;
 use std::sync::Wait;
@@ -56,14 +56,14 @@ pub(crate) fn seats_of<S: Session, R: Wait + Drop, A: Allocator + Copy + Drop>(
     alloc: A,
     hall: &Hall<S, R, A>,
     rest: &mut Share<S>,
-    sizes: Sizes,
+    pit: &Instance<A>,
     planners: u32,
 ) -> Result<Vec<Seat<S, A>, A>, OpenError>
     requires hall { hall.now ≡ commits_of S.opening }
     requires planners { planners ≡ S.planners }
     requires few { planners ≤ rest.old.parts }
     requires none_left { rest.old.amount ≡ 0 }
-    requires sizes { AreSizes S.instance sizes }
+    requires pit { pit.now ≡ S.instance }
     ensures seats { IfOk result (λ seats. AreSeats planners seats.items) }
     ensures parts { OnOk result (rest.new.parts + planners ≡ rest.old.parts) }
     ensures none_left { rest.new.amount ≡ 0 }
@@ -71,7 +71,7 @@ pub(crate) fn seats_of<S: Session, R: Wait + Drop, A: Allocator + Copy + Drop>(
 {
     let mut seats: Vec<Seat<S, A>, A> = Vec::new(alloc);
     for before in 0..planners {
-        let seat = match seat_of(alloc, hall, rest, sizes, before + 1) {
+        let seat = match seat_of(alloc, hall, rest, pit, before + 1) {
             Ok(seat) => seat,
             Err(error) => return Err(error),
         };
@@ -87,14 +87,14 @@ fn seat_of<S: Session, R: Wait + Drop, A: Allocator + Copy + Drop>(
     alloc: A,
     hall: &Hall<S, R, A>,
     rest: &mut Share<S>,
-    sizes: Sizes,
+    pit: &Instance<A>,
     number: u32,
 ) -> Result<Seat<S, A>, OpenError>
     requires hall { hall.now ≡ commits_of S.opening }
     requires number { IsPlanner S.planners number }
     requires part { 0 < rest.old.parts }
     requires none_left { rest.old.amount ≡ 0 }
-    requires sizes { AreSizes S.instance sizes }
+    requires pit { pit.now ≡ S.instance }
     ensures seat { IfOk result (λ seat. seat ≡ number) }
     ensures parts { OnOk result (rest.new.parts + 1 ≡ rest.old.parts) }
     ensures none_left { rest.new.amount ≡ 0 }
@@ -103,7 +103,10 @@ fn seat_of<S: Session, R: Wait + Drop, A: Allocator + Copy + Drop>(
     let Some(view) = hall.view(rest) else {
         return Err(OpenError::NoPlace);
     };
-    match Box::new(alloc, Account::new(alloc, number, view, sizes)) {
+    let Ok(pit) = pit.again() else {
+        return Err(OpenError::NoMemory);
+    };
+    match Box::new(alloc, Account::new(alloc, number, view, pit)) {
         Ok(account) => Ok(Seat::new(account)),
         Err(_) => Err(OpenError::NoMemory),
     }

@@ -5,7 +5,6 @@ ghost use Rattle.pit_share.specs.Closing.{IsClosed, IsCloseError};
 ghost use Rattle.pit_share.specs.Opening.{IsPlannerCount, AreSeats, IsOpenError};
 ghost use Rattle.pit_share.specs.declared.blank.TheConstants.{PLANNERS_MAX};
 
-use crate::account::sizes_of;
 use crate::blank::{Blank, PLANNERS_MAX};
 use crate::closed::Closed;
 use crate::error::{CloseError, OpenError};
@@ -58,8 +57,8 @@ impl<S: Session, R: Wait + Drop, A: Allocator + Copy + Drop> Workspace<S, R, A> 
             Ok(hall) => hall,
             Err(_) => return Err((desk, OpenError::NoMemory)),
         };
-        let sizes = sizes_of(&desk);
-        let seats = match seats_of(alloc, &hall.value, &mut rest, sizes, planners) {
+        let pit = desk.plan().instance();
+        let seats = match seats_of(alloc, &hall.value, &mut rest, pit, planners) {
             Ok(seats) => seats,
             Err(error) => return Err((desk, error)),
         };

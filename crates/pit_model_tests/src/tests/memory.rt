@@ -115,10 +115,11 @@ fn built_again<A: Allocator + Copy + Drop>(rt: &impl Abort, builder: Builder<A>)
     builder.build().ok().expect(rt, "no memory twice")
 }
 
-/// What is read of a pit takes no memory.
+/// What is read of a pit takes no memory, nor does the same pit once more.
 fn assert_small<A: Allocator + Copy + Drop>(rt: &impl Abort, heap: Heap<'_>, pit: &Instance<A>) {
     let before = heap.count();
     assert_tiny(rt, pit);
+    assert_tiny(rt, &pit.again().expect(rt, "the pit again"));
     assert!(rt; heap.count() == before);
 }
 
@@ -146,8 +147,8 @@ fn is_whole(rt: &impl Abort, heap: Heap<'_>) -> bool {
 
 /// The requests of a small pit: in `new` for profits, for a bit of each, and for bounds; for the rows and the cells of coefficients; for the bits,
 /// the rows and the cells of predecessors, and for a list of them that is sorted; for places; in `build` for factors, for the ends of
-/// successors, and for these.
-const SMALL_REQUESTS: u64 = 13;
+/// successors, for these, and for what is shared.
+const SMALL_REQUESTS: u64 = 14;
 
 /// Each request is refused in turn, those of `new`, of the setters and of `build`. A call that is made again finds all as it was.
 #[test]
@@ -280,8 +281,8 @@ fn is_large_whole(rt: &impl Abort, alloc: Global, number: u64, listed: &[u32]) -
 /// The requests of a large pit: 3 in `new`; 1 for the rows of coefficients, and 15 for their cells, which have room for 4 and are doubled to
 /// 65,536, since lists of 1, 2, 4, .., 32 move to room for as many again; 1 for the bits of predecessors, 1 for their rows, 6 for their cells,
 /// which have room for 100 and are doubled to 3,200, and 6 for each of 20 lists that are sorted, which have room for 4 and are doubled to 128;
-/// 3 in `build`.
-const LARGE_REQUESTS: u64 = 3 + 1 + 15 + 1 + 1 + 6 + 20 * 6 + 3;
+/// 4 in `build`.
+const LARGE_REQUESTS: u64 = 3 + 1 + 15 + 1 + 1 + 6 + 20 * 6 + 4;
 
 /// The same of lists of coefficients that grow in turn, up to the greatest, and of a hundred predecessors, which are sorted.
 #[test]

@@ -9,3 +9,6 @@ of-requires-clause-in_range g c b =
 
 pub of-requires-clause-rising : goal.of-requires-clause-rising
 of-requires-clause-rising g c b = (c.self.invariant.preds b).rising
+
+pub sorted-requires : goal.sorted-requires
+sorted-requires g c b = (c.self.invariant.coefs b).rising
