@@ -67,18 +67,21 @@ fn text_of(rt: &impl Abort, alloc: Global, seed: u32, planner: u32) -> String {
     let mut series = Series::new(seed.wrapping_mul(64).wrapping_add(planner));
     let mut text = String::new(alloc);
     for _ in 0..JOBS {
-        assert!(rt; text.push_str("begin\n").is_ok());
-        for _ in 0..series.below(4) {
-            assert!(rt; write_step(&mut text, &mut series).is_ok());
-        }
-        let end = if series.below(6) == 0 {
-            "abort\n"
-        } else {
-            "commit\n"
-        };
-        assert!(rt; text.push_str(end).is_ok());
+        assert!(rt; write_job(&mut text, &mut series).is_ok());
     }
     text
+}
+
+/// Writes a job of up to three steps.
+fn write_job(text: &mut String, series: &mut Series) -> Result<(), AllocError> {
+    text.push_str("begin\n")?;
+    for _ in 0..series.below(4) {
+        write_step(text, series)?;
+    }
+    match series.below(6) {
+        0 => text.push_str("abort\n"),
+        _ => text.push_str("commit\n"),
+    }
 }
 
 fn write_step(text: &mut String, series: &mut Series) -> Result<(), AllocError> {
@@ -186,9 +189,13 @@ fn assert_own(
     for step in steps {
         assert!(rt; is_done(rt, &mut own, held, *step));
     }
-    assert!(rt; own.writes.as_slice() == entry.writes.items());
-    assert!(rt; own.revises.as_slice() == entry.revises.items());
+    assert!(rt; is_own(&own, entry));
     drop(own);
+}
+
+/// Whether the entry has these writes and revisions.
+fn is_own(own: &Own, entry: &Entry<Global>) -> bool {
+    own.writes.as_slice() == entry.writes.items() && own.revises.as_slice() == entry.revises.items()
 }
 
 /// Whether a step is done, and to what.
@@ -201,15 +208,7 @@ fn is_done(rt: &impl Abort, own: &mut Own, held: &Held, step: Step) -> bool {
             Some(1) => put(rt, own, block, Some(0)),
             _ => return false,
         },
-        Step::Bench { height, period } => {
-            for (at, blocks) in BENCHES {
-                if *at == height {
-                    for block in *blocks {
-                        put(rt, own, *block, Some(period));
-                    }
-                }
-            }
-        }
+        Step::Bench { height, period } => put_bench(rt, own, height, period),
         Step::Revise {
             resource,
             period,
@@ -237,6 +236,17 @@ fn put(rt: &impl Abort, own: &mut Own, block: u32, period: Option<u32>) {
         }
     }
     assert!(rt; own.writes.push((block, period)).is_ok());
+}
+
+/// Puts the blocks of a bench.
+fn put_bench(rt: &impl Abort, own: &mut Own, height: i64, period: u32) {
+    for (at, blocks) in BENCHES {
+        if *at == height {
+            for block in *blocks {
+                put(rt, own, *block, Some(period));
+            }
+        }
+    }
 }
 
 fn revise(rt: &impl Abort, own: &mut Own, resource: u32, period: u32, upper: Option<i64>) {
