@@ -176,7 +176,7 @@ const BUILDER: u64 = 3;
 
 /// Coefficients that are listed resource by resource, so that the list of each block grows after those of others. Their rows are a request.
 /// The cells are 500, then 1,500, then 3,000, since a list of one moves to room for two and one of two to room for three: they have room for 4
-/// and are doubled to 4,096, which is 11 requests. The factors are the last.
+/// and are doubled to 4,096, which is 11 requests. The factors and what a pit shares are the last two.
 #[test]
 fn of_read_model(rt: HostRuntime) {
     let mut text = String::from_str(rt.alloc(), HEADER).expect(&rt, "memory");
@@ -185,7 +185,7 @@ fn of_read_model(rt: HostRuntime) {
             assert!(rt; writeln!(text, "{b} {r} 1").is_ok());
         }
     }
-    refuse_each(&rt, rt.alloc(), Kind::Model, text.as_str(), BUILDER + 13);
+    refuse_each(&rt, rt.alloc(), Kind::Model, text.as_str(), BUILDER + 14);
     drop(text);
 }
 
@@ -198,7 +198,8 @@ fn push_preds(rt: &impl Abort, text: &mut String, b: u32) {
 }
 
 /// A hundred predecessors of each of 40 blocks. The list of a line has room for 4 and is doubled to 128, which is 6 requests. The bits and the rows
-/// are one each, and the cells have room for 100 and are doubled to 6,400, which is 7. Factors, ends and successors are the last three.
+/// are one each, and the cells have room for 100 and are doubled to 6,400, which is 7. Factors, ends, successors and what a pit shares are the last
+/// four.
 #[test]
 fn of_read_precedence(rt: HostRuntime) {
     let mut text = String::new(rt.alloc());
@@ -210,35 +211,35 @@ fn of_read_precedence(rt: HostRuntime) {
         rt.alloc(),
         Kind::Precedence,
         text.as_str(),
-        BUILDER + 18,
+        BUILDER + 19,
     );
     drop(text);
 }
 
-/// All places are one request, and the factors another.
+/// All places are one request, the factors another, and what a pit shares a third.
 #[test]
 fn of_read_blocks(rt: HostRuntime) {
     let mut text = String::new(rt.alloc());
     for b in 0..LINES {
         assert!(rt; writeln!(text, "{b} 1 2 3").is_ok());
     }
-    refuse_each(&rt, rt.alloc(), Kind::Blocks, text.as_str(), BUILDER + 2);
+    refuse_each(&rt, rt.alloc(), Kind::Blocks, text.as_str(), BUILDER + 3);
     drop(text);
 }
 
-/// The pit's factors are one request, and the slots another. The pairs have room for 4 and are doubled to 2,048, which is 10.
+/// The pit's factors, what it shares, and the slots are one request each. The pairs have room for 4 and are doubled to 2,048, which is 10.
 #[test]
 fn of_read_solution(rt: HostRuntime) {
     let mut text = String::new(rt.alloc());
     for b in 0..LINES {
         assert!(rt; writeln!(text, "{b} 1").is_ok());
     }
-    refuse_each(&rt, rt.alloc(), Kind::Solution, text.as_str(), BUILDER + 12);
+    refuse_each(&rt, rt.alloc(), Kind::Solution, text.as_str(), BUILDER + 13);
     drop(text);
 }
 
 /// Texts for which no reader takes memory, what is answered, and the requests of what they are read into: those of a builder, and for a
-/// pit the factors. A header is judged first, and so is a line of places; a line that mines nothing needs no slot.
+/// pit the factors and what it shares. A header is judged first, and so is a line of places; a line that mines nothing needs no slot.
 const QUIET: &[(Kind, &[u8], Result<bool, TextError>, u64)] = &[
     (
         Kind::Model,
@@ -258,7 +259,7 @@ const QUIET: &[(Kind, &[u8], Result<bool, TextError>, u64)] = &[
         }),
         BUILDER,
     ),
-    (Kind::Solution, b"0 0 1 0\n", Ok(false), BUILDER + 1),
+    (Kind::Solution, b"0 0 1 0\n", Ok(false), BUILDER + 2),
     (
         Kind::Solution,
         b"0 0 1 0\n1500 0\n",
@@ -266,7 +267,7 @@ const QUIET: &[(Kind, &[u8], Result<bool, TextError>, u64)] = &[
             line: 2,
             cause: BLOCK_RANGE,
         }),
-        BUILDER + 1,
+        BUILDER + 2,
     ),
 ];
 
