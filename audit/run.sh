@@ -1,13 +1,31 @@
 #!/usr/bin/env bash
 # What the gate leaves out, tried on a copy of the tree: further edits, each of which the prover has to refuse; planted wrong bodies, of
 # which only the listed ones may meet their contracts; and further tests. Each line that is not as it should be begins with FAIL.
-# usage: audit/run.sh [edits|plants|tests] [CRATE..]      Without a word all three, of each crate: hours. Wants the toolchain.
+# usage: audit/run.sh [edits|plants|tests [CRATE..]]
+# Without a word all three of each crate, side by side: as many at once as there are processors and 3 GB of free memory for each. Wants the toolchain.
 set -u
 cd "$(dirname "$0")/.." || exit 2
 top=$PWD
-parts=(edits plants tests)
-case ${1:-} in
-    edits | plants | tests) parts=("$1") && shift ;;
+
+# Each part of each crate in a run of its own, whose lines are printed together when it ends.
+if [ $# -eq 0 ]; then
+    free=$(awk '/^MemAvailable/ { print int($2 / 3000000) }' /proc/meminfo)
+    lanes=$(nproc)
+    [ "$free" -lt "$lanes" ] && lanes=$((free > 0 ? free : 1))
+    export RT_JOBS=1
+    for part in plants edits tests; do
+        for folder in crates/*/; do
+            echo "$part $(basename "$folder")"
+        done
+    done | xargs -P "$lanes" -L 1 bash -c 'said=$(audit/run.sh "$@" 2>&1); status=$?; echo "$said"; exit $status' audit && echo 'all of it fine'
+    exit
+fi
+
+part=$1
+shift
+case $part in
+    edits | plants | tests) ;;
+    *) sed -n '/^# usage/s/^# //p' "$0" && exit 2 ;;
 esac
 wanted=" $* "
 tree=$(mktemp -d)
@@ -55,13 +73,11 @@ tests() {
     (cd "$tree/crates/$1" && rt test) || fail "tests of $1"
 }
 
-for part in "${parts[@]}"; do
-    for folder in crates/*/; do
-        crate=$(basename "$folder")
-        is_wanted "$crate" || continue
-        echo "== $part of $crate"
-        "$part" "$crate"
-    done
+for folder in crates/*/; do
+    crate=$(basename "$folder")
+    is_wanted "$crate" || continue
+    echo "== $part of $crate"
+    "$part" "$crate"
 done
 if [ "$failures" -ne 0 ]; then
     echo "$failures failed"

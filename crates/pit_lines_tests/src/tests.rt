@@ -1,6 +1,5 @@
 //! Texts of histories, against entries and faults that were written down by hand.
 mod cut;
-mod drawn;
 mod faults;
 mod forms;
 mod memory;

@@ -6,7 +6,6 @@ ghost use Rattle.pit_script.specs.Ranges.{AreJobsIn};
 ghost use Rattle.pit_share.specs.Opening.{AreSeats};
 ghost use Rattle.pit_share.specs.declared.blank.TheConstants.{PLANNERS_MAX};
 
-mod hot;
 mod lines;
 mod memory;
 mod planning;
