@@ -33,6 +33,21 @@ trap 'rm -rf "$tree"' EXIT
 git ls-files -z --cached --others --exclude-standard | xargs -0 cp --parents -t "$tree" || exit 2
 failures=0
 
+# take CRATE: what the checkout's own checks kept of the crate, and the libraries that they built. Files that rt replaces and doesn't write into are
+# linked.
+take() {
+    local out
+    for out in crates/*/out/rlib; do
+        [ -d "$out" ] && mkdir -p "$tree/${out%/*}" && cp -rln "$out" "$tree/${out%/*}/"
+    done
+    out=crates/$1/out
+    if [ -d "$out/incremental" ] && [ ! -d "$tree/$out/incremental" ]; then
+        mkdir -p "$tree/$out"
+        cp -rl "$out/incremental" "$tree/$out/"
+        (cd "$out" && find incremental -type f ! -name '*.oantt' -print0 | xargs -0r cp --parents --remove-destination -t "$tree/$out")
+    fi
+}
+
 # is_wanted CRATE: no crate was named, or this one was.
 is_wanted() { [ "$wanted" = '  ' ] || [[ $wanted == *" $1 "* ]]; }
 
@@ -77,6 +92,7 @@ for folder in crates/*/; do
     crate=$(basename "$folder")
     is_wanted "$crate" || continue
     echo "== $part of $crate"
+    take "$crate"
     "$part" "$crate"
 done
 if [ "$failures" -ne 0 ]; then

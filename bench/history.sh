@@ -1,10 +1,10 @@
 #!/usr/bin/env bash
 # Times `pit plan --history` and `pit replay`, in turn with a native program; the best of three runs.
 # usage: bench/history.sh [-n JOBS] [-t TWIN] PIT NAME..   reads NAME.cpit, NAME.prec and NAME.sol, whose lines have two fields
-# Four planners with JOBS each (250,000 where it isn't said), of one block, which is read and put where it is, plan from the solution, and their history
-# is written; then it is replayed, and once more with a space behind each comma, so that each line is read by its JSON value. Prints seconds and peak
-# memory. The twin is run as `TWIN plan .. --reads board` and `TWIN replay`, on the same files, the last time on the history without spaces, since it
-# reads no other. Wants GNU time.
+# Four planners with JOBS each (250,000 where it isn't said), of one block, which is read and put where it is, plan from the solution, and their
+# history is written; then it is replayed, and once more with a space behind each comma, so that each line is read by its JSON value. Prints seconds
+# and peak memory. The twin is run as `TWIN plan .. --reads board` and `TWIN replay`, on the same files, the last time on the history without spaces,
+# since it reads no other. Wants GNU time.
 set -eu
 
 usage() {

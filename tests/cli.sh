@@ -91,7 +91,7 @@ check 'check, no precedences' 3 '' 'pit: cannot read precedence' check model abs
 check 'value' 0 "$VALUE" '' value model solution
 check 'value, files after --' 0 "$VALUE" '' value -- model solution
 
-# Plans. What several planners leave is their own affair, so but one of them changes anything here.
+# Plans. What several planners leave depends on who comes first, so only one of them changes anything here.
 readonly PLANNED='0 0
 1 0
 3 1'

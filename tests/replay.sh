@@ -1,6 +1,7 @@
 #!/usr/bin/env bash
-# Has a built `pit` plan on pits and scripts that are drawn from seeds, and replays each history: it is legal, of as many entries and commits as it has
-# lines, and has the value that the report and the solution have. Then each reply is changed in turn: the history is then illegal at that place.
+# Has a built `pit` plan on pits and scripts that are drawn from seeds, and replays each history: it is legal, has an entry for each line but the
+# first and a commit for each line that says so, and has the value that the report and the solution have. Then each reply is changed in turn: the
+# history is then illegal at that place.
 # usage: tests/replay.sh PIT [RUNS]      PIT is the path of the program; 200 runs where their number isn't said.
 set -u
 

@@ -235,6 +235,7 @@ fn retries<'a>(alloc: Global) -> Arg<'a>
     Arg::new(alloc, RETRIES)
         .long(RETRIES)
         .value_name("N")
+        // `RETRIES_MAX` and `RETRIES_UNSAID`: `clap` is given a range of `u16` and a text.
         .value_parser(value_parser!(u16).range(0..=1000))
         .default_value("3")
         .help("How often a job is repeated that met a change of another planner, 0 to 1000")

@@ -11,7 +11,7 @@ use std::process::ExitCode;
 /// The status where the words of the command line are refused.
 const REFUSED: u8 = 2;
 
-/// Ends with an answer: prints why there is none, or the help that was asked for.
+/// Ends the program. Where there is no answer, it prints why, or the help that was asked for.
 pub fn ended(rt: &HostRuntime, answer: Result<Status, Fault>) -> ExitCode
     ensures { IsStatusOf answer (exit_status result) }
 {

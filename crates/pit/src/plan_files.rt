@@ -45,7 +45,7 @@ fn plan_inputs(alloc: Global, given: &ArgMatches<'_>) -> Result<Vec<Input>, CliF
     Ok(inputs)
 }
 
-/// An input that the words may leave out.
+/// Adds an input that the words may leave out, where they give it.
 fn push_if(inputs: &mut Vec<Input>, given: &ArgMatches<'_>, input: Input) -> Result<(), CliFault>
     ensures ok { OnOk result (inputs.new.items ≡ inputs.old.items ++ input_if given.now input) }
     ensures err { IfErr result (λ fault. fault ≡ CliFault.NoMemory) }

@@ -1,8 +1,8 @@
 //! The jobs of one planner: what a try of a job does, how often it is repeated, and what becomes of a script.
 //!
-//! A try is a transaction of its own, which does the steps of the job in order and ends as the job does. Only a try that finds that a block
-//! has moved is repeated. What is proved of it is said of the planner's log: which entries a job leaves there, that each has the effect of its
-//! job over its own reads, and that the outcome is the reply of the last.
+//! A try is a transaction of its own, which does the steps of the job in order and ends as the job does. Only a try that finds that a block has moved
+//! is repeated. What is proved is said of the planner's log: which entries a job leaves there, that each has its job's effect over its own reads, and
+//! that the outcome is the last one's reply, or Moved where the job is given up.
 #![tactic(auto)]
 
 mod attempt;

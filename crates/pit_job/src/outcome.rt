@@ -9,7 +9,7 @@ pub enum JobStop {
     /// The history has as many entries as it may have.
     Full,
     NoMemory,
-    /// The board had no room for a read.
+    /// The planner wasn't let in at the board, or the board was behind what it had seen.
     NoEntry,
 }
 

@@ -1,9 +1,10 @@
-//! Several planners, each with a script, edit one schedule at once: from the texts of the inputs to the solution and the report.
+//! Several planners, each with a script, edit one schedule at once: from the texts of the inputs to the solution, the report and the history.
 //!
-//! The texts are parsed in order. A desk is opened on the start, and a workspace on the desk, with a planner for each script. What is proved of
-//! their run is what `pit_run` says, after the opening history of that start; or the first fault is answered: of the texts, of the pit's limits, of the
-//! start, or of the number of planners. What is written is the solution that the closed history leaves, and what is told of the runs. As
-//! `one_outcome` says, whether the texts are refused, and for which fault, is theirs alone, and the answer tells what was written.
+//! The texts are parsed in order. A desk is opened on the start, and a workspace on the desk, with a planner for each script. What is proved of their
+//! run is what `pit_run` says, after the opening history of that start; or the first fault is answered: of the texts, of the pit's limits, of the
+//! start, or of the number of planners. What is written is the solution that the closed history leaves, what is told of the runs, and the history
+//! where it is asked for. As `one_outcome` says, whether the texts are refused, and for which fault, is theirs alone, and the answer tells what was
+//! written.
 #![tactic(auto)]
 
 mod engine;

@@ -9,10 +9,10 @@ use crate::plan_fault::PlanFault;
 use pit_book::one_desk_error;
 use pit_cli::{CliFault, Status};
 
-/// A law of plans. Texts may be run, or are refused for one fault, never both and never for two, whatever threads do; each call on them
-/// keeps to that, want of memory aside. The answer tells what was written; and where the report's device tells its bytes, they say how the
-/// planners ended, with which status, or that they didn't run. What is left to chance is the run itself, and which of memory, a place, a
-/// device or a closed workspace is wanting.
+/// A law of plans. Texts may be run, or are refused for one fault, never both and never for two, whatever threads do; each call on them keeps to
+/// that, want of memory aside. The answer tells what was written; and where the report's device tells its bytes, they say how the planners ended,
+/// with which status, or that they didn't run. What is left to chance is the run itself, and whether memory or a place is wanting, a device fails, or
+/// the workspace isn't closed.
 pub fn one_outcome()
     ensures some { (texts : Texts) → MayRun texts ⊎ ((fault : PlanFault) × AreRefused texts fault) }
     ensures apart { (texts : Texts) (fault : PlanFault) → MayRun texts → AreRefused texts fault → ⊥ }
@@ -42,7 +42,7 @@ pub fn one_outcome()
     one_desk_error();
 }
 
-/// A law of plans, for any number of planners: where one has ended with an answer, or since a planner stopped, what it has written is told of one
+/// A law of plans, for any number of planners: where a plan ended with an answer, or because a planner stopped, what it has written is told of one
 /// closed history of one thread. Each committed entry behind the start is a job of a planner's script, done on the schedule that the entries before
 /// it leave; after each entry the schedule is good under the limits then in force; and the value is that of the solution.
 pub fn one_closed_history()

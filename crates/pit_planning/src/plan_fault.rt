@@ -15,7 +15,7 @@ pub enum PlanFault {
         number: u64,
         error: ScriptError,
     },
-    /// Of the least period and resource of which no schedule meets the upper limit.
+    /// The least period, and in it the least resource, whose upper limit is below zero, so that the empty schedule is above it.
     #[error("pit: model: upper limit below zero {resource} {period}")]
     LimitBelowZero {
         resource: u32,
@@ -49,8 +49,8 @@ impl PlanFault {
     ghost use Rattle.std.specs.Prelude.{◌≡◌, ◌≤◌};
     ghost use Rattle.pit_planning.specs.Statuses.{plan_fault_status};
 
-    /// The status that the program ends with: 2 where an input or the number of planners is refused, 3 where memory, a device, a thread or a
-    /// place is wanting.
+    /// The status that the program ends with: 2 where an input, the start or the number of planners is refused, 3 where memory, a device, a thread or
+    /// a place is wanting, where a planner stopped, or where the logs don't close the workspace.
     pub fn status(&self) -> u8
         ensures is { result ≡ plan_fault_status self.now }
         ensures range { (2 ≤ result) × (result ≤ 3) }

@@ -30,6 +30,7 @@ impl<A: Allocator + Drop> Model for PlanInput<A> {
 }
 
 impl<A: Allocator + Drop> PlanInput<A> {
+    /// Keeps the texts. The scripts stand in the order of their planners.
     pub fn new(
         model: Vec<u8, A>,
         precedence: Vec<u8, A>,

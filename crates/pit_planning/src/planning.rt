@@ -78,6 +78,7 @@ fn opening_fault(error: DeskError) -> PlanFault
             load: Micro(load),
             limit: Micro(i128::from(limit)),
         },
+        // `Full` doesn't come: `ENTRIES_MAX` has room for the start's one entry.
         DeskError::Full | DeskError::NoMemory => PlanFault::Cli(CliFault::NoMemory),
     }
 }
@@ -117,6 +118,7 @@ fn run_on<R: Threads + Wait + Sync, A: Allocator + Copy + Drop + Send + Sync>(
     )
 }
 
+/// The same under a session's name. `own` is the handle that the board's writer keeps.
 fn run_in<
     S: Session + Send + Sync,
     O: Wait + Drop + Send + Sync,

@@ -23,7 +23,7 @@ pub struct Inputs<A: Allocator + Copy + Drop> {
     pub scripts: Vec<Script<A>, A>,
 }
 
-/// Parses the texts in order. Each is freed once it is parsed, and the scripts at once.
+/// Parses the texts in order. Each is freed once it is parsed, except the scripts, which are freed together.
 pub fn parsed<A: Allocator + Copy + Drop>(
     alloc: A,
     input: PlanInput<A>,

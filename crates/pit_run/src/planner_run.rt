@@ -47,6 +47,7 @@ impl<A: Allocator + Drop> PlannerRun<A> {
         self.jobs.as_slice()
     }
 
+    /// How the jobs ended: all done, or before which job.
     pub fn ended(&self) -> RunEnd
         ensures { result ≡ self.now.ended }
     {

@@ -22,6 +22,7 @@ pub record IsClosed (pit : Pit) (opening : List Answered) (max_entries planners 
 pub record IsFirstDiffering (pit : Pit) (opening : List Answered) (max_entries planners : ℕ) (logs : List PlannerState) (planner : ℕ) : Type 0 where
   pub whole : HasEachLog planners logs
   pub desk : State
+  pub kept : IsDeskKept desk
   pub goes_on : GoesOn pit opening max_entries planners desk
   pub least : IsLeastOf ◌<◌ (IsDiffering planners (drop (length opening) desk.history) logs) planner
 

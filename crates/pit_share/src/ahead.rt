@@ -4,11 +4,13 @@ ghost use Rattle.std.specs.Prelude.{◌<◌, All};
 use pit_model::Instance;
 use std::alloc::Allocator;
 
-/// So many writes are looked at. A commit of more has the lock for long in any case, and the processor wouldn't keep them all at hand.
+/// The most writes that are looked at. A commit of more holds the lock for long in any case, and what the pit has of all its blocks wouldn't stay in
+/// the caches.
 const AHEAD_MAX: usize = 32;
 
-/// Reads what the pit has of the first written blocks. Under the lock these are read again, and by then the processor has them at hand: who has
-/// the lock doesn't wait for main memory, so that the other planners wait less. The answer depends on all that was read, and says nothing.
+/// Reads what the pit has of the first written blocks. Under the lock these are read again, and by then they are in the processor's caches: who has
+/// the lock doesn't wait for main memory, so that the other planners wait less. The answer depends on all that was read, so that the compiler can't
+/// leave the look out.
 pub(crate) fn look_ahead<A: Allocator + Copy + Drop>(
     pit: &Instance<A>,
     writes: &[(u32, Option<u32>)],

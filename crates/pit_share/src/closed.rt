@@ -5,8 +5,8 @@ use pit_book::{Desk, Entry};
 use std::alloc::Allocator;
 use std::marker::Model;
 
-/// The desk of a workspace that was closed, and the items of its logs, which are freed with it or once the desk is taken out: it takes long, and
-/// a program that ends needn't. Contracts see it as they see the desk.
+/// The desk of a workspace that was closed, and the items of its logs. They are freed with it, or by `into_desk`: that takes long, and a program that
+/// ends may leave it out. Contracts see it as they see the desk.
 #[derive(Drop)]
 pub struct Closed<A: Allocator + Copy + Drop> {
     desk: Desk<A>,
@@ -35,7 +35,7 @@ impl<A: Allocator + Copy + Drop> Closed<A> {
         &self.desk
     }
 
-    /// The desk, which may be opened as another workspace.
+    /// The desk, which may be opened as another workspace. Frees the items.
     pub fn into_desk(self) -> Desk<A>
         ensures { result ≡ self }
     {

@@ -48,8 +48,8 @@ impl<'a, S: Session, R: Wait + Drop, A: Allocator + Copy + Drop> Planner<'a, S, 
         self.account.number()
     }
 
-    /// Begins a transaction for a job, after all commits that the planner sees. Looks at the board for them; where it isn't let in, these are
-    /// those that it had seen. Waits for nobody. On want of memory the planner is handed back.
+    /// Begins a transaction for a job, after all commits that the planner sees. Looks at the board for them; where it isn't let in, the transaction
+    /// begins after those that it had seen. Waits for nobody. On want of memory the planner is handed back.
     pub fn begin(
         self,
         job: u32,

@@ -195,7 +195,8 @@ impl<'a, S: Session, R: Wait + Drop, A: Allocator + Copy + Drop> Transaction<'a,
         }
     }
 
-    /// Gives it up. Makes no entry and no item, takes no memory, and waits for nobody. The planner's next transaction gets the memory of the sets.
+    /// Gives it up. Makes no entry and no item, takes no memory, and waits for nobody. Small sets leave their memory to the planner's next
+    /// transaction; larger ones are freed.
     pub fn abandon(self) -> Planner<'a, S, R, A>
         ensures { result ≡ self.entry.planner }
     {

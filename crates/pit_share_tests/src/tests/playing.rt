@@ -10,7 +10,7 @@ use super::{Heap, assert_legal, empty_desk, is_history, started_desk};
 use pit_board::Session;
 use pit_book::Desk;
 use pit_plan_sample::Reading;
-use pit_share::{Blank, OpenError, PlannerLog, Seat, Workspace};
+use pit_share::{Blank, OpenError, PlannerLog, Seat, Workspace, one_shared_history};
 use std::alloc::{Allocator, Global};
 use std::marker::Brand;
 use std::process::Abort;
@@ -164,7 +164,11 @@ fn play_in<S: Session, R: Wait + Drop, W: Wait + Abort, A: Allocator + Copy + Dr
     let are_logs = is_log(&logs.0, 1, doings) && is_log(&logs.1, 2, doings);
     assert!(rt; are_logs, "in {}", stage.row);
     let room = room_for_two(rt, alloc);
-    close_twice(rt, stage, workspace, room, logs)
+    // the value that the law states while the workspace is open
+    let stated = one_shared_history(rt, &workspace);
+    let desk = close_twice(rt, stage, workspace, room, logs);
+    assert!(rt; desk.plan().value() == stated, "in {}", stage.row);
+    desk
 }
 
 fn logs_of<S: Session, R: Wait + Drop, W: Wait + Abort, A: Allocator + Copy + Drop>(
