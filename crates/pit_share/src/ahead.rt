@@ -8,6 +8,9 @@ use std::alloc::Allocator;
 /// the caches.
 const AHEAD_MAX: usize = 32;
 
+/// The most predecessors, and the most successors, of a block that are looked at. A block may have millions, which would empty the caches.
+const NEIGHBOURS_MAX: usize = 64;
+
 /// Reads what the pit has of the first written blocks. Under the lock these are read again, and by then they are in the processor's caches: who has
 /// the lock doesn't wait for main memory, so that the other planners wait less. The answer depends on all that was read, so that the compiler can't
 /// leave the look out.
@@ -29,10 +32,10 @@ fn mark_of<A: Allocator + Copy + Drop>(pit: &Instance<A>, b: u32) -> u32
     requires { b < pit.now.blocks }
 {
     let mut mark = u32::from(pit.profit(b) > 0);
-    for other in pit.preds(b) {
+    for other in pit.preds(b).iter().take(NEIGHBOURS_MAX) {
         mark ^= *other;
     }
-    for other in pit.succs(b) {
+    for other in pit.succs(b).iter().take(NEIGHBOURS_MAX) {
         mark ^= *other;
     }
     for (resource, _) in pit.coefs(b) {
