@@ -54,12 +54,18 @@ const FIRST: &[Doing] = &[
     (1, Commit(Reply::Committed { number: 1 })),
 ];
 
+/// Its value, 5 discounted once at 0.1, in units of 10^-18.
+const AFTER_FIRST: i128 = 4_545_454_545_455_000_000;
+
 /// Block 0 in period 0, by the second.
 const SECOND: &[Doing] = &[
     (1, Begin(7, 1)),
     (1, Put(0, 0, Ok(()))),
     (1, Commit(Reply::Committed { number: 2 })),
 ];
+
+/// The value of both: block 0 is worth -10.
+const AFTER_SECOND: i128 = -5_454_545_454_545_000_000;
 
 const ANSWERS: &[Answered] = &[
     (1, EntryReply::Committed { number: 1 }),
@@ -77,7 +83,9 @@ fn closes_by_all_logs(rt: HostRuntime) {
     let desk = empty_desk(&rt, rt.alloc(), 100);
     let desk = played(&rt, stage, rt.alloc(), desk, FIRST);
     assert_played(&rt, rt.alloc(), stage, &desk, 0, FIRST);
+    assert!(rt; desk.plan().value() == AFTER_FIRST);
     let desk = played(&rt, stage, rt.alloc(), desk, SECOND);
+    assert!(rt; desk.plan().value() == AFTER_SECOND);
     assert_legal(&rt, rt.alloc(), &desk);
     assert!(rt; is_history(desk.history(), 0, ANSWERS));
     drop(desk);
