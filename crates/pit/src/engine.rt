@@ -7,7 +7,7 @@ ghost use Rattle.pit.specs.Asked.{engine_of};
 use clap::ArgMatches;
 
 /// What the program does with its inputs.
-#[derive(Clone, Copy, Debug, PartialEq, Eq)]
+#[derive(Clone, Copy)]
 pub enum Engine {
     /// Prints what a solution is worth.
     Value,

@@ -69,7 +69,7 @@ impl<S: Session, A: Allocator + Copy + Drop> Board<S, A> {
     }
 }
 
-/// Writes each block's slot, and a block's first write last.
+/// Writes each block's slot, from the last write to the first, so that of two writes of one block the first would stand.
 fn write_slots<A: Allocator + Copy + Drop>(
     slots: &mut Vec<KeptSlot, A>,
     number: u32,

@@ -61,8 +61,8 @@ impl<S: Session, A: Allocator + Copy + Drop> Operation<S, A> {
         })
     }
 
-    /// Gives the cell its stamp, and lets go of the cell. Of a cell that another thread has locked it would not; what is published then lags, and
-    /// the hall waits.
+    /// Gives the cell its stamp, and lets go of the cell. Where another thread has locked the cell, the stamp is let go; what is published then
+    /// lags, and the hall waits.
     pub(crate) fn fill(self, stamp: Stamp<S, A>) {
         if let Some(mut cell) = self.cell.try_lock() {
             *cell = Some(stamp);

@@ -105,8 +105,8 @@ impl<S: Session, A: Allocator + Copy + Drop> View<S, A> {
         self.front.count()
     }
 
-    /// Looks a block up at the board, after which the planner has seen what the board shows; or the reader isn't let in, or the board is behind
-    /// what it has seen, and then nothing has changed. Takes no memory, and waits for nobody.
+    /// Looks a block up at the board, after which the planner has seen what the board shows. Where the reader isn't let in, or the board is behind
+    /// what it has seen, `None` is the answer, and nothing changes. Takes no memory, and waits for nobody.
     pub fn read(&mut self, block: u32) -> Option<Slot>
         requires { block < S.instance.blocks }
         ensures slot { IfSome result (λ slot. slot ≡ slot_of self.new.seen block) }
@@ -121,7 +121,7 @@ impl<S: Session, A: Allocator + Copy + Drop> View<S, A> {
     }
 
     /// Takes over what the board shows, and looks a block up, if the board has a slot for it. Where the reader isn't let in, or the board is
-    /// behind what was seen, nothing changes. Both ways to the board lead through here, so that a reader's steps are compiled once, and in place.
+    /// behind what was seen, nothing changes. Both ways to the board lead through here, so that a reader's steps are compiled once, and inlined.
     fn look(&mut self, block: u32) -> Option<Slot>
         ensures slot { IfSome result (λ slot. slot ≡ slot_of self.new.seen block) }
         ensures seen { IsPrefix self.old.seen self.new.seen }

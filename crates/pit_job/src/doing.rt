@@ -12,7 +12,7 @@ use std::alloc::Allocator;
 use std::sync::Wait;
 
 /// Why a step was not done.
-#[derive(Clone, Copy, Debug, PartialEq, Eq)]
+#[derive(Clone, Copy)]
 pub(crate) enum StepStop {
     Moved { block: u32, version: u32 },
     NoMemory,

@@ -5,7 +5,7 @@ use pit_num::{NoMemory, has_bit, with_bit};
 use std::alloc::Allocator;
 use std::marker::Model;
 
-/// A set of blocks, 64 of them to a word. So a block that comes out of order is looked up in few words.
+/// A set of blocks, 64 of them to a word. So the set is small, and a block that comes out of order is mostly found in the caches.
 ///
 /// Contracts see whether each block is in it, as far as it has room.
 #[derive(Drop)]

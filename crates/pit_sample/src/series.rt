@@ -27,12 +27,4 @@ impl Series {
         }
         Some(self.below(periods))
     }
-
-    /// From -4 to 5, in millionths.
-    pub(crate) fn amount(&mut self) -> i32 {
-        self.below(10)
-            .cast_signed()
-            .wrapping_sub(4)
-            .wrapping_mul(1_000_000)
-    }
 }

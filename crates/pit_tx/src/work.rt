@@ -16,8 +16,8 @@ use std::marker::Model;
 const FIRST_ROOM: usize = 2;
 
 /// The reads and the writes of a transaction, each a block with a period or none, and the upper limits that it revises, in the order
-/// of first use. A transaction is what one planner does for one of its jobs, after so many commits. Only `new`, `note`, `put`,
-/// `clear` and `revise` take memory, and a refused one leaves all as it was.
+/// of first use. A transaction is what one planner does for one of its jobs, after so many commits. Only `new`, `with_room`, `note`,
+/// `note_unknown`, `put`, `clear` and `revise` take memory, and a refused one leaves all as it was.
 #[derive(Drop)]
 pub struct Work<A: Allocator + Copy + Drop> {
     planner: u32,
