@@ -67,7 +67,7 @@ edits() {
 # plants CRATE: what `rt plant` lists, without line numbers, is what audit/plants/CRATE.txt lists.
 plants() {
     local listed=$top/audit/plants/$1.txt found=$tree/plants.txt
-    (cd "$tree/crates/$1" && rt plant --max 2000 --minutes 60) >"$tree/said.txt" || fail "planting in $1"
+    (cd "$tree/crates/$1" && rt plant --max 2000 --minutes 600 ${RT_JOBS:+--jobs "$RT_JOBS"}) >"$tree/said.txt" || fail "planting in $1"
     tail -n 1 "$tree/said.txt"
     grep -q '^note: some plants may not have been tried' "$tree/said.txt" && fail "plants of $1: not all were tried"
     grep -E '^(proves|no-ensures|untested) ' "$tree/said.txt" | sed -E 's/:[0-9]+//g; s/ +/ /g' | sort >"$found"
