@@ -71,8 +71,7 @@ plants() {
     tail -n 1 "$tree/said.txt"
     grep -q '^note: some plants may not have been tried' "$tree/said.txt" && fail "plants of $1: not all were tried"
     grep -E '^(proves|no-ensures|untested) ' "$tree/said.txt" | sed -E 's/:[0-9]+//g; s/ +/ /g' | sort >"$found"
-    touch "$tree/none"
-    [ -f "$listed" ] || listed=$tree/none
+    [ -f "$listed" ] || listed=/dev/null
     {
         grep -v '^[#?]' "$listed"
         sed -n 's/^? //p' "$listed" | grep -Fxf "$found"
