@@ -99,7 +99,7 @@ tests() {
         cp "$file" "$tree/crates/$1/src/tests/$(basename "$file" .txt)"
         echo "mod $(basename "$file" .rt.txt);" >>"$tree/crates/$1/src/tests.rt"
     done
-    (cd "$tree/crates/$1" && rt test) || fail "tests of $1"
+    (cd "$tree/crates/$1" && rt test ${RT_JOBS:+--jobs "$RT_JOBS"}) || fail "tests of $1"
 }
 
 for folder in crates/*/; do
