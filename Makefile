@@ -1,41 +1,75 @@
-# make demo           proves and builds ./pit where a source is newer than it, and runs it on the small example
-# make pit            builds alone
+# make demo           shows the main job: without a proof where there is no ./pit, in a minute or two; else a whole day
+# make pit            proves and builds ./pit where a source is newer than it
 # make check CRATE=C  proves the crate C, over what earlier checks kept: seconds after an edit
-# make test           the whole gate: every proof, test, must-fail edit and stored run, from nothing; then the shell tests
+# make test           the whole gate: every proof, test, must-fail edit and stored run, from nothing; then the shell tests. Leaves ./pit
+# make install        puts the program, its manual page and its completions for bash under PREFIX (/usr/local), itself below DESTDIR
+# make uninstall      removes what make install put there
 # make audit          what the gate leaves out: on a copy of the tree further edits, planted bodies, further tests; and a soak of ./pit. Takes hours
 # make clean          removes what was built
-.PHONY: demo check test audit clean
+.PHONY: demo check test install uninstall audit clean needs
+
+SHELL := /bin/bash
+.SHELLFLAGS := -o pipefail -c
 
 EXAMPLE := examples/tiny
 # What the gate builds last of all, from what it has proved.
 PROVED := crates/pit/out/pit
 
-SOURCES := crates.txt $(shell find crates -name out -prune -o -type f '(' -name '*.rt' -o -name '*.antt' ')' -print)
+PREFIX ?= /usr/local
+INTO = $(DESTDIR)$(PREFIX)
+PROGRAM = "$(INTO)/bin/pit"
+MANUAL = "$(INTO)/share/man/man1/pit.1"
+COMPLETIONS = "$(INTO)/share/bash-completion/completions/pit"
+FORMATS = "$(INTO)/share/doc/pit/FORMATS.md"
 
-demo: pit
-	./pit value $(EXAMPLE)/tiny.cpit $(EXAMPLE)/tiny.sol
-	./pit check $(EXAMPLE)/tiny.cpit $(EXAMPLE)/tiny.prec $(EXAMPLE)/tiny.sol
-	./pit plan $(EXAMPLE)/tiny.cpit $(EXAMPLE)/tiny.prec --history demo.history $(EXAMPLE)/first.script $(EXAMPLE)/second.script
-	./pit replay $(EXAMPLE)/tiny.cpit $(EXAMPLE)/tiny.prec demo.history
+SOURCES := crates.txt $(shell find crates -name out -prune -o -name '*_tests' -prune -o -type f '(' -name '*.rt' -o -name '*.antt' ')' -print)
 
-# Only a proved program is built: the command checks every crate below it, and then runs what it built.
-pit: $(SOURCES)
-	cd crates/pit && rt run -- value data/tiny.cpit data/tiny.sol
-	cp crates/pit/out/pit $@
+# What the machine lacks is said at once.
+needs:
+	@scripts/needs.sh
 
-check:
+demo: | needs
+	@scripts/demo.sh
+
+# Only a proved program is built: the crates below it are proved first.
+pit: $(SOURCES) | needs
+	@scripts/build.sh
+
+check: | needs
 	cd crates/$(CRATE) && rt check
 
-test:
-	rt ci
-	tests/cli.sh $(PROVED)
-	tests/no_memory.sh $(PROVED) $(EXAMPLE)
-	tests/replay.sh $(PROVED)
+test: | needs
+	rt ci | scripts/progress.sh
+	cp $(PROVED) pit
+	@echo 'shell tests, 1 of 5: files, streams and words'
+	tests/cli.sh ./pit
+	@echo 'shell tests, 2 of 5: no memory'
+	tests/no_memory.sh ./pit $(EXAMPLE)
+	@echo 'shell tests, 3 of 5: plans and replays'
+	tests/replay.sh ./pit
+	@echo 'shell tests, 4 of 5: programs that have to be refused'
 	tests/misuse.sh
+	@echo 'shell tests, 5 of 5: installing'
+	tests/install.sh
+
+pit.1: pit scripts/help.py
+	scripts/help.py manual ./pit >$@
+
+pit.bash: pit scripts/help.py
+	scripts/help.py completion ./pit >$@
+
+install: pit pit.1 pit.bash
+	install -D -m 755 pit $(PROGRAM)
+	install -D -m 644 pit.1 $(MANUAL)
+	install -D -m 644 pit.bash $(COMPLETIONS)
+	install -D -m 644 docs/FORMATS.md $(FORMATS)
+
+uninstall:
+	rm -f $(PROGRAM) $(MANUAL) $(COMPLETIONS) $(FORMATS)
 
 audit: pit
 	audit/run.sh
 	audit/soak.py ./pit
 
 clean:
-	rm -rf pit demo.history crates/*/out
+	rm -rf pit pit.1 pit.bash demo crates/*/out

@@ -1,0 +1,95 @@
+#!/usr/bin/env bash
+# Installs the built program into a folder, runs it from there, formats its manual page, completes words, and uninstalls it.
+# usage: tests/install.sh, at the top of the repository, with ./pit built. Each case prints a line, `ok` or `FAIL`.
+set -u
+
+work=$(mktemp -d)
+trap 'rm -rf "$work"' EXIT
+failures=0
+
+# judge NAME COMMAND..: the case is well where the command ends with status 0.
+judge() {
+    local name=$1
+    shift
+    if "$@" >"$work/out" 2>&1; then
+        echo "ok    $name"
+    else
+        echo "FAIL  $name"
+        sed 's/^/      /' "$work/out"
+        failures=$((failures + 1))
+    fi
+}
+
+at=$work/root/opt/pit
+judge 'install' make --no-print-directory install DESTDIR="$work/root" PREFIX=/opt/pit
+files() {
+    (cd "$work/root" && find . -type f | sort)
+}
+wanted='./opt/pit/bin/pit
+./opt/pit/share/bash-completion/completions/pit
+./opt/pit/share/doc/pit/FORMATS.md
+./opt/pit/share/man/man1/pit.1'
+judge 'what is installed' diff <(files) <(echo "$wanted")
+
+installed_value() {
+    [ "$("$at/bin/pit" value examples/tiny/tiny.cpit examples/tiny/tiny.sol)" = 37.772727272730000000 ]
+}
+judge 'the program runs from there' installed_value
+
+# The page as a terminal of 80 columns shows it, without a warning.
+page() {
+    if command -v man >/dev/null; then
+        MANWIDTH=80 man --warnings=w -P cat "$at/share/man/man1/pit.1"
+    else
+        groff -man -Tutf8 -ww -P-cbou -rLL=80n "$at/share/man/man1/pit.1"
+    fi
+}
+formats() {
+    page >"$work/page" 2>"$work/warnings" && [ -s "$work/page" ] && diff /dev/null "$work/warnings"
+}
+judge 'the page is formatted without a warning' formats
+has_sections() {
+    for section in NAME SYNOPSIS DESCRIPTION COMMANDS FILES 'EXIT STATUS' EXAMPLES; do
+        grep -qx "$section" "$work/page" || { echo "no section $section"; return 1; }
+    done
+}
+judge 'the page has its sections' has_sections
+# Every word of each help, in its order, but for the heads of its lists.
+has_words() {
+    local words command
+    for command in value check plan replay; do
+        ./pit "$command" --help | grep -oE -- '--[a-z]+|<[A-Z]+>' | sort -u >"$work/words"
+        [ -s "$work/words" ] || return 1
+        while read -r words; do
+            grep -qF -- "$words" "$work/page" || { echo "$command: no $words"; return 1; }
+        done <"$work/words"
+    done
+}
+judge 'the page has each argument and option' has_words
+
+# completes WANTED WORD..: what the last word is completed to, in a folder with the small example.
+completes() {
+    local wanted=$1
+    shift
+    COMP_WORDS=(pit "$@")
+    COMP_CWORD=$#
+    COMPREPLY=()
+    _pit
+    diff <(printf '%s\n' "${COMPREPLY[@]}") <(printf '%s\n' $wanted)
+}
+# shellcheck disable=SC1091
+source "$at/share/bash-completion/completions/pit"
+judge 'completes a subcommand' completes 'plan' pl
+judge 'completes an option' completes '--history' plan tiny.cpit --hi
+cp examples/tiny/tiny.* "$work"
+cd "$work" || exit 2
+judge 'completes a file' completes 'tiny.cpit' value tiny.c
+judge 'completes a file behind an option' completes 'tiny.sol' plan --start tiny.s
+judge 'completes no number' completes '' plan --retries t
+cd "$OLDPWD" || exit 2
+
+judge 'uninstall' make --no-print-directory uninstall DESTDIR="$work/root" PREFIX=/opt/pit
+judge 'nothing is left' diff <(files) /dev/null
+
+[ $failures -eq 0 ] || exit 1
+echo 'install: all fine'
