@@ -29,8 +29,8 @@ prove() {
     # Also where it is stopped: what is kept there is worth minutes.
     trap "[ ! -d '$lane/crates/$crate/out' ] || mv '$lane/crates/$crate/out' 'crates/$crate'" EXIT
     mkdir -p "$lane/crates"
-    cp crates.txt "$lane"
     for it in $(below "$crate") "$crate"; do
+        echo "$it:${uses[$it]}" >>"$lane/crates.txt"
         mkdir "$lane/crates/$it"
         cp -al "crates/$it"/{src,specs,proofs} "$lane/crates/$it"
         if [ "$it" = "$crate" ]; then
@@ -43,7 +43,7 @@ prove() {
     : >"$work/$crate.running"
     jobs=$((cores / $(marks running)))
     (cd "$lane/crates/$crate" && rt lib --jobs $((jobs > 1 ? jobs : 1))) >"$work/$crate.log" 2>&1 || status=$?
-    mv "$lane/crates/$crate/out" "crates/$crate"
+    [ ! -d "$lane/crates/$crate/out" ] || mv "$lane/crates/$crate/out" "crates/$crate"
     rm "$work/$crate.running"
     if [ $status -ne 0 ]; then
         cat "$work/$crate.log" >&2
