@@ -41,8 +41,9 @@ prove() {
         fi
     done
     : >"$work/$crate.running"
-    jobs=$((cores / $(marks running)))
-    (cd "$lane/crates/$crate" && rt lib --jobs $((jobs > 1 ? jobs : 1))) >"$work/$crate.log" 2>&1 || status=$?
+    # A third process in one crate gains nothing.
+    jobs=$((cores >= 2 * $(marks running) ? 2 : 1))
+    (cd "$lane/crates/$crate" && rt lib --jobs $jobs) >"$work/$crate.log" 2>&1 || status=$?
     [ ! -d "$lane/crates/$crate/out" ] || mv "$lane/crates/$crate/out" "crates/$crate"
     rm "$work/$crate.running"
     if [ $status -ne 0 ]; then
@@ -85,7 +86,7 @@ echo "Proves $total crates, $lanes at once, on $cores cores. From nothing it tak
 } >"$work/makefile"
 env -u MAKEFLAGS -u MAKELEVEL make --no-print-directory -j "$lanes" -f "$work/makefile" all
 echo "pit is proved and built, the last of $total crates .."
-(cd crates/pit && rt run -- value data/tiny.cpit data/tiny.sol) >"$work/log" 2>&1 || {
+(cd crates/pit && rt run --jobs $((cores > 1 ? 2 : 1)) -- value data/tiny.cpit data/tiny.sol) >"$work/log" 2>&1 || {
     status=$?
     cat "$work/log" >&2
     exit $status
