@@ -2,12 +2,12 @@
 use Rattle.std.proofs.Common.{◌<◌, ◌≤◌, ◌++◌, ◌∷◌, [], ℕ, List, Option, Some, All, IfSome, refl, arith}
 use Rattle.std.proofs.lemmas.List.Elements.{All-pop, All-push, All-weaker}
 use Rattle.std.proofs.lemmas.Option.{IfSome_then}
-use Rattle.pit_num.specs.Fitting.{Fits}
+use Rattle.pit_model.specs.Fitting.{Fits}
 use Rattle.pit_num.specs.declared.limits.TheConstants.{PERIODS_MAX}
 use Rattle.pit_model.specs.Pit.{Pit}
 use Rattle.pit_plan.specs.Schedule.{Commit}
 use Rattle.pit_plan.specs.Breaches.{AreGood}
-use Rattle.pit_book.proofs.CallerLemmas.{good-one}
+use Rattle.pit_desk.proofs.CallerLemmas.{good-one}
 use Rattle.pit_board.specs.Fronts.{AreLawful}
 
 pub AreLawful-push : (pit : Pit) (commits : List Commit) (w : Commit) → AreLawful pit commits → AreGood pit (commits ++ w ∷ []) → Fits pit.blocks pit.periods w.writes

@@ -1,9 +1,9 @@
 -- What is so of each beginning of the list of commits.
 use Rattle.std.specs.Prelude.{List, All}
-use Rattle.pit_num.specs.Fitting.{Fits}
+use Rattle.pit_model.specs.Fitting.{Fits}
 use Rattle.pit_model.specs.Pit.{Pit}
 use Rattle.pit_plan.specs.Schedule.{Commit}
-use Rattle.pit_book.specs.Legal.{EachIsGood}
+use Rattle.pit_desk.specs.Legal.{EachIsGood}
 
 -- what each front of the commits leaves is good under the limits then in force, and the writes of each fit the pit
 pub record AreLawful (pit : Pit) (commits : List Commit) : Type 0 where

@@ -1,8 +1,8 @@
 //! What a commit changes.
 ghost use Rattle.std.specs.Prelude.{◌≡◌, IfOk};
-ghost use Rattle.pit_num.specs.Fitting.{revisions_of};
+ghost use Rattle.pit_model.specs.Fitting.{revisions_of};
 
-use pit_book::{Pairs, Revisions};
+use pit_desk::{Pairs, Revisions};
 use pit_num::NoMemory;
 use std::alloc::Allocator;
 use std::marker::Model;

@@ -1,6 +1,6 @@
 //! A commit that is to be published.
 ghost use Rattle.std.specs.Prelude.{◌≡◌, IfOk};
-ghost use Rattle.pit_num.specs.Fitting.{revisions_of};
+ghost use Rattle.pit_model.specs.Fitting.{revisions_of};
 
 use crate::changes::Changes;
 use crate::session::Session;

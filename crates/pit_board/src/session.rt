@@ -2,7 +2,7 @@
 ghost use Rattle.std.specs.Prelude.{ℕ, List, []};
 ghost use Rattle.logbook.specs.Pages.{Book};
 ghost use Rattle.pit_model.specs.Pit.{Pit};
-ghost use Rattle.pit_book.specs.History.{Answered};
+ghost use Rattle.pit_desk.specs.History.{Answered};
 
 use std::marker::Brand;
 use std::sync::ledger::Ledger;

@@ -7,7 +7,7 @@ use Rattle.pit_text.specs.Stands.{StandsFor, StopsAt, FailsFirst, StandsWhole, F
 use Rattle.pit_text.specs.Model.{model_line, model_end, pit_of, ModelStops}
 use Rattle.pit_text.specs.Precedence.{precedence_line, pit_with_preds}
 use Rattle.pit_text.specs.Blocks.{block_line, pit_with_places}
-use Rattle.pit_num.specs.Fitting.{IsSchedule}
+use Rattle.pit_model.specs.Fitting.{IsSchedule}
 use Rattle.pit_text.specs.Solution.{solution_line, period_in, schedule_of, SolutionStops}
 use Rattle.pit_cli.specs.declared.input.Input.{Input}
 use Rattle.pit_cli.specs.declared.input.Input.TheVariants.{Model, Precedence, Blocks, Start, Solution, Script, History}

@@ -1,3 +1,4 @@
+pub mod Agreeing
 pub mod Stepping
 pub mod Trying
 pub mod Retries

@@ -6,10 +6,10 @@ use Rattle.std.proofs.Common.{◌≡◌, ℕ, ◌+◌, ◌<◌, ◌≤◌, true,
 use Rattle.std.specs.Prelude.{Result, Ok, Err}
 use Rattle.pit_job.proofs.Trying.{repeats-none}
 use Rattle.pit_model.specs.Pit.{Pit}
-use Rattle.pit_book.specs.History.{Answered}
-use Rattle.pit_book.specs.declared.reply.EntryReply.{EntryReply}
-use Rattle.pit_book.specs.declared.reply.EntryReply.TheVariants as reply
-use Rattle.pit_book.specs.declared.reply.Refusal.TheVariants as refusal
+use Rattle.pit_desk.specs.History.{Answered}
+use Rattle.pit_desk.specs.declared.reply.EntryReply.{EntryReply}
+use Rattle.pit_desk.specs.declared.reply.EntryReply.TheVariants as reply
+use Rattle.pit_desk.specs.declared.reply.Refusal.TheVariants as refusal
 use Rattle.pit_job.specs.declared.outcome.JobStop.{JobStop}
 use Rattle.pit_job.specs.declared.outcome.JobStop.TheVariants as stop
 use Rattle.pit_share.specs.Planners.{PlannerState}

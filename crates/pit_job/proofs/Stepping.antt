@@ -6,7 +6,7 @@ use Rattle.std.proofs.Common.{inl, inr, ◌≡◌, ℕ, ℤ, nat_eq, ◌+◌, �
 use Rattle.std.specs.Prelude.{is_some, if◌then◌else◌, Result, Ok}
 use Rattle.pit_model.specs.Pit.{Pit}
 use Rattle.pit_plan.specs.Schedule.{Commit}
-use Rattle.pit_num.specs.Fitting.{pair_eq}
+use Rattle.pit_model.specs.Fitting.{pair_eq}
 use Rattle.pit_keyed.specs.Keyed.{at_key, with_write}
 use Rattle.pit_tx.specs.Sets.{Sets, known_of}
 use Rattle.pit_share.specs.Planners.{PlannerState, TransactionState, SeesOn}
@@ -15,9 +15,9 @@ use Rattle.pit_share.specs.declared.error.ReadStop.{ReadStop}
 use Rattle.pit_script.specs.Benches.{bench_of}
 use Rattle.pit_script.specs.declared.step.Step.{Step}
 use Rattle.pit_script.specs.declared.step.Step.TheVariants as step
-use Rattle.pit_effect.specs.Effect.{Agrees, Known, Effect, changes, read_in, seen, looked, moved_by, put_at, with_written, with_revised, with_bench, step_after, next, steps_after}
-use Rattle.pit_effect.specs.Shifts.{shifted}
-use Rattle.pit_effect.proofs.CallerLemmas.{seen-agrees}
+use Rattle.pit_job.specs.Effect.{Agrees, Known, Effect, changes, read_in, seen, looked, moved_by, put_at, with_written, with_revised, with_bench, step_after, next, steps_after}
+use Rattle.pit_job.specs.Shifts.{shifted}
+use Rattle.pit_job.proofs.Agreeing.{seen-agrees}
 use Rattle.pit_job.specs.Inside.Doing.{own_of, SameLog, Same, LooksUp, Puts, DoesStep, DoesSteps}
 
 -- ---- reads

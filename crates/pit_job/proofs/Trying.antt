@@ -4,21 +4,21 @@ use Rattle.std.proofs.Common.{◌≡◌, ℕ, Bool, true, false, List, [], ◌�
 use Rattle.pit_model.specs.Pit.{Pit}
 use Rattle.pit_plan.specs.Schedule.{Commit}
 use Rattle.pit_tx.specs.Sets.{Sets}
-use Rattle.pit_book.specs.History.{Call, Answered}
-use Rattle.pit_book.specs.Calls.{work_call, entry_reply}
-use Rattle.pit_book.specs.declared.entry.Act.{Act}
-use Rattle.pit_book.specs.declared.entry.Act.TheVariants as act
-use Rattle.pit_book.specs.declared.reply.Refusal.TheVariants as refusal
-use Rattle.pit_book.specs.declared.reply.EntryReply.{EntryReply}
-use Rattle.pit_book.specs.declared.reply.EntryReply.TheVariants as reply
-use Rattle.pit_book.specs.declared.reply.Reply.{Reply}
-use Rattle.pit_book.specs.declared.reply.Reply.TheVariants as answered
+use Rattle.pit_desk.specs.History.{Call, Answered}
+use Rattle.pit_desk.specs.Calls.{work_call, entry_reply}
+use Rattle.pit_desk.specs.declared.entry.Act.{Act}
+use Rattle.pit_desk.specs.declared.entry.Act.TheVariants as act
+use Rattle.pit_desk.specs.declared.reply.Refusal.TheVariants as refusal
+use Rattle.pit_desk.specs.declared.reply.EntryReply.{EntryReply}
+use Rattle.pit_desk.specs.declared.reply.EntryReply.TheVariants as reply
+use Rattle.pit_desk.specs.declared.reply.Reply.{Reply}
+use Rattle.pit_desk.specs.declared.reply.Reply.TheVariants as answered
 use Rattle.pit_script.specs.Jobs.{Job}
 use Rattle.pit_script.specs.declared.step.JobEnd.{JobEnd}
 use Rattle.pit_script.specs.declared.step.JobEnd.TheVariants as ending
 use Rattle.pit_share.specs.Endings.{IsEnded}
 use Rattle.pit_share.specs.Planners.{PlannerState, TransactionState, Begins}
-use Rattle.pit_effect.specs.Effect.{nothing, no_change, read_in, effect, ended, steps_after, HasEffect}
+use Rattle.pit_job.specs.Effect.{nothing, no_change, read_in, effect, ended, steps_after, HasEffect}
 use Rattle.pit_job.specs.declared.outcome.JobStop.{JobStop}
 use Rattle.pit_job.specs.declared.outcome.Tried.{Tried}
 use Rattle.pit_job.specs.declared.outcome.Tried.TheVariants as tried

@@ -1,9 +1,9 @@
 -- What runs come to, job by job.
 use Rattle.std.specs.Prelude.{◌≡◌, ℕ, ◌+◌, ◌<◌, ◌==◌, List, Option, slice_get, Some, filter, length}
 use Rattle.pit_model.specs.Pit.{Pit}
-use Rattle.pit_book.specs.History.{Answered, commit_of}
+use Rattle.pit_desk.specs.History.{Answered, commit_of}
 use Rattle.pit_script.specs.Jobs.{Job}
-use Rattle.pit_effect.specs.Effect.{HasEffect, effect, changes, whole}
+use Rattle.pit_job.specs.Effect.{HasEffect, effect, changes, whole}
 use Rattle.pit_job.specs.declared.outcome.Outcome.{Outcome}
 use Rattle.pit_job.specs.declared.outcome.RunEnd.{RunEnd}
 use Rattle.pit_job.specs.declared.outcome.RunEnd.TheVariants as end

@@ -1,3 +1,5 @@
+pub mod Shifts
+pub mod Effect
 pub mod Outcomes
 pub mod Runs
 pub mod Laws

@@ -1,14 +1,14 @@
 -- What becomes of jobs.
 use Rattle.std.specs.Prelude.{◌≡◌, ℕ, ◌≤◌, Bool, true, false, List, ◌++◌, length, All}
 use Rattle.pit_model.specs.Pit.{Pit}
-use Rattle.pit_book.specs.History.{Answered}
-use Rattle.pit_book.specs.declared.reply.Refusal.{Refusal}
-use Rattle.pit_book.specs.declared.reply.Refusal.TheVariants as refusal
-use Rattle.pit_book.specs.declared.reply.EntryReply.{EntryReply}
-use Rattle.pit_book.specs.declared.reply.EntryReply.TheVariants as reply
+use Rattle.pit_desk.specs.History.{Answered}
+use Rattle.pit_desk.specs.declared.reply.Refusal.{Refusal}
+use Rattle.pit_desk.specs.declared.reply.Refusal.TheVariants as refusal
+use Rattle.pit_desk.specs.declared.reply.EntryReply.{EntryReply}
+use Rattle.pit_desk.specs.declared.reply.EntryReply.TheVariants as reply
 use Rattle.pit_share.specs.Planners.{PlannerState}
 use Rattle.pit_script.specs.Jobs.{Job}
-use Rattle.pit_effect.specs.Effect.{HasEffect}
+use Rattle.pit_job.specs.Effect.{HasEffect}
 
 -- a block that the call read was moved
 abbrev pub is_moved_refusal : Refusal → Bool

@@ -1,9 +1,9 @@
 -- What becomes of a planner's script.
 use Rattle.std.specs.Prelude.{◌≡◌, ℕ, ◌+◌, ◌≤◌, ◌⊎◌, true, false, List, [], ◌∷◌, ◌++◌}
 use Rattle.pit_model.specs.Pit.{Pit}
-use Rattle.pit_book.specs.History.{Answered}
-use Rattle.pit_book.specs.declared.reply.EntryReply.{EntryReply}
-use Rattle.pit_book.specs.declared.reply.EntryReply.TheVariants as reply
+use Rattle.pit_desk.specs.History.{Answered}
+use Rattle.pit_desk.specs.declared.reply.EntryReply.{EntryReply}
+use Rattle.pit_desk.specs.declared.reply.EntryReply.TheVariants as reply
 use Rattle.pit_script.specs.Jobs.{Job}
 use Rattle.pit_job.specs.declared.outcome.Outcome.{Outcome}
 use Rattle.pit_job.specs.declared.outcome.Outcome.TheVariants as outcome

@@ -1,7 +1,7 @@
 //! One try of a job.
 ghost use Rattle.std.specs.Prelude.{◌≡◌, List, All};
-ghost use Rattle.pit_book.specs.History.{Answered};
-ghost use Rattle.pit_book.specs.declared.entry.Act.TheVariants.{Commit as commit_act, Withdraw as withdraw_act};
+ghost use Rattle.pit_desk.specs.History.{Answered};
+ghost use Rattle.pit_desk.specs.declared.entry.Act.TheVariants.{Commit as commit_act, Withdraw as withdraw_act};
 ghost use Rattle.pit_script.specs.Benches.{AreBenchesOf};
 ghost use Rattle.pit_script.specs.Ranges.{IsStepIn};
 ghost use Rattle.pit_job.specs.Inside.Doing.{IsFresh};
@@ -12,7 +12,7 @@ use crate::doing::{StepStop, do_steps};
 use crate::gate::Gate;
 use crate::outcome::{JobStop, Tried};
 use pit_board::Session;
-use pit_book::{EntryReply, Refusal, Reply, Stop};
+use pit_desk::{EntryReply, Refusal, Reply, Stop};
 use pit_script::{Benches, JobEnd, Step};
 use pit_share::{Planner, Transaction};
 use std::alloc::Allocator;

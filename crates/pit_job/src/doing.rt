@@ -4,8 +4,8 @@ ghost use Rattle.pit_script.specs.Benches.{AreBenchesOf};
 ghost use Rattle.pit_script.specs.Ranges.{IsStepIn};
 ghost use Rattle.pit_job.specs.Inside.Doing.{SameLog, LooksUp, Puts, DoesStep, DoesSteps};
 
+use crate::shift::shifted;
 use pit_board::Session;
-use pit_effect::shifted;
 use pit_script::{Benches, Step};
 use pit_share::{ReadStop, Transaction};
 use std::alloc::Allocator;

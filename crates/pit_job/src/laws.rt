@@ -1,12 +1,30 @@
-//! Laws of runs, each as the contract of a function that does nothing.
-ghost use Rattle.std.specs.Prelude.{◌≡◌, ℕ, ◌+◌, List, slice_get, Some, All};
+//! Laws of effects and of runs, each as the contract of a function that does nothing.
+ghost use Rattle.std.specs.Prelude.{◌≡◌, ◌≢◌, ℕ, ◌+◌, ℤ, List, slice_get, Some, All};
 ghost use Rattle.pit_model.specs.Pit.{Pit};
-ghost use Rattle.pit_book.specs.History.{Answered};
+ghost use Rattle.pit_desk.specs.History.{Answered, commit_of};
+ghost use Rattle.pit_desk.specs.OneThread.{IsOfOneThread, held_period_after};
+ghost use Rattle.pit_desk.specs.declared.reply.EntryReply.TheVariants.{Committed as committed};
 ghost use Rattle.pit_script.specs.Jobs.{Job};
 ghost use Rattle.pit_job.specs.declared.outcome.Outcome.{Outcome};
 ghost use Rattle.pit_job.specs.declared.outcome.RunEnd.{RunEnd};
+ghost use Rattle.pit_job.specs.Effect.{Known, Agrees, Effect, effect, changes, unread, whole, HasEffect};
 ghost use Rattle.pit_job.specs.Runs.{RanFrom, Ran};
 ghost use Rattle.pit_job.specs.Laws.{of_job, HasOwnEffect, EndsAfter};
+
+/// A law of effects: where the effect over what was read isn't unread, whatever agrees with it has the same.
+pub fn one_effect()
+    ensures { (pit : Pit) (job : Job) (known more : Known)
+        → Agrees known more → effect pit job known ≢ unread → effect pit job more ≡ effect pit job known }
+{}
+
+/// A law of histories of one thread: a committed entry that has its job's effect over its reads made the changes that the job makes to the
+/// schedule after the entries before it.
+pub fn one_by_one()
+    ensures { (pit : Pit) (history : List Answered) (value : ℤ) → IsOfOneThread pit history value
+        → (k number : ℕ) (e : Answered) (job : Job) → slice_get history k ≡ Some e → e.reply ≡ committed number
+        → HasEffect pit job e.call
+        → effect pit job (whole (held_period_after history k)) ≡ changes (commit_of e.call) }
+{}
 
 /// A law of runs: each job's entries are settled by its outcome, each entry has its own job's effect, and the end says how many jobs have
 /// an outcome.

@@ -1,7 +1,7 @@
 ghost use Rattle.std.specs.Prelude.{◌≡◌};
 ghost use Rattle.pit_job.specs.Inside.Outcomes.{outcome_of as outcome_by};
 
-use pit_book::{EntryReply, Refusal};
+use pit_desk::{EntryReply, Refusal};
 
 /// What ends a planner's run before its last job.
 #[derive(Clone, Copy, Debug, PartialEq, Eq)]

@@ -1,6 +1,6 @@
 //! A planner's jobs, one after the other.
 ghost use Rattle.std.specs.Prelude.{◌≡◌, ◌<◌, ◌≤◌, ◌++◌, ◌∷◌, [], List, length, All, vec_len, vec_capacity};
-ghost use Rattle.pit_book.specs.History.{Answered};
+ghost use Rattle.pit_desk.specs.History.{Answered};
 ghost use Rattle.pit_script.specs.Benches.{AreBenchesOf};
 ghost use Rattle.pit_script.specs.Ranges.{IsStepIn, AreJobsIn};
 ghost use Rattle.pit_job.specs.Outcomes.{Grows};
@@ -12,7 +12,7 @@ use crate::attempt::attempt;
 use crate::gate::Gate;
 use crate::outcome::{JobStop, Outcome, RunEnd, Tried, outcome_of};
 use pit_board::Session;
-use pit_book::Refusal;
+use pit_desk::Refusal;
 use pit_script::{Benches, JobEnd, Script, Step};
 use pit_share::Planner;
 use std::alloc::Allocator;

@@ -16,4 +16,6 @@ pub mod Ends
 pub mod Tightest
 pub mod Cells
 pub mod Limits
+pub mod Fitting
+pub mod Triples
 pub mod CallerLemmas

@@ -1,4 +1,5 @@
 pub mod Pit
+pub mod Fitting
 pub mod Refusals
 pub mod Tightest
 pub mod Inside

@@ -1,11 +1,9 @@
--- For the crates above: what they cite of numbers, devices and what fits, and the least of what passes a test.
+-- For the crates above: what they cite of numbers and devices, and the least of what passes a test.
 use Rattle.std.proofs.Common.{◌≡◌, ℕ, zero, suc, ◌+◌, ◌<◌, ◌⊎◌, Option, Some, None, refl, sym, ap, subst, ◌∙◌, arith, inl, inr}
 use Rattle.std.proofs.lemmas.Bool.{cases_order}
 use Rattle.std.proofs.lemmas.Bool.Decides.{eqb_tells}
 use Rattle.pit_num.specs.Least.{ComesBefore, IsLeastOf, IsLeast}
 pub use Rattle.pit_num.proofs.Factors.{factor_le}
-pub use Rattle.pit_num.proofs.Fitting.{writes_of-fits, AreKeyed-nil, Decides-pair_eq}
-pub use Rattle.pit_num.proofs.Triples.{Triple, pairs-of, once-of, fit-of}
 pub use Rattle.pit_num.proofs.Written.{appends_nothing, appends_more, front_more, front_after, failed_early_if_any, map_err, map_ok}
 
 -- ---- the least is one

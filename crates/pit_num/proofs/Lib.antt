@@ -7,6 +7,4 @@ pub mod Written
 pub mod Leading
 pub mod Plain
 pub mod Wholes
-pub mod Fitting
-pub mod Triples
 pub mod CallerLemmas

@@ -5,6 +5,5 @@ pub mod Lines
 pub mod Printed
 pub mod Least
 pub mod Refused
-pub mod Fitting
 pub mod Bits
 pub mod Inside

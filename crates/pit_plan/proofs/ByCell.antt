@@ -8,8 +8,8 @@ use Rattle.std.proofs.lemmas.Bool.Decides.{eqb_tells}
 use Rattle.std.proofs.lemmas.Nat.{mul-add-lt}
 use Rattle.std.proofs.lemmas.List.{get_or-map, length-map}
 use Rattle.std.proofs.lemmas.List.Elements.{recursion_from_All}
-use Rattle.pit_num.specs.Fitting.{RevisionsFit, pair_eq, revisions_of}
-use Rattle.pit_num.proofs.CallerLemmas.{Decides-pair_eq}
+use Rattle.pit_model.specs.Fitting.{RevisionsFit, pair_eq, revisions_of}
+use Rattle.pit_model.proofs.CallerLemmas.{Decides-pair_eq}
 use Rattle.pit_model.specs.Pit.{Pit, cell_of}
 use Rattle.pit_model.proofs.CallerLemmas.{cells_apart, same_resource}
 use Rattle.pit_plan.specs.Schedule.{Revisions}

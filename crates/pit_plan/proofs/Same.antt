@@ -3,7 +3,7 @@ use Rattle.std.proofs.Common.{◌≡◌, ◌≢◌, ℕ, ◌<◌, cond, refl, �
 use Rattle.std.specs.Prelude.{unwrap_or}
 use Rattle.pit_num.specs.Least.{ComesBefore}
 use Rattle.pit_num.proofs.CallerLemmas.{least-same}
-use Rattle.pit_num.specs.Fitting.{RevisionsFit}
+use Rattle.pit_model.specs.Fitting.{RevisionsFit}
 use Rattle.pit_model.specs.Pit.{Pit, IsSound, lower_of}
 use Rattle.pit_plan.proofs.Sums.{total-same}
 use Rattle.pit_plan.specs.Schedule.{Commit, IsPred, by_block, coef_of, write_of, revision_of, held_period, limit_of, is_in, share, load_of, value_of, earned_in, in_order, is_within}

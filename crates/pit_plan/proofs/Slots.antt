@@ -7,7 +7,7 @@ use Rattle.std.proofs.lemmas.List.{take_more, get_or-set_same, get_or-set_other,
 use Rattle.std.proofs.lemmas.List.Sums.{fold_push}
 use Rattle.std.proofs.lemmas.List.Elements.{recursion_from_All}
 use Rattle.std.proofs.lemmas.Bool.Decides.{eqb_tells}
-use Rattle.pit_num.specs.Fitting.{Fits, RevisionsFit}
+use Rattle.pit_model.specs.Fitting.{Fits, RevisionsFit}
 use Rattle.pit_model.specs.Pit.{Pit, cell_of, upper_of}
 use Rattle.pit_plan.specs.Schedule.{Commit, write_of, revision_of, held_period, last_number, limit_of}
 use Rattle.pit_plan.specs.Standing.{Standing, IsPlanOf, Adds}

@@ -3,7 +3,7 @@ use Rattle.std.proofs.Common.{◌≡◌, ℕ, zero, suc, ◌+◌, ◌<◌, ◌�
 use Rattle.std.specs.Prelude.{is_some, unwrap_or, if◌then◌else◌, nat_eq, fold, All, IfSome}
 use Rattle.std.proofs.lemmas.List.Elements.{All-head, All-tail}
 use Rattle.std.proofs.lemmas.Map.Entries.{All-lookup}
-use Rattle.pit_num.specs.Fitting.{Fits}
+use Rattle.pit_model.specs.Fitting.{Fits}
 use Rattle.pit_plan.specs.Schedule.{Commit, write_of, held_period, last_number, last_number_after}
 
 -- what it holds after the commits where it held this before

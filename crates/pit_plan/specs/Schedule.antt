@@ -1,7 +1,7 @@
 -- Schedules: what a list of commits leaves, and what that loads and earns; and the limits that are then in force.
 use Rattle.std.specs.Prelude.{ℕ, ◌+◌, ℤ, pos, ◌*ℤ◌, Bool, true, false, nat_eq, nat_le, int_le, List, [], ◌∷◌, fold, Option, Some, None, unwrap_or, is_some, slice_index_or, if◌then◌else◌, Contains}
 use Rattle.std.specs.Map.{lookup}
-use Rattle.pit_num.specs.Fitting.{pair_eq, writes_of}
+use Rattle.pit_model.specs.Fitting.{pair_eq, writes_of}
 use Rattle.pit_model.specs.Pit.{Pit, profit_of, factor_of, coefs_of, preds_of, upper_of}
 use Rattle.pit_plan.specs.Sums.{total}
 

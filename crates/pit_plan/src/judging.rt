@@ -1,6 +1,6 @@
 //! The first breach that a schedule would have after writes and revisions, found where these touch it.
 ghost use Rattle.std.specs.Prelude.{◌≡◌, ◌≢◌, ℕ, ◌+◌, ◌*◌, ◌<◌, ◌⊎◌, None, pos, [], length, slice_index_or, IfNone, IfOk, IfErr, IfSome, All};
-ghost use Rattle.pit_num.specs.Fitting.{Fits, RevisionsFit, revisions_of};
+ghost use Rattle.pit_model.specs.Fitting.{Fits, RevisionsFit, revisions_of};
 ghost use Rattle.pit_num.specs.Least.{ComesBefore, IsLeast};
 ghost use Rattle.pit_model.specs.Pit.{cell_of};
 ghost use Rattle.pit_plan.specs.Schedule.{by_block};

@@ -1,6 +1,6 @@
 //! The upper limits that are in force.
 ghost use Rattle.std.specs.Prelude.{◌≡◌, ℕ, ℤ, ◌*◌, ◌<◌, length, Option, IfOk};
-ghost use Rattle.pit_num.specs.Fitting.{RevisionsFit, revisions_of};
+ghost use Rattle.pit_model.specs.Fitting.{RevisionsFit, revisions_of};
 ghost use Rattle.pit_model.specs.Pit.{upper_of};
 ghost use Rattle.pit_plan.specs.Inside.Plan.{with_writes};
 ghost use Rattle.pit_plan.specs.Limits.{cell_limit, at_cell};

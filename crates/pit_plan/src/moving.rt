@@ -1,6 +1,6 @@
 //! Loads as writes leave them.
 ghost use Rattle.std.specs.Prelude.{◌≡◌, ◌≢◌, ℕ, ◌+◌, ◌*◌, ◌<◌, true, None, [], length, take, IfOk, IfErr, OnOk};
-ghost use Rattle.pit_num.specs.Fitting.{Fits, RevisionsFit, revisions_of};
+ghost use Rattle.pit_model.specs.Fitting.{Fits, RevisionsFit, revisions_of};
 ghost use Rattle.pit_plan.specs.Inside.Totals.{cell_load, IsTally};
 ghost use Rattle.pit_plan.specs.Inside.Limits.{by_cell};
 ghost use Rattle.pit_plan.specs.Inside.Touched.{overlaid_item, IsNamed, AreMoved, SetsCell, LooksAt};

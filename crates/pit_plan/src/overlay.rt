@@ -1,7 +1,7 @@
 //! Periods and limits, over which writes and revisions are laid.
 ghost use Rattle.std.specs.Prelude.{◌≡◌, ◌≢◌, ◌+◌, ◌*◌, ◌<◌, None, [], ◌∷◌, length, nat_eq, slice_index_or, IfOk, IfErr, AllPairs};
 ghost use Rattle.std.specs.Map.{lookup};
-ghost use Rattle.pit_num.specs.Fitting.{RevisionsFit, revisions_of};
+ghost use Rattle.pit_model.specs.Fitting.{RevisionsFit, revisions_of};
 ghost use Rattle.pit_plan.specs.Schedule.{by_block};
 ghost use Rattle.pit_plan.specs.Limits.{cell_limit};
 ghost use Rattle.pit_plan.specs.Inside.Limits.{by_cell};

@@ -1,5 +1,5 @@
 ghost use Rattle.std.specs.Prelude.{◌≡◌, ◌≢◌, ℕ, ◌*◌, ◌<◌, ◌⊎◌, ◌++◌, ◌∷◌, [], List, IfOk, IfErr, IfSome, OnOk, OnErr, IsOk, length, replicate, All};
-ghost use Rattle.pit_num.specs.Fitting.{Fits, RevisionsFit, revisions_of};
+ghost use Rattle.pit_model.specs.Fitting.{Fits, RevisionsFit, revisions_of};
 ghost use Rattle.pit_model.specs.Pit.{upper_of};
 ghost use Rattle.pit_plan.specs.Schedule.{Commit, held_period, load_of, value_of};
 ghost use Rattle.pit_plan.specs.Standing.{IsPlanOf, period_of, version_of, limit_in_force, Adds};

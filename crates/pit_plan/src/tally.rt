@@ -1,7 +1,7 @@
 //! A schedule with its loads and its value, which are moved by differences.
 ghost use Rattle.std.specs.Prelude.{◌≡◌, ℕ, ◌*◌, ◌<◌, ◌+ℤ◌, ◌-ℤ◌, false, None, length, replicate, slice_index_or, slice_set, pos, FitsSigned, IfOk, IfSome};
 ghost use Rattle.std.specs.Int.{w128};
-ghost use Rattle.pit_num.specs.Fitting.{Fits};
+ghost use Rattle.pit_model.specs.Fitting.{Fits};
 ghost use Rattle.pit_plan.specs.Schedule.{by_block, coef_of};
 ghost use Rattle.pit_plan.specs.Inside.Plan.{with_writes};
 ghost use Rattle.pit_plan.specs.Inside.Totals.{cell_load, MovesIn, signed_coef, IsTally};

@@ -1,10 +1,10 @@
 -- What was written of a run is told of one history.
 use Rattle.std.proofs.Common.{◌≡◌, ℕ, List, Option, Result, Ok, Err, sym, subst}
 use Rattle.pit_model.specs.Pit.{Pit}
-use Rattle.pit_book.specs.History.{Answered}
-use Rattle.pit_book.specs.Opened.{IsGoodStart, opening_history}
-use Rattle.pit_book.specs.State.{State}
-use Rattle.pit_book.specs.declared.entry.TheConstants.{ENTRIES_MAX}
+use Rattle.pit_desk.specs.History.{Answered}
+use Rattle.pit_desk.specs.Opened.{IsGoodStart, opening_history}
+use Rattle.pit_desk.specs.State.{State}
+use Rattle.pit_desk.specs.declared.entry.TheConstants.{ENTRIES_MAX}
 use Rattle.pit_run.specs.Reports.{RunState, IsReport}
 use Rattle.pit_run.proofs.CallerLemmas.{each-planner, of-one-thread, one-by-one}
 use Rattle.pit_cli.specs.Devices.{Writing}

@@ -4,8 +4,8 @@ use Rattle.pit_plan.specs.Schedule.{Commit, by_block, held_period}
 use Rattle.pit_plan.specs.Standing.{Standing, IsPlanOf}
 use Rattle.pit_text.specs.Solution.{schedule_of}
 use Rattle.pit_text.specs.SolutionText.{solution_text}
-use Rattle.pit_book.specs.History.{commits_of}
-use Rattle.pit_book.specs.State.{State, IsDeskKept}
+use Rattle.pit_desk.specs.History.{commits_of}
+use Rattle.pit_desk.specs.State.{State, IsDeskKept}
 use Rattle.pit_cli.specs.Devices.{Writing, writing_of}
 use Rattle.pit_cli.proofs.CallerLemmas.{keeps_itself}
 use Rattle.pit_cli.specs.declared.status.Status.{Status}

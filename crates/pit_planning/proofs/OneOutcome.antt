@@ -6,8 +6,8 @@ use Rattle.std.specs.Io.KnownBytes.{Appends, Keeps}
 use Rattle.pit_model.specs.Pit.{Pit}
 use Rattle.pit_plan.specs.Schedule.{Commit, held_period, value_of}
 use Rattle.pit_plan.specs.Shortfalls.{shortfalls_of}
-use Rattle.pit_book.specs.History.{commits_of}
-use Rattle.pit_book.specs.State.{State}
+use Rattle.pit_desk.specs.History.{commits_of}
+use Rattle.pit_desk.specs.State.{State}
 use Rattle.pit_report.specs.ReportText.{runs_text}
 use Rattle.pit_run.specs.Reports.{RunState}
 use Rattle.pit_cli.specs.CheckText.{value_text, shorts_text}

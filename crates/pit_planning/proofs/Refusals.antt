@@ -3,10 +3,10 @@ use Rattle.std.proofs.Common.{◌≡◌, ◌≢◌, ◌⊎◌, inl, inr, ℕ, �
 use Rattle.std.proofs.lemmas.Bool.Decides.{leb_tells}
 use Rattle.pit_model.specs.Pit.{Pit}
 use Rattle.pit_plan.specs.declared.breach.Breach.TheVariants.{Precedence, Over}
-use Rattle.pit_book.specs.Opened.{IsGoodStart, IsDeskError, opening_history}
-use Rattle.pit_book.specs.declared.entry.TheConstants.{ENTRIES_MAX}
-use Rattle.pit_book.specs.declared.error.DeskError.{DeskError}
-use Rattle.pit_book.specs.declared.error.DeskError.TheVariants as desk
+use Rattle.pit_desk.specs.Opened.{IsGoodStart, IsDeskError, opening_history}
+use Rattle.pit_desk.specs.declared.entry.TheConstants.{ENTRIES_MAX}
+use Rattle.pit_desk.specs.declared.error.DeskError.{DeskError}
+use Rattle.pit_desk.specs.declared.error.DeskError.TheVariants as desk
 use Rattle.pit_cli.specs.declared.fault.CliFault.TheVariants as cli
 use Rattle.pit_script.specs.Jobs.{Job}
 use Rattle.pit_share.specs.Opening.{IsPlannerCount}

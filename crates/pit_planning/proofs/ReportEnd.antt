@@ -8,8 +8,8 @@ use Rattle.pit_model.specs.Pit.{Pit}
 use Rattle.pit_plan.specs.Schedule.{Commit, held_period, value_of}
 use Rattle.pit_plan.specs.Shortfalls.{shortfalls_of}
 use Rattle.pit_plan.specs.declared.short.Short.{Short}
-use Rattle.pit_book.specs.declared.reply.Refusal.{Refusal}
-use Rattle.pit_book.specs.declared.reply.Refusal.TheVariants as refusal
+use Rattle.pit_desk.specs.declared.reply.Refusal.{Refusal}
+use Rattle.pit_desk.specs.declared.reply.Refusal.TheVariants as refusal
 use Rattle.pit_job.specs.declared.outcome.Outcome.{Outcome}
 use Rattle.pit_job.specs.declared.outcome.Outcome.TheVariants as outcome
 use Rattle.pit_job.specs.declared.outcome.RunEnd.{RunEnd}

@@ -4,11 +4,11 @@ use Rattle.std.specs.Io.KnownBytes.{Appends, Keeps}
 use Rattle.pit_model.specs.Pit.{Pit}
 use Rattle.pit_plan.specs.Schedule.{held_period, value_of}
 use Rattle.pit_plan.specs.Shortfalls.{shortfalls_of}
-use Rattle.pit_book.specs.History.{commits_of}
-use Rattle.pit_book.specs.OneThread.{IsOfOneThread}
-use Rattle.pit_book.specs.Opened.{IsGoodStart, opening_history}
-use Rattle.pit_book.specs.State.{State}
-use Rattle.pit_book.specs.declared.entry.TheConstants.{ENTRIES_MAX}
+use Rattle.pit_desk.specs.History.{commits_of}
+use Rattle.pit_desk.specs.OneThread.{IsOfOneThread}
+use Rattle.pit_desk.specs.Opened.{IsGoodStart, opening_history}
+use Rattle.pit_desk.specs.State.{State}
+use Rattle.pit_desk.specs.declared.entry.TheConstants.{ENTRIES_MAX}
 use Rattle.pit_script.specs.Jobs.{Job}
 use Rattle.pit_share.specs.Opening.{IsPlannerCount}
 use Rattle.pit_share.specs.Logs.{entries_of}

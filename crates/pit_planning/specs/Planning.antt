@@ -2,12 +2,12 @@
 use Rattle.std.specs.Prelude.{◌≡◌, ℕ, List, length}
 use Rattle.pit_model.specs.Pit.{Pit}
 use Rattle.pit_plan.specs.declared.breach.Breach.TheVariants.{Precedence, Over}
-use Rattle.pit_book.specs.History.{Answered}
-use Rattle.pit_book.specs.Opened.{IsGoodStart, IsDeskError, opening_history}
-use Rattle.pit_book.specs.State.{State}
-use Rattle.pit_book.specs.declared.entry.TheConstants.{ENTRIES_MAX}
-use Rattle.pit_book.specs.declared.error.DeskError.{DeskError}
-use Rattle.pit_book.specs.declared.error.DeskError.TheVariants as desk
+use Rattle.pit_desk.specs.History.{Answered}
+use Rattle.pit_desk.specs.Opened.{IsGoodStart, IsDeskError, opening_history}
+use Rattle.pit_desk.specs.State.{State}
+use Rattle.pit_desk.specs.declared.entry.TheConstants.{ENTRIES_MAX}
+use Rattle.pit_desk.specs.declared.error.DeskError.{DeskError}
+use Rattle.pit_desk.specs.declared.error.DeskError.TheVariants as desk
 use Rattle.pit_cli.specs.declared.fault.CliFault.TheVariants.{NoMemory}
 use Rattle.pit_planning.specs.declared.plan_fault.PlanFault.{PlanFault}
 use Rattle.pit_planning.specs.declared.plan_fault.PlanFault.TheVariants as plan

@@ -9,8 +9,8 @@ use Rattle.pit_plan.specs.Shortfalls.{shortfalls_of}
 use Rattle.pit_plan.specs.declared.short.Short.{Short}
 use Rattle.pit_text.specs.Solution.{schedule_of}
 use Rattle.pit_text.specs.SolutionText.{solution_text}
-use Rattle.pit_book.specs.History.{commits_of}
-use Rattle.pit_book.specs.State.{State}
+use Rattle.pit_desk.specs.History.{commits_of}
+use Rattle.pit_desk.specs.State.{State}
 use Rattle.pit_script.specs.Jobs.{Job}
 use Rattle.pit_job.specs.declared.outcome.RunEnd.{RunEnd}
 use Rattle.pit_job.specs.declared.outcome.RunEnd.TheVariants as end

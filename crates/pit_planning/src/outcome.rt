@@ -6,7 +6,7 @@ ghost use Rattle.pit_planning.specs.Telling.{IsPlanned};
 ghost use Rattle.pit_planning.specs.Outcomes.{MayRun, AreRefused, IsDecisive, IsUnwritten, IsTold, IsToldOfOne, HasFailed};
 
 use crate::plan_fault::PlanFault;
-use pit_book::one_desk_error;
+use pit_desk::one_desk_error;
 use pit_cli::{CliFault, Status};
 
 /// A law of plans. Texts may be run, or are refused for one fault, never both and never for two, whatever threads do; each call on them keeps to

@@ -1,9 +1,9 @@
 //! From a pit, a start and scripts to the report of their run.
 ghost use Rattle.std.specs.Prelude.{◌≡◌, ◌≤◌, ℕ, List, All, length, IfOk, OnOk, IfErr};
 ghost use Rattle.pit_model.specs.Pit.{Pit};
-ghost use Rattle.pit_book.specs.History.{Answered};
+ghost use Rattle.pit_desk.specs.History.{Answered};
 ghost use Rattle.pit_script.specs.Jobs.{Job};
-ghost use Rattle.pit_num.specs.Fitting.{IsSchedule};
+ghost use Rattle.pit_model.specs.Fitting.{IsSchedule};
 ghost use Rattle.pit_script.specs.Benches.{AreBenchesOf};
 ghost use Rattle.pit_script.specs.Ranges.{AreJobsIn};
 ghost use Rattle.pit_share.specs.Opening.{IsPlannerCount, IsOpenError};
@@ -15,7 +15,7 @@ ghost use Rattle.pit_planning.specs.Planning.{IsRunFrom, opening_fault_of, IsRun
 use crate::micro::Micro;
 use crate::plan_fault::PlanFault;
 use pit_board::Session;
-use pit_book::{Desk, DeskError, ENTRIES_MAX};
+use pit_desk::{Desk, DeskError, ENTRIES_MAX};
 use pit_cli::CliFault;
 use pit_job::Open;
 use pit_model::Instance;

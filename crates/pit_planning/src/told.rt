@@ -2,7 +2,7 @@
 ghost use Rattle.std.specs.Prelude.{◌≡◌, ◌<◌, IfOk, length};
 ghost use Rattle.pit_plan.specs.Schedule.{held_period};
 ghost use Rattle.pit_plan.specs.Shortfalls.{shortfalls_of};
-ghost use Rattle.pit_book.specs.History.{commits_of};
+ghost use Rattle.pit_desk.specs.History.{commits_of};
 ghost use Rattle.pit_planning.specs.Telling.{is_whole, all_whole, status_by, ended_of, report_text};
 
 use crate::plan_fault::PlanFault;

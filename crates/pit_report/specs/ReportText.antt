@@ -2,8 +2,8 @@
 use Rattle.std.specs.Prelude.{ℕ, ◌+◌, List, [], ◌∷◌, ◌++◌, codes, decimal}
 use Rattle.std.specs.List.{flat_map}
 use Rattle.pit_num.specs.Printed.{fixed_text}
-use Rattle.pit_book.specs.declared.reply.Refusal.{Refusal}
-use Rattle.pit_book.specs.declared.reply.Refusal.TheVariants as refusal
+use Rattle.pit_desk.specs.declared.reply.Refusal.{Refusal}
+use Rattle.pit_desk.specs.declared.reply.Refusal.TheVariants as refusal
 use Rattle.pit_job.specs.declared.outcome.Outcome.{Outcome}
 use Rattle.pit_job.specs.declared.outcome.Outcome.TheVariants as outcome
 use Rattle.pit_job.specs.declared.outcome.RunEnd.{RunEnd}

@@ -4,7 +4,7 @@ ghost use Rattle.pit_num.specs.Printed.{fixed_text};
 ghost use Rattle.pit_report.specs.ReportText.{numbered_text, refused_text, outcome_text, job_text, jobs_text, run_end_text, stopped_text, run_text, runs_text};
 
 use itoa::Buffer;
-use pit_book::Refusal;
+use pit_desk::Refusal;
 use pit_job::{Outcome, RunEnd};
 use pit_num::{NoMemory, Out, Sink, WriteFault, write_micro, write_text};
 use pit_run::PlannerRun;

@@ -8,13 +8,13 @@ use Rattle.pit_model.specs.Pit.{Pit}
 use Rattle.pit_plan.specs.Schedule.{Commit, earned_in, held_period, value_of}
 use Rattle.pit_plan.specs.Standing.{IsPlanOf}
 use Rattle.pit_plan.proofs.CallerLemmas.{total-same}
-use Rattle.pit_book.specs.History.{Answered, commits_of}
-use Rattle.pit_book.specs.State.{State, IsDeskKept}
-use Rattle.pit_book.proofs.OneThread.{one-thread}
-use Rattle.pit_book.specs.OneThread.{IsOfOneThread}
+use Rattle.pit_desk.specs.History.{Answered, commits_of}
+use Rattle.pit_desk.specs.State.{State, IsDeskKept}
+use Rattle.pit_desk.proofs.OneThread.{one-thread}
+use Rattle.pit_desk.specs.OneThread.{IsOfOneThread}
 use Rattle.pit_script.specs.Jobs.{Job}
 use Rattle.pit_share.specs.Logs.{entries_of, IsPlanner}
-use Rattle.pit_effect.proofs.CallerLemmas.{committed-effect}
+use Rattle.pit_job.proofs.CallerLemmas.{committed-effect}
 use Rattle.pit_job.specs.Runs.{RanFrom}
 use Rattle.pit_job.specs.Laws.{HasOwnEffect}
 use Rattle.pit_job.proofs.CallerLemmas.{own-effects}

@@ -5,7 +5,7 @@ use Rattle.std.proofs.lemmas.List.Elements.{All-nil, All-cons, All-head, All-tai
 use Rattle.std.proofs.Common.{◌≡◌, ℕ, ◌+◌, ◌<◌, ◌≤◌, List, [], ◌∷◌, ◌++◌, length, get_or, take, refl, sym, ap, subst, ◌∙◌, arith, length-append, length-take, add-zero, add-one}
 use Rattle.std.specs.Prelude.{All}
 use Rattle.pit_model.specs.Pit.{Pit}
-use Rattle.pit_book.specs.History.{Answered}
+use Rattle.pit_desk.specs.History.{Answered}
 use Rattle.pit_script.specs.Jobs.{Job}
 use Rattle.pit_share.specs.Planners.{PlannerState}
 use Rattle.pit_share.specs.Logs.{entries_of, IsPlanner, AreLogged}

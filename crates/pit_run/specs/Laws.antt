@@ -1,9 +1,9 @@
 -- What a report comes to.
 use Rattle.std.specs.Prelude.{◌≡◌, ℕ, ◌+◌, List, Option, slice_get, Some}
 use Rattle.pit_model.specs.Pit.{Pit}
-use Rattle.pit_book.specs.History.{Answered}
-use Rattle.pit_book.specs.OneThread.{held_period_after}
-use Rattle.pit_book.specs.declared.reply.EntryReply.TheVariants.{Committed}
+use Rattle.pit_desk.specs.History.{Answered}
+use Rattle.pit_desk.specs.OneThread.{held_period_after}
+use Rattle.pit_desk.specs.declared.reply.EntryReply.TheVariants.{Committed}
 use Rattle.pit_script.specs.Jobs.{Job}
 use Rattle.pit_job.specs.Laws.{WroteEffect}
 

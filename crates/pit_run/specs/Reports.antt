@@ -1,8 +1,8 @@
 -- What a run leaves.
 use Rattle.std.specs.Prelude.{◌≡◌, ℕ, ◌+◌, ◌⊎◌, List, [], ◌∷◌, drop, length}
 use Rattle.pit_model.specs.Pit.{Pit}
-use Rattle.pit_book.specs.History.{Answered}
-use Rattle.pit_book.specs.State.{State}
+use Rattle.pit_desk.specs.History.{Answered}
+use Rattle.pit_desk.specs.State.{State}
 use Rattle.pit_share.specs.Planners.{PlannerState}
 use Rattle.pit_share.specs.Logs.{entries_of}
 use Rattle.pit_share.specs.declared.error.CloseError.{CloseError}

@@ -2,9 +2,9 @@
 ghost use Rattle.std.specs.Prelude.{◌≡◌, ℕ, ◌+◌, List, slice_get, Some, length, drop};
 ghost use Rattle.pit_model.specs.Pit.{Pit};
 ghost use Rattle.pit_plan.specs.Schedule.{held_period, value_of};
-ghost use Rattle.pit_book.specs.History.{Answered, commits_of};
-ghost use Rattle.pit_book.specs.State.{State};
-ghost use Rattle.pit_book.specs.OneThread.{IsOfOneThread};
+ghost use Rattle.pit_desk.specs.History.{Answered, commits_of};
+ghost use Rattle.pit_desk.specs.State.{State};
+ghost use Rattle.pit_desk.specs.OneThread.{IsOfOneThread};
 ghost use Rattle.pit_script.specs.Jobs.{Job};
 ghost use Rattle.pit_share.specs.Logs.{entries_of};
 ghost use Rattle.pit_run.specs.Reports.{RunState, IsReport, RanScript};

@@ -1,5 +1,5 @@
-use pit_model::{BuildError, Builder};
-use pit_num::{BLOCKS_MAX, PERIODS_MAX, RESOURCES_MAX};
+use pit_model::{BLOCKS_MAX, BuildError, Builder, RESOURCES_MAX};
+use pit_num::PERIODS_MAX;
 use std::alloc::Allocator;
 
 /// The discount rate of each sample, 0.1, in millionths.

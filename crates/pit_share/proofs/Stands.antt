@@ -4,12 +4,12 @@ use Rattle.std.specs.Prelude.{slice_get}
 use mathlib.Core.List.{IsPrefix}
 use Rattle.pit_model.specs.Pit.{Pit}
 use Rattle.pit_plan.specs.Schedule.{Commit}
-use Rattle.pit_book.specs.History.{Call, commit_of, commits_by}
-use Rattle.pit_book.specs.Replies.{IsReply}
-use Rattle.pit_book.specs.declared.reply.EntryReply.{EntryReply}
-use Rattle.pit_book.specs.declared.reply.EntryReply.TheVariants.{Committed}
-use Rattle.pit_book.proofs.CallerLemmas.{reads-held}
-use Rattle.pit_book.specs.Noted.{AreHeld}
+use Rattle.pit_desk.specs.History.{Call, commit_of, commits_by}
+use Rattle.pit_desk.specs.Replies.{IsReply}
+use Rattle.pit_desk.specs.declared.reply.EntryReply.{EntryReply}
+use Rattle.pit_desk.specs.declared.reply.EntryReply.TheVariants.{Committed}
+use Rattle.pit_desk.proofs.CallerLemmas.{reads-held}
+use Rattle.pit_desk.specs.Noted.{AreHeld}
 use Rattle.pit_share.specs.Endings.{IsAnswered}
 use Rattle.pit_share.proofs.Prefixes.{take-prefix}
 

@@ -2,8 +2,8 @@
 use Rattle.std.specs.Prelude.{◌≡◌, ℕ, ◌+◌, ◌<◌, List, length, drop}
 use Rattle.pit_num.specs.Least.{IsLeastOf}
 use Rattle.pit_model.specs.Pit.{Pit}
-use Rattle.pit_book.specs.History.{Answered}
-use Rattle.pit_book.specs.State.{State, IsDeskKept}
+use Rattle.pit_desk.specs.History.{Answered}
+use Rattle.pit_desk.specs.State.{State, IsDeskKept}
 use Rattle.pit_share.specs.Planners.{PlannerState}
 use Rattle.pit_share.specs.Logs.{entries_in, HasEachLog, IsMissing, AreLogged, IsDiffering}
 use Rattle.pit_share.specs.GoingOn.{GoesOn}

@@ -3,11 +3,11 @@ use Rattle.std.specs.Prelude.{◌≡◌, ◌≢◌, ℕ, ◌<◌, List, [], ◌�
 use mathlib.Core.List.{IsPrefix}
 use Rattle.pit_model.specs.Pit.{Pit}
 use Rattle.pit_plan.specs.Schedule.{Commit}
-use Rattle.pit_book.specs.History.{Call, commits_by}
-use Rattle.pit_book.specs.Replies.{IsReply}
-use Rattle.pit_book.specs.declared.reply.EntryReply.{EntryReply}
-use Rattle.pit_book.specs.declared.reply.EntryReply.TheVariants.{Refused}
-use Rattle.pit_book.specs.declared.reply.Refusal.TheVariants.{Misread, Ahead}
+use Rattle.pit_desk.specs.History.{Call, commits_by}
+use Rattle.pit_desk.specs.Replies.{IsReply}
+use Rattle.pit_desk.specs.declared.reply.EntryReply.{EntryReply}
+use Rattle.pit_desk.specs.declared.reply.EntryReply.TheVariants.{Refused}
+use Rattle.pit_desk.specs.declared.reply.Refusal.TheVariants.{Misread, Ahead}
 use Rattle.pit_share.specs.Planners.{PlannerState}
 
 -- The reply is the one that is due after some commits; these, and then the commit that the call makes, if it makes one, begin what the planner

@@ -4,8 +4,8 @@ use mathlib.Core.List.{IsPrefix}
 use Rattle.pit_model.specs.Pit.{Pit}
 use Rattle.pit_plan.specs.Schedule.{Commit}
 use Rattle.pit_tx.specs.Sets.{Sets}
-use Rattle.pit_book.specs.History.{Answered}
-use Rattle.pit_book.specs.Calls.{WorkFits}
+use Rattle.pit_desk.specs.History.{Answered}
+use Rattle.pit_desk.specs.Calls.{WorkFits}
 use Rattle.pit_share.specs.Snapshots.{AreOfStart}
 
 pub record PlannerState : Type 0 where

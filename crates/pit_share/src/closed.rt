@@ -1,7 +1,7 @@
 //! What is left of a workspace.
 ghost use Rattle.std.specs.Prelude.{◌≡◌};
 
-use pit_book::{Desk, Entry};
+use pit_desk::{Desk, Entry};
 use std::alloc::Allocator;
 use std::marker::Model;
 
@@ -14,7 +14,7 @@ pub struct Closed<A: Allocator + Copy + Drop> {
 }
 
 impl<A: Allocator + Copy + Drop> Model for Closed<A> {
-    ghost use Rattle.pit_book.specs.State.{State};
+    ghost use Rattle.pit_desk.specs.State.{State};
 
     ghost Value = { State };
 

@@ -2,12 +2,12 @@
 ghost use Rattle.std.specs.Prelude.{◌≡◌, ℕ, ◌+◌, List, Some, slice_get, take};
 ghost use Rattle.pit_model.specs.Pit.{Pit};
 ghost use Rattle.pit_plan.specs.Schedule.{Commit};
-ghost use Rattle.pit_book.specs.History.{Call, commit_of};
-ghost use Rattle.pit_book.specs.declared.reply.EntryReply.{EntryReply};
-ghost use Rattle.pit_book.specs.declared.reply.EntryReply.TheVariants.{Committed as committed};
+ghost use Rattle.pit_desk.specs.History.{Call, commit_of};
+ghost use Rattle.pit_desk.specs.declared.reply.EntryReply.{EntryReply};
+ghost use Rattle.pit_desk.specs.declared.reply.EntryReply.TheVariants.{Committed as committed};
 ghost use Rattle.pit_share.specs.Endings.{IsAnswered};
 ghost use Rattle.pit_share.specs.GoingOn.{IsShared};
-ghost use Rattle.pit_book.specs.Noted.{AreHeld};
+ghost use Rattle.pit_desk.specs.Noted.{AreHeld};
 
 use crate::workspace::Workspace;
 use pit_board::Session;

@@ -1,6 +1,6 @@
 //! Seats of a workspace.
 ghost use Rattle.std.specs.Prelude.{◌≡◌, ◌≢◌, ◌+◌, ◌<◌, ◌≤◌, [], IfOk, OnOk, IfErr};
-ghost use Rattle.pit_book.specs.History.{commits_of};
+ghost use Rattle.pit_desk.specs.History.{commits_of};
 ghost use Rattle.pit_share.specs.Logs.{IsPlanner};
 ghost use Rattle.pit_share.specs.Opening.{AreSeats};
 ghost use Rattle.pit_share.specs.Planners.{planner_of};
@@ -24,7 +24,7 @@ pub struct Seat<S: Session, A: Allocator + Copy + Drop> {
 
 impl<S: Session, A: Allocator + Copy + Drop> Model for Seat<S, A> {
     ghost use Rattle.std.specs.Prelude.{◌≡◌, ℕ, []};
-    ghost use Rattle.pit_book.specs.History.{commits_of};
+    ghost use Rattle.pit_desk.specs.History.{commits_of};
     ghost use Rattle.pit_share.specs.Planners.{planner_of};
 
     ghost Value = { ℕ };

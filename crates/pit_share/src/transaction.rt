@@ -1,14 +1,14 @@
 //! Transactions of planners.
 ghost use Rattle.std.specs.Prelude.{◌≡◌, ℕ, ◌<◌, ◌≤◌, [], ◌∷◌, ◌++◌, take, nat_eq, Option, IfOk, IfErr, OnOk, OnErr, IfSome, IsErrOf};
-ghost use Rattle.pit_num.specs.Fitting.{Fits, RevisionsFit, pair_eq};
+ghost use Rattle.pit_model.specs.Fitting.{Fits, RevisionsFit, pair_eq};
 ghost use Rattle.pit_num.specs.Refused.{IsRefusedBy};
 ghost use Rattle.pit_plan.specs.Schedule.{held_period};
 ghost use Rattle.pit_keyed.specs.Keyed.{IsFurther, with_write};
 ghost use Rattle.pit_tx.specs.Refusals.{refusal_of, revision_refusal_of};
 ghost use Rattle.pit_tx.specs.Sets.{known_of};
-ghost use Rattle.pit_book.specs.Calls.{work_call, entry_reply};
-ghost use Rattle.pit_book.specs.declared.entry.Act.TheVariants.{Commit as commit_act, Withdraw as withdraw_act};
-ghost use Rattle.pit_book.specs.declared.reply.EntryReply.TheVariants.{Withdrawn as withdrawn};
+ghost use Rattle.pit_desk.specs.Calls.{work_call, entry_reply};
+ghost use Rattle.pit_desk.specs.declared.entry.Act.TheVariants.{Commit as commit_act, Withdraw as withdraw_act};
+ghost use Rattle.pit_desk.specs.declared.reply.EntryReply.TheVariants.{Withdrawn as withdrawn};
 ghost use Rattle.pit_board.specs.Fronts.{AreLawful};
 ghost use Rattle.pit_share.specs.Endings.{IsEnded};
 ghost use Rattle.pit_share.specs.Planners.{SeesOn, IsTransactionKept};
@@ -19,7 +19,7 @@ use crate::error::ReadStop;
 use crate::floor::Floor;
 use crate::planner::Planner;
 use pit_board::Session;
-use pit_book::{Reply, Stop};
+use pit_desk::{Reply, Stop};
 use pit_num::NoMemory;
 use pit_tx::{Work, WorkError};
 use std::alloc::Allocator;

@@ -1,6 +1,6 @@
 //! Workspaces.
 ghost use Rattle.std.specs.Prelude.{◌≡◌, ◌≤◌, ◌↔◌, IsTrue, IfOk, IfErr};
-ghost use Rattle.pit_book.specs.History.{commits_of};
+ghost use Rattle.pit_desk.specs.History.{commits_of};
 ghost use Rattle.pit_share.specs.Closing.{IsClosed, IsCloseError};
 ghost use Rattle.pit_share.specs.Opening.{IsPlannerCount, AreSeats, IsOpenError};
 ghost use Rattle.pit_share.specs.declared.blank.TheConstants.{PLANNERS_MAX};
@@ -13,7 +13,7 @@ use crate::held::Held;
 use crate::log::PlannerLog;
 use crate::seat::{Seat, seats_of};
 use pit_board::{EmptyList, Hall, Session};
-use pit_book::Desk;
+use pit_desk::Desk;
 use pit_num::NoMemory;
 use std::alloc::Allocator;
 use std::sync::{Mutex, Wait};

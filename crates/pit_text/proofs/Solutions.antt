@@ -5,7 +5,7 @@ use Rattle.std.specs.List.Sorted.{IsStrictlyIncreasing}
 use Rattle.std.proofs.lemmas.List.Elements.{All-from_recursion}
 use Rattle.std.specs.Option.{option_map}
 use Rattle.std.proofs.lemmas.Bool.Decides.{nat_tests}
-use Rattle.pit_num.specs.Fitting.{IsSchedule}
+use Rattle.pit_model.specs.Fitting.{IsSchedule}
 use Rattle.pit_text.specs.declared.error.Cause.{Cause}
 use Rattle.pit_text.specs.declared.error.Cause.TheVariants.{Build, PartBlock, Unsupported}
 use Rattle.pit_text.specs.declared.model.key.Key.TheVariants.{Destinations}

@@ -1,5 +1,5 @@
 ghost use Rattle.std.specs.Prelude.{◌≡◌, ℕ, ◌<◌, ◌^◌, ◌∷◌, ◌++◌, [], List, Option, Some, None, Ok, Err, MatchResult, IfOk, IfErr, IfSome, IsSome, OnOk, ◌⊎◌, length, slice_index_or};
-ghost use Rattle.pit_num.specs.Fitting.{IsSchedule};
+ghost use Rattle.pit_model.specs.Fitting.{IsSchedule};
 ghost use Rattle.pit_text.specs.Cutting.{cut_of, end_line};
 ghost use Rattle.pit_text.specs.Left.{fields_left};
 ghost use Rattle.pit_text.specs.Stands.{StandsFor, FailsFirst};

@@ -5,8 +5,8 @@ use Rattle.std.proofs.lemmas.Bool.Decides.{Decides-eqb}
 use Rattle.std.proofs.lemmas.List.Elements.{All-cons, All-nil, All-head, All-tail}
 use Rattle.std.proofs.lemmas.List.Kept.{AllPairs-cons}
 use Rattle.indexmap.specs.IndexMap.{insert_entry}
-use Rattle.pit_num.specs.Fitting.{AreKeyed, Fits, RevisionsFit, pair_eq}
-use Rattle.pit_num.proofs.CallerLemmas.{Decides-pair_eq}
+use Rattle.pit_model.specs.Fitting.{AreKeyed, Fits, RevisionsFit, pair_eq}
+use Rattle.pit_model.proofs.CallerLemmas.{Decides-pair_eq}
 use Rattle.pit_keyed.proofs.CallerLemmas.{insert_entry-absent}
 use Rattle.pit_keyed.specs.Keyed.{with_read, at_key}
 

@@ -1,6 +1,6 @@
 //! The sets of a transaction, in the order of first use.
 ghost use Rattle.std.specs.Prelude.{◌≡◌, ◌<◌, ◌≤◌, [], ◌∷◌, ◌++◌, None, nat_eq, IfOk, OnOk, OnErr, IfSome, IfNone, IsErrOf};
-ghost use Rattle.pit_num.specs.Fitting.{Fits, RevisionsFit, pair_eq};
+ghost use Rattle.pit_model.specs.Fitting.{Fits, RevisionsFit, pair_eq};
 ghost use Rattle.pit_num.specs.Refused.{IsRefusedBy};
 ghost use Rattle.pit_keyed.specs.Keyed.{IsFurther, with_read, with_write};
 ghost use Rattle.pit_tx.specs.Refusals.{refusal_of, revision_refusal_of};
@@ -8,7 +8,8 @@ ghost use Rattle.pit_tx.specs.Sets.{known_of, AreSound};
 
 use crate::error::WorkError;
 use pit_keyed::{FilteredSet, KeyedSet};
-use pit_num::{BLOCKS_MAX, NoMemory, PERIODS_MAX, RESOURCES_MAX};
+use pit_model::{BLOCKS_MAX, RESOURCES_MAX};
+use pit_num::{NoMemory, PERIODS_MAX};
 use std::alloc::Allocator;
 use std::marker::Model;
 

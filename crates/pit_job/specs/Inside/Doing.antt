@@ -5,7 +5,7 @@ use Rattle.pit_plan.specs.Schedule.{Commit}
 use Rattle.pit_tx.specs.Sets.{Sets, known_of}
 use Rattle.pit_script.specs.declared.step.Step.{Step}
 use Rattle.pit_share.specs.Planners.{PlannerState, TransactionState}
-use Rattle.pit_effect.specs.Effect.{Agrees, Known, Effect, changes, nothing, read_in, with_written, step_after, steps_after}
+use Rattle.pit_job.specs.Effect.{Agrees, Known, Effect, changes, nothing, read_in, with_written, step_after, steps_after}
 
 -- what a work changes
 abbrev pub own_of : Sets → Commit

@@ -2,15 +2,15 @@
 use Rattle.std.specs.Prelude.{◌≡◌, ℕ, true, false, List, [], ◌∷◌}
 use Rattle.pit_model.specs.Pit.{Pit}
 use Rattle.pit_tx.specs.Sets.{Sets}
-use Rattle.pit_book.specs.History.{Answered}
-use Rattle.pit_book.specs.Calls.{work_call}
-use Rattle.pit_book.specs.declared.entry.Act.{Act}
-use Rattle.pit_book.specs.declared.reply.Refusal.{Refusal}
-use Rattle.pit_book.specs.declared.reply.Refusal.TheVariants as refusal
-use Rattle.pit_book.specs.declared.reply.Reply.{Reply}
-use Rattle.pit_book.specs.declared.reply.Reply.TheVariants as answered
-use Rattle.pit_book.specs.declared.reply.EntryReply.{EntryReply}
-use Rattle.pit_book.specs.declared.reply.EntryReply.TheVariants as reply
+use Rattle.pit_desk.specs.History.{Answered}
+use Rattle.pit_desk.specs.Calls.{work_call}
+use Rattle.pit_desk.specs.declared.entry.Act.{Act}
+use Rattle.pit_desk.specs.declared.reply.Refusal.{Refusal}
+use Rattle.pit_desk.specs.declared.reply.Refusal.TheVariants as refusal
+use Rattle.pit_desk.specs.declared.reply.Reply.{Reply}
+use Rattle.pit_desk.specs.declared.reply.Reply.TheVariants as answered
+use Rattle.pit_desk.specs.declared.reply.EntryReply.{EntryReply}
+use Rattle.pit_desk.specs.declared.reply.EntryReply.TheVariants as reply
 use Rattle.pit_script.specs.Jobs.{Job}
 use Rattle.pit_job.specs.declared.outcome.Tried.{Tried}
 use Rattle.pit_job.specs.declared.outcome.Tried.TheVariants as tried

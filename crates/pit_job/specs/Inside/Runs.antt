@@ -1,7 +1,7 @@
 -- What becomes of a planner's script, job by job.
 use Rattle.std.specs.Prelude.{ℕ, List, ◌++◌, drop, Result, Ok, Err}
 use Rattle.pit_model.specs.Pit.{Pit}
-use Rattle.pit_book.specs.History.{Answered}
+use Rattle.pit_desk.specs.History.{Answered}
 use Rattle.pit_job.specs.declared.outcome.JobStop.{JobStop}
 use Rattle.pit_job.specs.declared.outcome.JobStop.TheVariants as stop
 use Rattle.pit_script.specs.Jobs.{Job}

@@ -4,7 +4,8 @@ ghost use Rattle.pit_text.specs.Header.{value_of_key, number_in_range, supported
 use super::key::Key;
 use crate::error::Cause;
 use crate::number::{decimal, is_ascii, whole};
-use pit_num::{BLOCKS_MAX, PERIODS_MAX, RATE_MAX, RESOURCES_MAX};
+use pit_model::{BLOCKS_MAX, RESOURCES_MAX};
+use pit_num::{PERIODS_MAX, RATE_MAX};
 
 /// The number that a value gives a key.
 #[tactic(auto, unfolding(crate::specs::Header::value_of_key))]

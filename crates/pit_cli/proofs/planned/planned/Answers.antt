@@ -3,7 +3,7 @@ use Rattle.std.proofs.lemmas.Result.{IfOk-weaker}
 use Rattle.pit_model.specs.Pit.{Pit}
 use Rattle.pit_plan.specs.Schedule.{Writes}
 use Rattle.pit_plan.specs.Standing.{IsPlanOf}
-use Rattle.pit_num.specs.Fitting.{Fits, writes_of}
+use Rattle.pit_model.specs.Fitting.{Fits, writes_of}
 use Rattle.pit_cli.proofs.planned.planned.Goals as goal
 
 pub applied-requires-clause-fits : goal.applied-requires-clause-fits

@@ -1,5 +1,5 @@
 use Rattle.std.proofs.Common.{rules}
-use Rattle.pit_book.specs.declared.entry.Act.TheVariants as act
+use Rattle.pit_desk.specs.declared.entry.Act.TheVariants as act
 use Rattle.pit_job.proofs.Trying.{answered-ends, stopped-ends}
 use Rattle.pit_job.proofs.attempt.commit.Goals as goal
 

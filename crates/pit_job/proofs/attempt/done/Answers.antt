@@ -1,5 +1,5 @@
 use Rattle.std.proofs.Common.{rules, ◌∙◌, true, false}
-use Rattle.pit_book.specs.declared.entry.Act.TheVariants as act
+use Rattle.pit_desk.specs.declared.entry.Act.TheVariants as act
 use Rattle.pit_script.specs.Jobs.{Job}
 use Rattle.pit_job.specs.declared.outcome.JobStop.TheVariants.{NoMemory, NoEntry}
 use Rattle.pit_job.specs.Inside.Doing.{DoesSteps, SameLog}

@@ -1,5 +1,5 @@
 use Rattle.std.proofs.Common.{Option, sym, subst, ap, ◌∙◌, ℕ}
-use Rattle.pit_effect.specs.Shifts.{shifted}
+use Rattle.pit_job.specs.Shifts.{shifted}
 use Rattle.pit_job.specs.Inside.Doing.{LooksUp}
 use Rattle.pit_job.proofs.Stepping.{shift-none, shift-out, shift-does}
 use Rattle.pit_job.proofs.doing.shift.Goals as goal

@@ -1,5 +1,5 @@
 use Rattle.std.proofs.Common.{◌+◌, List}
-use Rattle.pit_book.specs.History.{Answered}
+use Rattle.pit_desk.specs.History.{Answered}
 use Rattle.pit_job.specs.Outcomes.{Grows}
 use Rattle.pit_job.specs.Inside.Runs.{RanUpTo}
 use Rattle.pit_job.proofs.planner_run.run_script.Given as goal

@@ -3,7 +3,7 @@ use Rattle.std.proofs.lemmas.List.{nil_from_length}
 use Rattle.std.specs.Prelude.{IfNone, IfSome}
 use Rattle.pit_num.specs.Least.{ComesBefore, IsLeast}
 use Rattle.pit_plan.specs.Schedule.{Writes, by_block}
-use Rattle.pit_num.specs.Fitting.{revisions_of}
+use Rattle.pit_model.specs.Fitting.{revisions_of}
 use Rattle.pit_plan.specs.Limits.{cell_limit, at_cell}
 use Rattle.pit_plan.specs.Inside.Limits.{by_cell}
 use Rattle.pit_plan.specs.Breaches.{IsGood, IsOutOfOrder}

@@ -1,7 +1,7 @@
 use Rattle.std.proofs.Common.{◌<◌, ℕ, ℤ, List, Option, None, get_or, length, take, sym, ap, ◌∙◌, arith}
 use Rattle.std.specs.Prelude.{slice_set}
 use Rattle.std.proofs.lemmas.List.{take_all}
-use Rattle.pit_num.specs.Fitting.{revisions_of}
+use Rattle.pit_model.specs.Fitting.{revisions_of}
 use Rattle.pit_plan.specs.Inside.Plan.{with_writes}
 use Rattle.pit_plan.specs.Inside.Limits.{by_cell}
 use Rattle.pit_plan.proofs.ByCell.{length-cells, cell-at, cell-known}

@@ -1,5 +1,5 @@
 use Rattle.std.proofs.Common.{◌≡◌, take}
-use Rattle.pit_num.specs.Fitting.{revisions_of}
+use Rattle.pit_model.specs.Fitting.{revisions_of}
 use Rattle.pit_plan.specs.Inside.Plan.{with_writes}
 use Rattle.pit_plan.specs.Inside.Limits.{by_cell}
 use Rattle.pit_plan.proofs.limits.revise.Given as goal

@@ -1,6 +1,6 @@
 use Rattle.std.proofs.Common.{◌≡◌, ◌<◌, ℕ, ℤ, List, Option, None, get_or, length, subst, sym, ap, ◌∙◌, arith}
 use Rattle.std.proofs.lemmas.List.{take_all}
-use Rattle.pit_num.specs.Fitting.{revisions_of}
+use Rattle.pit_model.specs.Fitting.{revisions_of}
 use Rattle.pit_plan.specs.Inside.Limits.{by_cell}
 use Rattle.pit_plan.specs.Inside.Totals.{cell_load}
 use Rattle.pit_plan.specs.Inside.Touched.{LooksAt, SetsCell, overlaid_item}

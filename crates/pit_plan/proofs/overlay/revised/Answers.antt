@@ -4,7 +4,7 @@ use Rattle.std.specs.Map.{lookup}
 use Rattle.std.proofs.lemmas.List.{take_more}
 use Rattle.indexmap.specs.IndexMap.{insert_entry}
 use Rattle.indexmap.proofs.CallerLemmas.{insert_entry-new}
-use Rattle.pit_num.specs.Fitting.{revisions_of}
+use Rattle.pit_model.specs.Fitting.{revisions_of}
 use Rattle.pit_model.specs.Pit.{cell_of}
 use Rattle.pit_plan.specs.Inside.Limits.{by_cell}
 use Rattle.pit_plan.proofs.Named.{absent-before}

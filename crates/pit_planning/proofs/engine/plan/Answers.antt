@@ -1,6 +1,6 @@
 use Rattle.std.proofs.Common.{List, refl, ap, ◌∙◌}
-use Rattle.pit_book.specs.History.{Answered}
-use Rattle.pit_book.specs.State.{State}
+use Rattle.pit_desk.specs.History.{Answered}
+use Rattle.pit_desk.specs.State.{State}
 use Rattle.pit_cli.proofs.CallerLemmas.{keeps_itself}
 use Rattle.pit_lines.specs.Texts.{history_text}
 use Rattle.pit_planning.specs.Telling.IsPlanned.{ran, untold, refused}

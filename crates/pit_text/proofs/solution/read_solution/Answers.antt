@@ -1,5 +1,5 @@
 use Rattle.std.proofs.Common.{◌≡◌, ℕ, List, Option, None, inl, inr, refl, ap, sym, ◌∙◌, slice_index_or, length, subst, IsSome}
-use Rattle.pit_num.specs.Fitting.{IsSchedule}
+use Rattle.pit_model.specs.Fitting.{IsSchedule}
 use Rattle.pit_text.specs.Cutting.{cut_of}
 use Rattle.pit_text.specs.Stands.{StandsFor}
 use Rattle.pit_text.specs.Solution.{schedule_of, period_in, solution_line}

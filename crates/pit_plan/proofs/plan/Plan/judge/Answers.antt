@@ -1,6 +1,6 @@
 use Rattle.std.proofs.Common.{ℤ, List, Option, IfOk, subst, sym}
 use Rattle.std.proofs.lemmas.Result.{IfOk-weaker}
-use Rattle.pit_num.specs.Fitting.{RevisionsFit, revisions_of}
+use Rattle.pit_model.specs.Fitting.{RevisionsFit, revisions_of}
 use Rattle.pit_plan.specs.Schedule.{by_block}
 use Rattle.pit_plan.specs.Standing.{Standing}
 use Rattle.pit_plan.specs.Breaches.{IsGood, IsFirstBreach}

@@ -1,5 +1,5 @@
 use Rattle.std.proofs.Common.{nat_eq, rules}
-use Rattle.pit_num.specs.Fitting.{Fits}
+use Rattle.pit_model.specs.Fitting.{Fits}
 use Rattle.pit_keyed.specs.Keyed.{with_read}
 use Rattle.pit_tx.proofs.Inserted.{Fits-with_read, kept_after}
 use Rattle.pit_tx.proofs.work.Work.note.Goals as goal

@@ -1,5 +1,5 @@
 use Rattle.std.proofs.Common.{◌≡◌, [], ◌∷◌, ◌++◌, None, nat_eq, rules}
-use Rattle.pit_num.specs.Fitting.{Fits}
+use Rattle.pit_model.specs.Fitting.{Fits}
 use Rattle.pit_keyed.specs.Keyed.{at_key}
 use Rattle.pit_tx.proofs.Inserted.{Fits-further, kept_after}
 use Rattle.pit_tx.proofs.work.Work.note_unknown.Goals as goal

@@ -1,5 +1,5 @@
 use Rattle.std.proofs.Common.{ℕ, rules}
-use Rattle.pit_num.specs.Fitting.{RevisionsFit, pair_eq}
+use Rattle.pit_model.specs.Fitting.{RevisionsFit, pair_eq}
 use Rattle.pit_keyed.specs.Keyed.{with_write}
 use Rattle.pit_tx.proofs.Inserted.{RevisionsFit-insert_entry, kept_after}
 use Rattle.pit_tx.proofs.work.Work.revise.Goals as goal

@@ -1,5 +1,5 @@
 use Rattle.std.proofs.Common.{nat_eq, rules}
-use Rattle.pit_num.specs.Fitting.{Fits}
+use Rattle.pit_model.specs.Fitting.{Fits}
 use Rattle.pit_keyed.specs.Keyed.{with_write}
 use Rattle.pit_tx.proofs.Inserted.{Fits-insert_entry, kept_after}
 use Rattle.pit_tx.proofs.work.Work.write.Goals as goal

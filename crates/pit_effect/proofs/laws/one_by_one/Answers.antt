@@ -1,5 +1,0 @@
-use Rattle.pit_effect.proofs.Agreeing.{committed-effect}
-use Rattle.pit_effect.proofs.laws.one_by_one.Goals as goal
-
-pub returns : goal.returns
-returns c = committed-effect

@@ -1,0 +1,187 @@
+//! Calls on the tiny pit that revise its limits, with replies that were found by hand.
+use super::calls::Call::{Commit, Revise};
+use super::worked::{AFTER_TWO_BLOCKS, NOTHING, THIRD_BLOCK, TWO_BLOCKS, Worked, play_all};
+use pit_desk::EntryReply::{Committed, Refused, Withdrawn};
+use pit_desk::{Act, Refusal};
+use pit_plan_sample::Reading;
+
+const REVISED: &[Worked] = &[
+    // block 3 under a limit that is raised for it, which can't be lowered then: the value is 5 more
+    (
+        &[],
+        &[
+            TWO_BLOCKS,
+            (
+                Revise(Act::Commit, 1, &[(3, Some(0))], &[(0, 0, Some(5_000_000))]),
+                Committed { number: 2 },
+            ),
+            (
+                Revise(Act::Commit, 2, &[], &[(0, 0, Some(4_000_000))]),
+                Refused(Refusal::Over {
+                    resource: 0,
+                    period: 0,
+                    load: 5_000_000,
+                    limit: 4_000_000,
+                }),
+            ),
+        ],
+        Reading {
+            commits: 2,
+            periods: (Some(0), Some(0), None, Some(0)),
+            versions: [1, 1, 0, 2],
+            loads: (5_000_000, 0),
+            limits: (Some(5_000_000), Some(4_000_000)),
+            value: 15_500_000_000_000_000_000,
+        },
+    ),
+    // what a withdrawn call revised is not there for the next
+    (
+        &[],
+        &[
+            TWO_BLOCKS,
+            (
+                Revise(
+                    Act::Withdraw,
+                    1,
+                    &[(3, Some(0))],
+                    &[(0, 1, Some(0)), (0, 0, Some(5_000_000))],
+                ),
+                Withdrawn,
+            ),
+            THIRD_BLOCK,
+        ],
+        AFTER_TWO_BLOCKS,
+    ),
+    // nor is what a refused commit revised
+    (
+        &[],
+        &[
+            TWO_BLOCKS,
+            (
+                Revise(Act::Commit, 1, &[(0, None)], &[(0, 0, Some(5_000_000))]),
+                Refused(Refusal::Precedence {
+                    block: 1,
+                    before: 0,
+                }),
+            ),
+            THIRD_BLOCK,
+        ],
+        AFTER_TWO_BLOCKS,
+    ),
+    // loads that no write moves are judged by the limits that are revised, the least period first
+    (
+        &[],
+        &[
+            TWO_BLOCKS,
+            (
+                Revise(
+                    Act::Commit,
+                    1,
+                    &[],
+                    &[(0, 1, Some(-1)), (0, 0, Some(3_999_999))],
+                ),
+                Refused(Refusal::Over {
+                    resource: 0,
+                    period: 0,
+                    load: 4_000_000,
+                    limit: 3_999_999,
+                }),
+            ),
+            (
+                Revise(Act::Commit, 1, &[], &[(0, 1, Some(-1)), (0, 0, None)]),
+                Refused(Refusal::Over {
+                    resource: 0,
+                    period: 1,
+                    load: 0,
+                    limit: -1,
+                }),
+            ),
+        ],
+        AFTER_TWO_BLOCKS,
+    ),
+    // all blocks in a period without a limit, then a limit that they reach, and a tighter one as block 3 goes to period 1. The value
+    // of the others is -10 + 20.5 + 30
+    (
+        &[],
+        &[
+            (
+                Revise(
+                    Act::Commit,
+                    0,
+                    &[(0, Some(0)), (1, Some(0)), (2, Some(0)), (3, Some(0))],
+                    &[(0, 0, None)],
+                ),
+                Committed { number: 1 },
+            ),
+            (
+                Revise(Act::Commit, 1, &[], &[(0, 0, Some(7_999_999))]),
+                Refused(Refusal::Over {
+                    resource: 0,
+                    period: 0,
+                    load: 8_000_000,
+                    limit: 7_999_999,
+                }),
+            ),
+            (
+                Revise(Act::Commit, 1, &[], &[(0, 0, Some(8_000_000))]),
+                Committed { number: 2 },
+            ),
+            (
+                Revise(Act::Commit, 2, &[(3, Some(1))], &[(0, 0, Some(7_000_000))]),
+                Committed { number: 3 },
+            ),
+        ],
+        Reading {
+            commits: 3,
+            periods: (Some(0), Some(0), Some(0), Some(1)),
+            versions: [1, 1, 1, 3],
+            loads: (7_000_000, 1_000_000),
+            limits: (Some(7_000_000), Some(4_000_000)),
+            value: 45_045_454_545_455_000_000,
+        },
+    ),
+    // of two commits that both saw none the last decides, and neither gives a block a version
+    (
+        &[],
+        &[
+            (
+                Revise(
+                    Act::Commit,
+                    0,
+                    &[],
+                    &[(0, 1, Some(9_000_000)), (0, 0, Some(1_000_000))],
+                ),
+                Committed { number: 1 },
+            ),
+            (
+                Revise(
+                    Act::Commit,
+                    0,
+                    &[],
+                    &[(0, 0, Some(2_000_000)), (0, 1, None)],
+                ),
+                Committed { number: 2 },
+            ),
+            (
+                Commit(0, &[(3, None)], &[(3, Some(0)), (0, Some(0))]),
+                Refused(Refusal::Over {
+                    resource: 0,
+                    period: 0,
+                    load: 3_000_000,
+                    limit: 2_000_000,
+                }),
+            ),
+        ],
+        Reading {
+            commits: 2,
+            limits: (Some(2_000_000), None),
+            ..NOTHING
+        },
+    ),
+];
+
+/// Each entry has the call's revisions in their order, and the limits are those that the commits leave.
+#[test]
+fn revises_as_by_hand(rt: HostRuntime) {
+    play_all(&rt, rt.alloc(), REVISED);
+}

@@ -1,0 +1,414 @@
+//! The three sets against lists that were written down by hand.
+use linked_list_allocator::LocalHeap;
+use pit_num::PERIODS_MAX;
+use pit_model::{BLOCKS_MAX, RESOURCES_MAX};
+use pit_refuse::Refusing;
+use pit_tx::{Work, WorkError};
+use std::alloc::{Allocator, Global};
+use std::process::Abort;
+
+type Pair = (u32, Option<u32>);
+
+/// A resource and a period, with an upper limit or none.
+type Revision = ((u32, u32), Option<i64>);
+
+/// A change that is asked of a `Work`.
+#[derive(Clone, Copy)]
+enum Change {
+    Note(u32, Option<u32>),
+    Put(u32, u32),
+    Clear(u32),
+    Revise(u32, u32, Option<i64>),
+    NoteUnknown(u32, u32),
+}
+
+use Change::{Clear, Note, NoteUnknown, Put, Revise};
+
+fn answer_of<A: Allocator + Copy + Drop>(
+    work: &mut Work<A>,
+    change: Change,
+) -> Result<(), WorkError> {
+    match change {
+        Note(b, period) => work.note(b, period),
+        Put(b, t) => work.put(b, t),
+        Clear(b) => work.clear(b),
+        Revise(r, t, upper) => work.revise(r, t, upper),
+        NoteUnknown(b, t) => note_if_unknown(work, b, t),
+    }
+}
+
+/// Notes a block by the call for those that aren't known. One that is known stays as it is.
+fn note_if_unknown<A: Allocator + Copy + Drop>(
+    work: &mut Work<A>,
+    b: u32,
+    t: u32,
+) -> Result<(), WorkError> {
+    if b >= work.blocks() {
+        return NO_BLOCK;
+    }
+    if t >= work.periods() {
+        return NO_PERIOD;
+    }
+    let None = work.known(b) else {
+        return Ok(());
+    };
+    match work.note_unknown(b, Some(t)) {
+        Ok(()) => Ok(()),
+        Err(_) => Err(WorkError::NoMemory),
+    }
+}
+
+/// Whether a set has these pairs, in this order.
+fn has_pairs<T: Eq>(set: &[T], pairs: &[T]) -> bool {
+    set == pairs
+}
+
+const NO_BLOCK: Result<(), WorkError> = Err(WorkError::NoBlock);
+
+const NO_RESOURCE: Result<(), WorkError> = Err(WorkError::NoResource);
+
+const NO_PERIOD: Result<(), WorkError> = Err(WorkError::NoPeriod);
+
+const READ: &[Pair] = &[(3, Some(1))];
+
+const PUT_TWICE: &[Pair] = &[(2, Some(1)), (0, Some(0))];
+
+const CLEARED: &[Pair] = &[(2, Some(1)), (0, Some(0)), (3, None)];
+
+const REVISED: &[Revision] = &[((0, 1), Some(5)), ((0, 0), None)];
+
+const LOWERED: &[Revision] = &[((0, 1), Some(-4)), ((0, 0), None)];
+
+const LIFTED: &[Revision] = &[((0, 1), None), ((0, 0), None)];
+
+/// On 4 blocks, 2 periods and 1 resource: each change, its answer, and the read set, the write set and the revisions after it.
+type Step = (
+    Change,
+    Result<(), WorkError>,
+    &'static [Pair],
+    &'static [Pair],
+    &'static [Revision],
+);
+
+const STEPS: &[Step] = &[
+    (Note(3, Some(1)), Ok(()), READ, &[], &[]),
+    (Note(3, None), Ok(()), READ, &[], &[]),
+    (Put(2, 0), Ok(()), READ, &[(2, Some(0))], &[]),
+    (Put(0, 0), Ok(()), READ, &[(2, Some(0)), (0, Some(0))], &[]),
+    (Put(2, 1), Ok(()), READ, PUT_TWICE, &[]),
+    (Put(4, 2), NO_BLOCK, READ, PUT_TWICE, &[]),
+    (Note(3, Some(2)), NO_PERIOD, READ, PUT_TWICE, &[]),
+    (Clear(3), Ok(()), READ, CLEARED, &[]),
+    (Clear(4), NO_BLOCK, READ, CLEARED, &[]),
+    (Revise(1, 2, None), NO_RESOURCE, READ, CLEARED, &[]),
+    (Revise(0, 2, None), NO_PERIOD, READ, CLEARED, &[]),
+    (
+        Revise(0, 1, Some(5)),
+        Ok(()),
+        READ,
+        CLEARED,
+        &[((0, 1), Some(5))],
+    ),
+    (Revise(0, 0, None), Ok(()), READ, CLEARED, REVISED),
+    (Revise(0, 1, Some(-4)), Ok(()), READ, CLEARED, LOWERED),
+    (Revise(0, 1, None), Ok(()), READ, CLEARED, LIFTED),
+];
+
+#[test]
+fn keeps_first_reads_and_last_writes_and_revisions(rt: HostRuntime) {
+    let mut work = Work::new(rt.alloc(), 2, 7, 3, 4, 2, 1).expect(&rt, "memory");
+    assert_steps(&rt, &mut work);
+    drop(work);
+}
+
+/// Makes a change, and tells whether it is answered so and leaves these sets.
+fn is_step(work: &mut Work<Global>, step: &Step) -> bool {
+    let (change, answer, reads, writes, revises) = step;
+    if answer_of(work, *change) != *answer {
+        return false;
+    }
+    has_pairs(work.reads(), reads)
+        && has_pairs(work.writes(), writes)
+        && has_pairs(work.revises(), revises)
+}
+
+/// The own write of a block is known, else what was noted of it.
+fn assert_steps(rt: &impl Abort, work: &mut Work<Global>) {
+    for (at, step) in STEPS.iter().enumerate() {
+        assert!(rt; is_step(work, step), "step {at}");
+        if at == 0 {
+            assert_known(rt, work, 3, Some(Some(1)));
+        }
+    }
+    assert!(rt; is_of(work, 2, 7, 3));
+    assert_known(rt, work, 1, None);
+    assert_known(rt, work, 2, Some(Some(1)));
+    assert_known(rt, work, 3, Some(None));
+}
+
+fn is_of<A: Allocator + Copy + Drop>(work: &Work<A>, planner: u32, job: u32, start: u32) -> bool {
+    work.planner() == planner && work.job() == job && work.start() == start
+}
+
+fn assert_known(rt: &impl Abort, work: &Work<Global>, b: u32, known: Option<Option<u32>>) {
+    assert_eq!(rt; work.known(b), known);
+}
+
+/// An allocator that refuses one request.
+type Heap<'a> = &'a Refusing<LocalHeap>;
+
+/// The bytes of a heap, of which no sets take half.
+const BYTES: usize = 1_048_576;
+
+/// How many blocks there are, and changes of a kind.
+const COUNT: u32 = 1_000;
+
+/// The greatest number of a planner.
+const PLANNER: u32 = u32::MAX;
+
+/// Of two resources each may be revised so often.
+const PERIODS: u32 = 500;
+
+/// The kinds of change, of which all take memory.
+const KINDS: u32 = 5;
+
+/// One change more to a `Work` that has those below `b`, in one of its sets.
+fn further(kind: u32, b: u32) -> Change {
+    match kind {
+        0 => Note(b, Some(b % 2)),
+        1 => Put(b, b % 2),
+        2 => Clear(b),
+        3 => Revise(b % 2, b / 2, limit_of(b)),
+        _ => NoteUnknown(b, b % 2),
+    }
+}
+
+/// What revision number `b` sets.
+fn limit_of(b: u32) -> Option<i64> {
+    match b % 3 {
+        0 => None,
+        _ => Some(i64::from(b)),
+    }
+}
+
+/// What such changes say of a block.
+fn period_of(kind: u32, b: u32) -> Option<u32> {
+    match kind {
+        0 | 1 | 4 => Some(b % 2),
+        _ => None,
+    }
+}
+
+/// Whether the set has the blocks below `count` alone, in order, each with its period.
+fn has_all(set: &[Pair], kind: u32, count: u32) -> bool {
+    let mut next: u32 = 0;
+    for (b, period) in set {
+        if *b != next || *period != period_of(kind, next) {
+            return false;
+        }
+        next = next.wrapping_add(1);
+    }
+    next == count
+}
+
+/// Whether the set has the revisions below number `count` alone, in order.
+fn has_revised(set: &[Revision], count: u32) -> bool {
+    let mut next: u32 = 0;
+    for (pair, upper) in set {
+        if *pair != (next % 2, next / 2) || *upper != limit_of(next) {
+            return false;
+        }
+        next = next.wrapping_add(1);
+    }
+    next == count
+}
+
+fn is_filled<A: Allocator + Copy + Drop>(work: &Work<A>, kind: u32, count: u32) -> bool {
+    let (reads, writes, revises) = match kind {
+        0 | 4 => (count, 0, 0),
+        1 | 2 => (0, count, 0),
+        _ => (0, 0, count),
+    };
+    has_all(work.reads(), kind, reads)
+        && has_all(work.writes(), kind, writes)
+        && has_revised(work.revises(), revises)
+}
+
+/// Makes a change, which asks for no memory.
+fn assert_quiet<A: Allocator + Copy + Drop>(
+    rt: &impl Abort,
+    heap: Heap<'_>,
+    work: &mut Work<A>,
+    change: Change,
+    answer: Result<(), WorkError>,
+) {
+    let before = heap.count();
+    assert!(rt; answer_of(work, change) == answer);
+    assert!(rt; heap.count() == before);
+}
+
+/// Makes one change more, and makes it again where memory was refused, which changes nothing. Then it is known.
+fn add_twice<A: Allocator + Copy + Drop>(
+    rt: &impl Abort,
+    heap: Heap<'_>,
+    work: &mut Work<A>,
+    kind: u32,
+    b: u32,
+) {
+    let before = heap.count();
+    let change = further(kind, b);
+    let answer = answer_of(work, change);
+    if answer != Ok(()) {
+        assert!(rt; answer == Err(WorkError::NoMemory));
+        assert!(rt; heap.count().has_refused_since(before));
+        add_again(rt, work, kind, b);
+    }
+    assert_quiet(rt, heap, work, change, Ok(()));
+}
+
+fn add_again<A: Allocator + Copy + Drop>(rt: &impl Abort, work: &mut Work<A>, kind: u32, b: u32) {
+    assert!(rt; is_filled(work, kind, b));
+    assert!(rt; answer_of(work, further(kind, b)) == Ok(()));
+}
+
+/// Changes of which none asks for memory once the sets are filled.
+const REFUSED: &[(Change, Result<(), WorkError>)] = &[
+    (Note(COUNT, None), NO_BLOCK),
+    (Put(COUNT, PERIODS), NO_BLOCK),
+    (Put(0, PERIODS), NO_PERIOD),
+    (Clear(COUNT), NO_BLOCK),
+    (Revise(2, PERIODS, None), NO_RESOURCE),
+    (Revise(0, PERIODS, None), NO_PERIOD),
+];
+
+fn is_sized<A: Allocator + Copy + Drop>(work: &Work<A>) -> bool {
+    work.blocks() == COUNT && work.periods() == PERIODS && work.resources() == 2
+}
+
+/// What is read of a `Work` asks for no memory.
+fn assert_read<A: Allocator + Copy + Drop>(
+    rt: &impl Abort,
+    heap: Heap<'_>,
+    work: &Work<A>,
+    kind: u32,
+) {
+    let before = heap.count();
+    assert!(rt; is_of(work, PLANNER, 7, 3));
+    assert!(rt; is_sized(work));
+    assert!(rt; kind == 3 || work.known(999) == Some(period_of(kind, 999)));
+    assert!(rt; is_filled(work, kind, COUNT));
+    assert!(rt; heap.count() == before);
+}
+
+/// Makes changes of a kind. The first asks for no memory.
+fn fill<A: Allocator + Copy + Drop>(
+    rt: &impl Abort,
+    heap: Heap<'_>,
+    work: &mut Work<A>,
+    kind: u32,
+) {
+    assert_quiet(rt, heap, work, further(kind, 0), Ok(()));
+    for b in 1..COUNT {
+        add_twice(rt, heap, work, kind, b);
+    }
+    for (change, answer) in REFUSED {
+        assert_quiet(rt, heap, work, *change, *answer);
+    }
+    assert_read(rt, heap, work, kind);
+}
+
+/// A `Work`, which is made anew where memory was refused.
+fn new_work<A: Allocator + Copy + Drop>(rt: &impl Abort, heap: Heap<'_>, alloc: A) -> Work<A> {
+    let before = heap.count();
+    if let Ok(work) = Work::new(alloc, PLANNER, 7, 3, COUNT, PERIODS, 2) {
+        return work;
+    }
+    assert!(rt; heap.count().has_refused_since(before));
+    Work::new(alloc, PLANNER, 7, 3, COUNT, PERIODS, 2).expect(rt, "no memory twice")
+}
+
+/// Up to so many pairs a set has no table, so a work that was emptied asks for no memory for them.
+const FEW: u32 = 32;
+
+/// Empties the sets, and makes changes in the memory that these had.
+fn fill_again<A: Allocator + Copy + Drop>(
+    rt: &impl Abort,
+    heap: Heap<'_>,
+    work: Work<A>,
+    kind: u32,
+) {
+    let before = heap.count();
+    let mut work = work.emptied(1, 2, 0, COUNT, PERIODS, 2);
+    assert!(rt; is_of(&work, 1, 2, 0) && is_filled(&work, kind, 0));
+    for b in 0..FEW {
+        assert!(rt; answer_of(&mut work, further(kind, b)) == Ok(()));
+    }
+    assert!(rt; is_filled(&work, kind, FEW) && heap.count() == before);
+    drop(work);
+}
+
+fn new_and_filled<A: Allocator + Copy + Drop>(
+    rt: &impl Abort,
+    heap: Heap<'_>,
+    alloc: A,
+    kind: u32,
+) {
+    let mut work = new_work(rt, heap, alloc);
+    fill(rt, heap, &mut work, kind);
+    fill_again(rt, heap, work, kind);
+}
+
+/// Whether no request had the number. All memory is given back in the end.
+fn is_whole(rt: &impl Abort, alloc: Global, kind: u32, number: u64) -> bool {
+    let heap = Refusing::over_heap(alloc, BYTES, number).expect(rt, "a heap");
+    new_and_filled(rt, &heap, &heap, kind);
+    assert!(rt; heap.used() == 0);
+    !heap.count().has_refused()
+}
+
+/// Each allocation is refused in turn, those of `new` and those of changes of a kind.
+fn refuse_each(rt: &impl Abort, alloc: Global, kind: u32) {
+    for number in 1..100 {
+        if is_whole(rt, alloc, kind, number) {
+            assert!(rt; number > 10, "a request of each growth at least");
+            return;
+        }
+    }
+    panic!(rt; "never whole");
+}
+
+#[test]
+fn is_unchanged_where_memory_is_refused(rt: HostRuntime) {
+    for kind in 0..KINDS {
+        refuse_each(&rt, rt.alloc(), kind);
+    }
+}
+
+/// The bytes in use while there is a `Work` over a pit of this size.
+fn used_over<A: Allocator + Copy + Drop>(
+    rt: &impl Abort,
+    heap: Heap<'_>,
+    alloc: A,
+    blocks: u32,
+    periods: u32,
+    resources: u32,
+) -> usize {
+    assert!(rt; 0 < blocks && blocks <= BLOCKS_MAX);
+    assert!(rt; 0 < periods && periods <= PERIODS_MAX);
+    assert!(rt; resources <= RESOURCES_MAX);
+    let work = Work::new(alloc, 1, 1, 0, blocks, periods, resources).expect(rt, "memory");
+    let used = heap.used();
+    drop(work);
+    used
+}
+
+/// The room for the first pairs of each set doesn't depend on the pit.
+#[test]
+fn begins_as_small_over_any_pit(rt: HostRuntime) {
+    let heap = Refusing::over_heap(rt.alloc(), BYTES, 0).expect(&rt, "a heap");
+    let least = used_over(&rt, &heap, &heap, 1, 1, 0);
+    assert!(rt; least > 0);
+    let greatest = used_over(&rt, &heap, &heap, BLOCKS_MAX, PERIODS_MAX, RESOURCES_MAX);
+    assert!(rt; greatest == least);
+    drop(heap);
+}
