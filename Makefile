@@ -1,12 +1,13 @@
-# make demo           shows the main job: without a proof where there is no ./pit, in a minute or two; else a whole day
+# make demo           shows the main job: without a proof where there is no ./pit, in one to three minutes; else the commands of a day, in a second
 # make pit            proves and builds ./pit where a source is newer than it
-# make check CRATE=C  proves the crate C, over what earlier checks kept: seconds after an edit
-# make test           the whole gate: every proof, test, must-fail edit and stored run, from nothing; then the shell tests. Leaves ./pit
+# make check CRATE=C  proves the crate C, over what earlier checks kept: half a minute or so after an edit
+# make test           the whole gate: every proof, test, must-fail edit and stored run that no earlier run kept; then the shell tests. Leaves ./pit
 # make install        puts the program, its manual page and its completions for bash under PREFIX (/usr/local), itself below DESTDIR
 # make uninstall      removes what make install put there
 # make audit          what the gate leaves out: on a copy of the tree further edits, planted bodies, further tests; and a soak of ./pit. Takes hours
 # make clean          removes what was built
-.PHONY: demo check test install uninstall audit clean needs
+.PHONY: demo check test install uninstall audit clean
+.DELETE_ON_ERROR:
 
 SHELL := /bin/bash
 .SHELLFLAGS := -o pipefail -c
@@ -22,25 +23,27 @@ MANUAL = "$(INTO)/share/man/man1/pit.1"
 COMPLETIONS = "$(INTO)/share/bash-completion/completions/pit"
 FORMATS = "$(INTO)/share/doc/pit/FORMATS.md"
 
-SOURCES := crates.txt $(shell find crates -name out -prune -o -name '*_tests' -prune -o -type f '(' -name '*.rt' -o -name '*.antt' ')' -print)
+SOURCES := crates.txt HANDLES $(shell find crates '(' -name out -o -path 'crates/test_*' ')' -prune -o \
+    -type f '(' -name '*.rt' -o -name '*.antt' ')' -print)
 
-# What the machine lacks is said at once.
-needs:
-	@scripts/needs.sh
-
-demo: | needs
+demo:
 	@scripts/demo.sh
 
 # Only a proved program is built: the crates below it are proved first.
-pit: $(SOURCES) | needs
+pit: $(SOURCES)
+	@scripts/needs.sh
 	@scripts/build.sh
 
-check: | needs
+check:
+	@[ -n "$(CRATE)" ] || { echo 'usage: make check CRATE=C' >&2; exit 2; }
+	@scripts/needs.sh
 	cd crates/$(CRATE) && rt check
 
-test: | needs
+test:
+	@scripts/needs.sh
 	rt ci | scripts/progress.sh
-	cp $(PROVED) pit
+	cp $(PROVED) pit.new
+	mv pit.new pit
 	@echo 'shell tests, 1 of 5: files, streams and words'
 	tests/cli.sh ./pit
 	@echo 'shell tests, 2 of 5: no memory'
@@ -66,10 +69,11 @@ install: pit pit.1 pit.bash
 
 uninstall:
 	rm -f $(PROGRAM) $(MANUAL) $(COMPLETIONS) $(FORMATS)
+	-rmdir "$(INTO)/share/doc/pit"
 
 audit: pit
 	audit/run.sh
 	audit/soak.py ./pit
 
 clean:
-	rm -rf pit pit.1 pit.bash demo crates/*/out
+	rm -rf pit pit.new pit.1 pit.bash demo crates/*/out

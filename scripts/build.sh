@@ -7,7 +7,7 @@ set -euo pipefail
 declare -A uses
 while IFS=: read -r crate names; do
     uses[$crate]=$names
-done < <(sed 's/#.*//' crates.txt)
+done < <(sed -n 's/#.*//; /^[a-z]/p' crates.txt)
 
 # below CRATE: the repository's crates that it stands on, lowest first.
 below() {
@@ -22,17 +22,26 @@ marks() {
     find "$work" -maxdepth 1 -name "*.$1" | wc -l
 }
 
+# back LANE CRATE: what was made of a crate in its lane goes to the crate's own folder.
+back() {
+    [ ! -d "$1/crates/$2/out" ] || mv -T "$1/crates/$2/out" "crates/$2/out"
+}
+
 # prove CRATE: only one command of rt at a time works in the folders of a crate and of those below it. So a crate is proved in copies of them, which
 # are links to the same files, and what was made of it is then moved to its own folder.
 prove() {
-    local crate=$1 it lane=$work/$1 jobs status=0
-    # Also where it is stopped: what is kept there is worth minutes.
-    trap "[ ! -d '$lane/crates/$crate/out' ] || mv '$lane/crates/$crate/out' 'crates/$crate'" EXIT
+    local it part jobs status=0
+    crate=$1
+    lane=$work/$crate
     mkdir -p "$lane/crates"
+    # Also where it is stopped: what is kept there is worth minutes.
+    trap 'back "$lane" "$crate"' EXIT
     for it in $(below "$crate") "$crate"; do
         echo "$it:${uses[$it]}" >>"$lane/crates.txt"
         mkdir "$lane/crates/$it"
-        cp -al "crates/$it"/{src,specs,proofs} "$lane/crates/$it"
+        for part in src specs proofs; do
+            [ ! -d "crates/$it/$part" ] || cp -al "crates/$it/$part" "$lane/crates/$it"
+        done
         if [ "$it" = "$crate" ]; then
             [ ! -d "crates/$it/out" ] || mv "crates/$it/out" "$lane/crates/$it"
         else
@@ -44,13 +53,13 @@ prove() {
     # A third process in one crate gains nothing.
     jobs=$((cores >= 2 * $(marks running) ? 2 : 1))
     (cd "$lane/crates/$crate" && rt lib --jobs $jobs) >"$work/$crate.log" 2>&1 || status=$?
-    [ ! -d "$lane/crates/$crate/out" ] || mv "$lane/crates/$crate/out" "crates/$crate"
     rm "$work/$crate.running"
     if [ $status -ne 0 ]; then
         cat "$work/$crate.log" >&2
         echo "pit: $crate is not proved" >&2
         return $status
     fi
+    back "$lane" "$crate"
     : >"$work/$crate.proved"
     echo "$crate is proved: $(marks proved) of $total crates, $((total - $(marks proved))) left, after $(minutes)"
 }
@@ -65,6 +74,16 @@ if [ "${1-}" = prove ]; then
     exit
 fi
 
+mkdir -p crates/pit/out
+# One run at a time. Its commands hold the lock too, so none is at work any more when the next run begins.
+exec {lock}>crates/pit/out/lock
+flock -n "$lock" || { echo 'pit: another make pit is at work' >&2; exit 1; }
+# What a run that was killed has left goes back.
+for lane in crates/pit/out/lanes.*/*/; do
+    [ ! -d "$lane" ] || [ -d "crates/$(basename "$lane")/out" ] || back "$lane" "$(basename "$lane")"
+done
+rm -rf crates/pit/out/lanes.*
+
 cores=$(nproc)
 # A crate takes up to 3 GB.
 memory=$(awk '$1 == "MemAvailable:" { print int($2 / 3000000) }' /proc/meminfo)
@@ -72,10 +91,17 @@ lanes=${LANES:-$((memory < 1 ? 1 : memory < cores ? memory : cores))}
 begun=$(date +%s)
 mapfile -t product < <(below pit)
 total=$((${#product[@]} + 1))
-mkdir -p crates/pit/out
 work=$(realpath "$(mktemp -d crates/pit/out/lanes.XXXXXX)")
-trap 'rm -rf "$work"' EXIT
 export cores begun total work
+
+# build: proves the crates below the program, and then the program itself, in its own folder.
+build() {
+    env -u MAKEFLAGS -u MAKELEVEL make --no-print-directory -j "$lanes" -f "$work/makefile" all || return
+    echo "pit is proved and built, the last of $total crates .."
+    (cd crates/pit && rt run --jobs $((cores > 1 ? 2 : 1)) -- value data/tiny.cpit data/tiny.sol) >"$work/log" 2>&1 && return
+    cat "$work/log" >&2
+    return 1
+}
 
 echo "Proves $total crates, $lanes at once, on $cores cores. From nothing it takes half an hour or more; later only what changed is proved again."
 {
@@ -84,12 +110,10 @@ echo "Proves $total crates, $lanes at once, on $cores cores. From nothing it tak
         printf '%s: %s\n\t@scripts/build.sh prove %s\n' "$crate" "$(below "$crate" | tr '\n' ' ')" "$crate"
     done
 } >"$work/makefile"
-env -u MAKEFLAGS -u MAKELEVEL make --no-print-directory -j "$lanes" -f "$work/makefile" all
-echo "pit is proved and built, the last of $total crates .."
-(cd crates/pit && rt run --jobs $((cores > 1 ? 2 : 1)) -- value data/tiny.cpit data/tiny.sol) >"$work/log" 2>&1 || {
-    status=$?
-    cat "$work/log" >&2
-    exit $status
-}
-cp crates/pit/out/pit pit
+status=0
+build || status=$?
+rm -rf "$work"
+[ $status -eq 0 ] || exit $status
+cp crates/pit/out/pit pit.new
+mv pit.new pit
 echo "./pit is there, after $(minutes)."

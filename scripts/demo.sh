@@ -28,6 +28,7 @@ if [ -x pit ]; then
     exit
 fi
 
+scripts/needs.sh
 echo 'Compiles the program as it stands, and has four planners edit a schedule of 960 blocks at once. It takes one to three minutes.'
 echo 'Nothing is proved by this: `make pit` proves the program, builds it and leaves it as ./pit.'
 work=$(mktemp -d)
@@ -51,9 +52,17 @@ if [ $status -ne 0 ] || ! grep -q '^legal ' "$work/out"; then
     cat "$work/err" >&2
     exit $((status == 0 ? 1 : status))
 fi
+# shown WORD..: the words as they are given to a ./pit at the top.
+shown() {
+    local word
+    for word in "$@"; do
+        [ ! -f "$hill/$word" ] || word=$hill/$word
+        printf '%s ' "${word#"$PWD"/}"
+    done
+}
 # Standard output has both runs, each behind a line with its name.
 sed -n '/^== 1-plan$/,/^== 2-replay$/{/^== /!p}' "$work/out" >demo/new.sol
-printf '\n$ pit %s >demo/new.sol\n' "${plan[*]/#$PWD\//}"
+printf '\n$ ./pit %s >demo/new.sol\n' "$(shown "${plan[@]}")"
 grep -E '^(planner|value|short) ' "$work/err"
-printf '\n$ pit %s\n' "${replay[*]/#$PWD\//}"
+printf '\n$ ./pit %s\n' "$(shown "${replay[@]}")"
 sed '1,/^== 2-replay$/d' "$work/out"

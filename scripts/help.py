@@ -49,8 +49,8 @@ def entries(lines):
 
 
 def names_of(option):
-    """The names of an option, and whether a value follows: `-h, --help`, `--start <FILE>`."""
-    return re.findall(r"--?[\w-]+", option.words), "<" in option.words
+    """The names of an option: of `-h, --help` two, of `--start <FILE>` one."""
+    return re.findall(r"--?[\w-]+", option.words)
 
 
 # The manual page.
@@ -58,7 +58,7 @@ def names_of(option):
 
 def plain(text):
     """The text as roff takes it: no escape, no hyphen that may break, and no line that is read as a request."""
-    text = text.replace("\\", "\\e").replace("-", "\\-").replace("'", "\\(aq").replace("`", "\\(ga")
+    text = text.replace("docs/FORMATS.md", "FORMATS.md").replace("\\", "\\e").replace("-", "\\-").replace("'", "\\(aq").replace("`", "\\(ga")
     return re.sub(r"^\.", r"\\&.", text)
 
 
@@ -119,7 +119,7 @@ def manual(top, pages, version):
     for page in pages.values():
         for block in filter(is_example, page.notes):
             rows += paragraph(block[1:])
-    rows += [".SH SEE ALSO", "\\fIFORMATS.md\\fR, beside the other documents of the program: each form, fault line and status."]
+    rows += [".SH SEE ALSO", "\\fIshare/doc/pit/FORMATS.md\\fR, below the folder that the program was installed into: each form, fault line and status."]
     return "\n".join(rows)
 
 
@@ -148,23 +148,26 @@ _pit() {
     if [[ $cur == -* || -z $command || $command == help ]]; then
         mapfile -t COMPREPLY < <(compgen -W "$words" -- "$cur")
     else
+        # So that a folder gets a slash, and a blank its backslash; there is none of it outside of a completion.
+        compopt -o filenames 2>/dev/null
         mapfile -t COMPREPLY < <(compgen -f -- "$cur")
     fi
 }
-complete -o filenames -F _pit pit"""
+complete -F _pit pit"""
 
 
 def completion(top, pages):
     commands = [it.words for it in top.commands]
-    values, words = [], []
-    for name, page in pages.items():
-        for names, takes in map(names_of, page.options):
-            is_file = any("<FILE>" in it.words for it in page.options if names_of(it)[0] == names)
-            if takes and not is_file:
-                values += [f"        {name}:{it}) return ;;" for it in names]
-            elif takes:
-                values += [f"        {name}:{it}) mapfile -t COMPREPLY < <(compgen -f -- \"$cur\"); return ;;" for it in names]
-    own = lambda page: [it for option in page.options for it in names_of(option)[0]]
+    words = []
+    # Behind an option that takes no file nothing is completed.
+    values = [
+        f"        {name}:{it}) return ;;"
+        for name, page in pages.items()
+        for option in page.options
+        if "<" in option.words and "<FILE>" not in option.words
+        for it in names_of(option)
+    ]
+    own = lambda page: [it for option in page.options for it in names_of(option)]
     words.append(f"        '') words='{' '.join(commands + own(top))}' ;;")
     words.append(f"        help) words='{' '.join(commands)}' ;;")
     words += [f"        {name}) words='{' '.join(own(page))}' ;;" for name, page in pages.items()]

@@ -18,10 +18,11 @@ for tool in git python3; do
     command -v $tool >/dev/null || lacks "there is no $tool on the path"
 done
 command -v rt >/dev/null || lacks "there is no rt on the path: put the folder bin of the Rattle kit there (README, 'Toolchain and platforms')"
-command -v "${CC:-cc}" >/dev/null || lacks "there is no C compiler ${CC:-cc}: install one, as gcc or clang, or set CC"
+compiler=${CC:-cc}
+command -v "${compiler%% *}" >/dev/null || lacks "there is no C compiler $compiler: install one, as gcc or clang, or set CC"
 memory=$(awk '$1 == "MemTotal:" { print $2 }' /proc/meminfo)
 [ "$memory" -ge $least ] || lacks "this machine has $((memory / 1000000)) GB of memory, and 8 GB are needed"
-version=$(rt version)
+version=$(rt version) || lacks 'rt version fails'
 case $version in
     *"$logic"*) ;;
     *) echo "pit: the proofs were made with logic $logic, and this is $version: a proof may fail here" >&2 ;;

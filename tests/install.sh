@@ -1,8 +1,9 @@
 #!/usr/bin/env bash
 # Installs the built program into a folder, runs it from there, formats its manual page, completes words, and uninstalls it.
-# usage: tests/install.sh, at the top of the repository, with ./pit built. Each case prints a line, `ok` or `FAIL`.
+# usage: tests/install.sh, at the top of the repository, with ./pit built. Each case prints a line, `ok`, `FAIL` or `skip`.
 set -u
 
+make -q pit 2>/dev/null || { echo "$0: there is no ./pit that is newer than its sources: make pit" >&2; exit 2; }
 work=$(mktemp -d)
 trap 'rm -rf "$work"' EXIT
 failures=0
@@ -38,23 +39,21 @@ judge 'the program runs from there' installed_value
 
 # The page as a terminal of 80 columns shows it, without a warning.
 page() {
-    if command -v man >/dev/null; then
-        MANWIDTH=80 man --warnings=w -P cat "$at/share/man/man1/pit.1"
-    else
+    if command -v groff >/dev/null; then
         groff -man -Tutf8 -ww -P-cbou -rLL=80n "$at/share/man/man1/pit.1"
+    else
+        MANWIDTH=80 man --warnings=w -P cat "$at/share/man/man1/pit.1"
     fi
 }
 formats() {
     page >"$work/page" 2>"$work/warnings" && [ -s "$work/page" ] && diff /dev/null "$work/warnings"
 }
-judge 'the page is formatted without a warning' formats
 has_sections() {
     for section in NAME SYNOPSIS DESCRIPTION COMMANDS FILES 'EXIT STATUS' EXAMPLES; do
         grep -qx "$section" "$work/page" || { echo "no section $section"; return 1; }
     done
 }
-judge 'the page has its sections' has_sections
-# Every word of each help, in its order, but for the heads of its lists.
+# Each option, and each argument in angle brackets, of each subcommand's help.
 has_words() {
     local words command
     for command in value check plan replay; do
@@ -65,7 +64,13 @@ has_words() {
         done <"$work/words"
     done
 }
-judge 'the page has each argument and option' has_words
+if command -v groff >/dev/null || command -v man >/dev/null; then
+    judge 'the page is formatted without a warning' formats
+    judge 'the page has its sections' has_sections
+    judge 'the page has each argument and option' has_words
+else
+    echo 'skip  the page: there is neither groff nor man'
+fi
 
 # completes WANTED WORD..: what the last word is completed to, in a folder with the small example.
 completes() {

@@ -2,8 +2,8 @@
 use Rattle.std.proofs.Common.{◌≡◌, ◌∷◌, ◌||◌, if◌then◌else◌, true, false, not, refl, inl, inr, List, [], Bool, Option, Some, None, is_some, option_map, codes, IfOk, Result, Ok, Err, subst, sym}
 use Rattle.std.specs.Option.{option_map_or}
 use Rattle.std.proofs.lemmas.List.Elements.{All-from_recursion}
-use Rattle.pit_cli.specs.declared.input.Input.{Input}
-use Rattle.pit_cli.specs.declared.input.Input.TheVariants.{Model, Precedence, Solution, Script, History}
+use Rattle.pit_step.specs.declared.input.Input.{Input}
+use Rattle.pit_step.specs.declared.input.Input.TheVariants.{Model, Precedence, Solution, Script, History}
 use Rattle.pit.specs.Asked.{argument_of}
 use Rattle.clap.specs.Walk.{Row, Text, nothing_held, walk, walk_from, settled, finished, rows_after}
 use Rattle.clap.specs.Takes.{is_given}

@@ -3,10 +3,10 @@ use Rattle.std.proofs.Common.{◌≡◌, ◌≢◌, ◌⊎◌, inl, inr, ℕ, ze
 use Rattle.std.specs.List.{range_with_len}
 use Rattle.std.proofs.lemmas.List.{take_more, set_split, set-get_or, get_or-map, get_or-drop, drop-drop, drop-set-lt, length-append, map_push}
 use Rattle.std.proofs.lemmas.List.Elements.{All-nil, All-cons}
-use Rattle.pit_cli.specs.declared.input.Input.{Input}
-use Rattle.pit_cli.specs.declared.input.Input.TheVariants.{Blocks, Start, Script}
-use Rattle.pit_cli.specs.declared.fault.CliFault.{CliFault}
-use Rattle.pit_cli.specs.declared.fault.CliFault.TheVariants.{CannotRead, NoMemory}
+use Rattle.pit_step.specs.declared.input.Input.{Input}
+use Rattle.pit_step.specs.declared.input.Input.TheVariants.{Blocks, Start, Script}
+use Rattle.pit_step.specs.declared.fault.CliFault.{CliFault}
+use Rattle.pit_step.specs.declared.fault.CliFault.TheVariants.{CannotRead, NoMemory}
 use Rattle.clap.specs.declared.parser.matches.ArgMatches.{ArgMatches}
 use Rattle.pit.specs.Asked.{path_of, scripts_of}
 use Rattle.pit.specs.PlanRun.{plan_inputs, input_if, count_if, IsOpen, IsUnopened, IsUnreadOf, IsRead, IsReadWhole, IsUnread, AreRead, script_inputs}

@@ -6,8 +6,8 @@ use Rattle.clap.specs.Matches.{found_of, first_value, matched_of, raw_values, on
 use Rattle.std.specs.Str.Parse.{ParsesUnsigned}
 use Rattle.clap.specs.declared.parser.matches.ArgMatches.{ArgMatches}
 use Rattle.pit_job.specs.declared.planner_run.TheConstants.{RETRIES_MAX}
-use Rattle.pit_cli.specs.declared.input.Input.{Input}
-use Rattle.pit_cli.specs.declared.input.Input.TheVariants.{Model, Precedence, Blocks, Start, Solution, Script, History}
+use Rattle.pit_step.specs.declared.input.Input.{Input}
+use Rattle.pit_step.specs.declared.input.Input.TheVariants.{Model, Precedence, Blocks, Start, Solution, Script, History}
 use Rattle.pit.specs.declared.engine.Engine.{Engine}
 use Rattle.pit.specs.declared.engine.Engine.TheVariants.{Value, Check, Plan, Replay}
 

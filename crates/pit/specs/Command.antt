@@ -9,8 +9,8 @@ use Rattle.clap.specs.declared.builder.command.Command.TheViews.{out-Command}
 use Rattle.clap.specs.Lexer.{usize_max}
 use Rattle.clap.specs.declared.builder.action.ArgAction.TheVariants.{Append}
 use Rattle.clap.specs.declared.builder.value_parser.ValueParser.TheVariants.{Signed}
-use Rattle.pit_cli.specs.declared.input.Input.{Input}
-use Rattle.pit_cli.specs.declared.input.Input.TheVariants.{Model, Precedence, Blocks, Start, Script}
+use Rattle.pit_step.specs.declared.input.Input.{Input}
+use Rattle.pit_step.specs.declared.input.Input.TheVariants.{Model, Precedence, Blocks, Start, Script}
 use Rattle.pit.specs.declared.engine.Engine.TheVariants.{Value, Check, Replay}
 use Rattle.pit.specs.Asked.{argument_of}
 use Rattle.pit.specs.Runs.{inputs_of}

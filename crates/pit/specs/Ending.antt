@@ -3,19 +3,10 @@ use Rattle.std.specs.Prelude.{◌≡◌, ◌≢◌, ◌⊎◌, ℕ, Result, Ok, 
 use Rattle.clap.specs.Values.{kind_of}
 use Rattle.clap.specs.declared.error.Error.{Error}
 use Rattle.clap.specs.declared.error.kind.ErrorKind.TheVariants.{DisplayHelp, DisplayVersion}
-use Rattle.pit_cli.specs.declared.status.Status.{Status}
-use Rattle.pit_cli.specs.Statuses.{answer_status, fault_status}
-use Rattle.pit_planning.specs.Statuses.{plan_fault_status}
-use Rattle.pit_replay.specs.Statuses.{replay_fault_status}
-use Rattle.pit.specs.declared.fault.EngineFault.{EngineFault}
-use Rattle.pit.specs.declared.fault.EngineFault.TheVariants.{Cli, Plan, Replay}
+use Rattle.pit_step.specs.declared.status.Status.{Status}
+use Rattle.pit_step.specs.Statuses.{answer_status, fault_status}
 use Rattle.pit.specs.declared.fault.Fault.{Fault}
 use Rattle.pit.specs.declared.fault.Fault.TheVariants.{Engine, Command}
-
-abbrev pub engine_fault_status : EngineFault → ℕ
-engine_fault_status (Cli fault) = fault_status fault
-engine_fault_status (Plan fault) = plan_fault_status fault
-engine_fault_status (Replay fault) = replay_fault_status fault
 
 -- 2 for words that are refused; for help and the version 0, or 3 where they can't be written
 pub record IsCommandStatus (error : Error) (status : ℕ) : Type 0 where
@@ -24,5 +15,5 @@ pub record IsCommandStatus (error : Error) (status : ℕ) : Type 0 where
 
 abbrev pub IsStatusOf : Result Status Fault → ℕ → Type 0
 IsStatusOf (Ok found) status = status ≡ answer_status found
-IsStatusOf (Err (Engine fault)) status = status ≡ engine_fault_status fault
+IsStatusOf (Err (Engine fault)) status = status ≡ fault_status fault
 IsStatusOf (Err (Command error)) status = IsCommandStatus error status

@@ -3,16 +3,14 @@ use Rattle.std.specs.Prelude.{◌≡◌, ◌≢◌, ◌⊎◌, ℕ, Bool, true, 
 use Rattle.std.specs.List.{range_with_len}
 use Rattle.std.specs.Io.KnownBytes.{Keeps}
 use Rattle.clap.specs.declared.parser.matches.ArgMatches.{ArgMatches}
-use Rattle.pit_cli.specs.declared.input.Input.{Input}
-use Rattle.pit_cli.specs.declared.input.Input.TheVariants.{Model, Precedence, Blocks, Start, Script}
-use Rattle.pit_cli.specs.declared.status.Status.{Status}
-use Rattle.pit_cli.specs.declared.fault.CliFault.{CliFault}
-use Rattle.pit_cli.specs.declared.fault.CliFault.TheVariants.{CannotRead, CannotWrite, NoMemory}
-use Rattle.pit_cli.specs.Devices.{Reading, Writing, IsWhole, IsInputFault}
-use Rattle.pit_planning.specs.declared.plan_fault.PlanFault.{PlanFault}
-use Rattle.pit_planning.specs.declared.plan_fault.PlanFault.TheVariants.{Cli}
-use Rattle.pit_planning.specs.Texts.{Texts}
-use Rattle.pit_planning.specs.Telling.{IsPlanned}
+use Rattle.pit_step.specs.declared.input.Input.{Input}
+use Rattle.pit_step.specs.declared.input.Input.TheVariants.{Model, Precedence, Blocks, Start, Script}
+use Rattle.pit_step.specs.declared.status.Status.{Status}
+use Rattle.pit_step.specs.declared.fault.CliFault.{CliFault}
+use Rattle.pit_step.specs.declared.fault.CliFault.TheVariants.{CannotRead, CannotWrite, NoMemory}
+use Rattle.pit_step.specs.Devices.{Reading, Writing, IsWhole, IsInputFault}
+use Rattle.pit_cli.specs.Texts.{Texts}
+use Rattle.pit_cli.specs.Telling.{IsPlanned}
 use Rattle.pit.specs.Asked.{path_of, scripts_of, history_path}
 
 -- an input that the words may leave out
@@ -95,10 +93,10 @@ pub record IsNewHistory (given : ArgMatches) (kept : Option Writing) : Type 0 wh
 
 -- What `plan` does on the texts that the files gave, where the file of its history opens, if one is named. It is opened once all inputs are read. Else
 -- nothing is written.
-pub data IsPlanRun (opens : Input → Option Bool) (told : Input → Option (List ℕ)) (keeps : Option Bool) (given : ArgMatches) (retries : ℕ) (out lines : Writing) (result : Result Status PlanFault) : Type 0 where
+pub data IsPlanRun (opens : Input → Option Bool) (told : Input → Option (List ℕ)) (keeps : Option Bool) (given : ArgMatches) (retries : ℕ) (out lines : Writing) (result : Result Status CliFault) : Type 0 where
   planned : (texts : Texts) (kept : Option Writing) → IsInput opens told given texts → keeps ≢ Some false → IsNewHistory given kept
       → IsPlanned texts retries out lines kept result → IsPlanRun opens told keeps given retries out lines result
-  refused : (fault : CliFault) → IsNoInput opens told given fault → Keeps out.before out.after → Keeps lines.before lines.after → result ≡ Err (Cli fault)
+  refused : (fault : CliFault) → IsNoInput opens told given fault → Keeps out.before out.after → Keeps lines.before lines.after → result ≡ Err fault
       → IsPlanRun opens told keeps given retries out lines result
   unkept : (texts : Texts) → IsInput opens told given texts → keeps ≢ Some true → is_some (history_path given) ≡ true → Keeps out.before out.after
-      → Keeps lines.before lines.after → result ≡ Err (Cli CannotWrite) → IsPlanRun opens told keeps given retries out lines result
+      → Keeps lines.before lines.after → result ≡ Err CannotWrite → IsPlanRun opens told keeps given retries out lines result

@@ -1,21 +1,16 @@
 -- What a run of the program gives, by what is told of the files that its words name.
 use Rattle.std.specs.Prelude.{◌≡◌, ◌≢◌, ◌⊎◌, ℕ, Bool, true, false, List, [], ◌∷◌, Option, Some, option_and_then, Result, Ok, Err}
 use Rattle.clap.specs.declared.parser.matches.ArgMatches.{ArgMatches}
-use Rattle.pit_cli.specs.declared.input.Input.{Input}
-use Rattle.pit_cli.specs.declared.input.Input.TheVariants.{Model, Precedence, Solution, Script, History}
-use Rattle.pit_cli.specs.declared.status.Status.{Status}
-use Rattle.pit_cli.specs.declared.fault.CliFault.{CliFault}
-use Rattle.pit_cli.specs.declared.fault.CliFault.TheVariants.{CannotRead}
-use Rattle.pit_cli.specs.Steps.{IsResultOf}
-use Rattle.pit_cli.specs.Devices.{Reading, Writing}
-use Rattle.pit_cli.specs.Value.{value_run}
-use Rattle.pit_cli.specs.Check.{check_run}
-use Rattle.pit_planning.specs.declared.plan_fault.PlanFault.{PlanFault}
-use Rattle.pit_replay.specs.declared.replay_fault.ReplayFault.{ReplayFault}
-use Rattle.pit_replay.specs.declared.replay_fault.ReplayFault.TheVariants as replay
-use Rattle.pit_replay.specs.Replay.{replay_run}
-use Rattle.pit.specs.declared.fault.EngineFault.{EngineFault}
-use Rattle.pit.specs.declared.fault.EngineFault.TheVariants as engine
+use Rattle.pit_step.specs.declared.input.Input.{Input}
+use Rattle.pit_step.specs.declared.input.Input.TheVariants.{Model, Precedence, Solution, Script, History}
+use Rattle.pit_step.specs.declared.status.Status.{Status}
+use Rattle.pit_step.specs.declared.fault.CliFault.{CliFault}
+use Rattle.pit_step.specs.declared.fault.CliFault.TheVariants.{CannotRead}
+use Rattle.pit_step.specs.Steps.{IsResultOf}
+use Rattle.pit_step.specs.Devices.{Reading, Writing}
+use Rattle.pit_view.specs.Value.{value_run}
+use Rattle.pit_view.specs.Check.{check_run}
+use Rattle.pit_view.specs.Replay.{replay_run}
 use Rattle.pit.specs.declared.engine.Engine.{Engine}
 use Rattle.pit.specs.declared.engine.Engine.TheVariants.{Value, Check, Plan, Replay}
 use Rattle.pit.specs.Asked.{path_of, history_path, IsRetries}
@@ -61,7 +56,7 @@ pub record IsCheckRun (told : Input → Option (List ℕ)) (out : Writing) (resu
   pub solution_is : solution.before ≡ told Solution
   pub gives : IsResultOf (check_run model precedence solution out) tt result
 
-pub record IsReplayRun (told : Input → Option (List ℕ)) (out : Writing) (result : Result Status ReplayFault) : Type 0 where
+pub record IsReplayRun (told : Input → Option (List ℕ)) (out : Writing) (result : Result Status CliFault) : Type 0 where
   pub model : Reading
   pub precedence : Reading
   pub history : Reading
@@ -70,42 +65,21 @@ pub record IsReplayRun (told : Input → Option (List ℕ)) (out : Writing) (res
   pub history_is : history.before ≡ told History
   pub gives : IsResultOf (replay_run model precedence history out) tt result
 
--- ---- the faults of the engines
-
-abbrev pub of_cli : Result Status CliFault → Result Status EngineFault
-of_cli (Ok status) = Ok status
-of_cli (Err fault) = Err (engine.Cli fault)
-
-abbrev pub of_plan : Result Status PlanFault → Result Status EngineFault
-of_plan (Ok status) = Ok status
-of_plan (Err fault) = Err (engine.Plan fault)
-
-abbrev pub of_replay : Result Status ReplayFault → Result Status EngineFault
-of_replay (Ok status) = Ok status
-of_replay (Err fault) = Err (engine.Replay fault)
-
 -- ---- runs
 
 -- `value`, `check` or `replay`: the first file that doesn't open is the fault, and then the output is left alone; nothing is reported
-pub record IsFileRun {F : Type 0} (at : CliFault → F) (up : Result Status F → Result Status EngineFault) (Run : Result Status F → Type 0) (opens : Input → Option Bool) (inputs : List Input) (IsUntouched IsQuiet : Type 0) (result : Result Status EngineFault) : Type 0 where
-  pub answer : Result Status F
-  pub runs : OpensEach opens inputs (λ input. (answer ≡ Err (at (CannotRead input))) × IsUntouched) (Run answer)
-  pub is : result ≡ up answer
+pub record IsFileRun (Run : Result Status CliFault → Type 0) (opens : Input → Option Bool) (inputs : List Input) (IsUntouched IsQuiet : Type 0) (result : Result Status CliFault) : Type 0 where
+  pub runs : OpensEach opens inputs (λ input. (result ≡ Err (CannotRead input)) × IsUntouched) (Run result)
   pub quiet : IsQuiet
 
-pub record IsAskedPlan (opens : Input → Option Bool) (told : Input → Option (List ℕ)) (keeps : Option Bool) (given : ArgMatches) (out lines : Writing) (result : Result Status PlanFault) : Type 0 where
+pub record IsPlanning (opens : Input → Option Bool) (told : Input → Option (List ℕ)) (keeps : Option Bool) (given : ArgMatches) (out lines : Writing) (result : Result Status CliFault) : Type 0 where
   pub retries : ℕ
   pub retries_are : IsRetries given retries
   pub runs : IsPlanRun opens told keeps given retries out lines result
 
-pub record IsPlanning (opens : Input → Option Bool) (told : Input → Option (List ℕ)) (keeps : Option Bool) (given : ArgMatches) (out lines : Writing) (result : Result Status EngineFault) : Type 0 where
-  pub answer : Result Status PlanFault
-  pub runs : IsAskedPlan opens told keeps given out lines answer
-  pub is : result ≡ of_plan answer
-
 -- the result is that of an engine on the files of its inputs
-abbrev pub IsRunOf : Engine → (Input → Option Bool) → (Input → Option (List ℕ)) → Option Bool → ArgMatches → Type 0 → Type 0 → Writing → Writing → Result Status EngineFault → Type 0
-IsRunOf Value opens told keeps given IsUntouched IsQuiet out lines = IsFileRun (λ fault. fault) of_cli (IsValueRun told out) opens (inputs_of Value) IsUntouched IsQuiet
-IsRunOf Check opens told keeps given IsUntouched IsQuiet out lines = IsFileRun (λ fault. fault) of_cli (IsCheckRun told out) opens (inputs_of Check) IsUntouched IsQuiet
+abbrev pub IsRunOf : Engine → (Input → Option Bool) → (Input → Option (List ℕ)) → Option Bool → ArgMatches → Type 0 → Type 0 → Writing → Writing → Result Status CliFault → Type 0
+IsRunOf Value opens told keeps given IsUntouched IsQuiet out lines = IsFileRun (IsValueRun told out) opens (inputs_of Value) IsUntouched IsQuiet
+IsRunOf Check opens told keeps given IsUntouched IsQuiet out lines = IsFileRun (IsCheckRun told out) opens (inputs_of Check) IsUntouched IsQuiet
 IsRunOf Plan opens told keeps given IsUntouched IsQuiet out lines = IsPlanning opens told keeps given out lines
-IsRunOf Replay opens told keeps given IsUntouched IsQuiet out lines = IsFileRun replay.Cli of_replay (IsReplayRun told out) opens (inputs_of Replay) IsUntouched IsQuiet
+IsRunOf Replay opens told keeps given IsUntouched IsQuiet out lines = IsFileRun (IsReplayRun told out) opens (inputs_of Replay) IsUntouched IsQuiet

@@ -1,11 +1,11 @@
 //! How the program ends.
 ghost use Rattle.std.specs.Prelude.{◌≡◌, ◌≤◌};
 ghost use Rattle.std.specs.Process.{exit_status};
-ghost use Rattle.pit.specs.Ending.{engine_fault_status, IsCommandStatus, IsStatusOf};
+ghost use Rattle.pit_step.specs.Statuses.{fault_status};
+ghost use Rattle.pit.specs.Ending.{IsCommandStatus, IsStatusOf};
 
-use crate::fault::{EngineFault, Fault};
+use crate::fault::Fault;
 use pit_cli::{CliFault, Status};
-use pit_planning::PlanFault;
 use std::process::ExitCode;
 
 /// The status where the words of the command line are refused.
@@ -23,11 +23,11 @@ pub fn ended(rt: &HostRuntime, answer: Result<Status, Fault>) -> ExitCode
 }
 
 /// Prints the line of a fault, which a planner that stopped has in the report. The status is the fault's, whether or not the line could be written.
-fn with_fault(rt: &HostRuntime, fault: &EngineFault) -> u8
-    ensures is { result ≡ engine_fault_status fault.now }
+fn with_fault(rt: &HostRuntime, fault: &CliFault) -> u8
+    ensures is { result ≡ fault_status fault.now }
     ensures range { (2 ≤ result) × (result ≤ 3) }
 {
-    if *fault != EngineFault::Plan(PlanFault::Stopped) {
+    if *fault != CliFault::Stopped {
         let _ = rt.eprintln(fault);
     }
     fault.status()
@@ -42,7 +42,7 @@ fn with_command(rt: &HostRuntime, error: &clap::Error) -> u8
         return REFUSED;
     }
     if rt.print(error).is_err() {
-        return with_fault(rt, &EngineFault::Cli(CliFault::CannotWrite));
+        return with_fault(rt, &CliFault::CannotWrite);
     }
     0
 }

@@ -1,15 +1,14 @@
 //! The files of the inputs of `plan`: all are opened, in the order of the inputs, and then each is read whole.
 ghost use Rattle.std.specs.Prelude.{◌≡◌, ◌++◌, ◌∷◌, [], ◌+◌, ◌≤◌, ℕ, List, Option, All, IfOk, IfErr, OnOk, MatchResult, length, map, is_some, option_to_list};
-ghost use Rattle.pit_cli.specs.declared.input.Input.{Input as input_type};
+ghost use Rattle.pit_step.specs.declared.input.Input.{Input as input_type};
 ghost use Rattle.pit.specs.Runs.{file_bytes, file_opens};
 ghost use Rattle.pit.specs.PlanRun.{plan_inputs, input_if, script_inputs, count_if, all_texts, IsOpen, IsUnopened, IsUnreadOf, AreRead, IsInput, IsNoInput};
 
 use crate::argument::{path_of, script_count};
 use crate::files::{Disk, opened};
 use clap::ArgMatches;
-use pit_cli::{CliFault, Input, bytes_of};
+use pit_cli::{CliFault, Input, PlanInput, bytes_of};
 use pit_num::In;
-use pit_planning::PlanInput;
 use std::alloc::Global;
 use std::io::Read;
 

@@ -1,19 +1,16 @@
 //! The runs of the engines on the files that the words name. Files are opened in the order of the engine's inputs, and each before one is read.
 ghost use Rattle.std.specs.Prelude.{◌≡◌};
-ghost use Rattle.pit_cli.specs.Devices.{writing_of};
+ghost use Rattle.pit_step.specs.Devices.{writing_of};
 ghost use Rattle.pit.specs.declared.engine.Engine.TheVariants.{Value as value_engine, Check as check_engine, Replay as replay_engine};
-ghost use Rattle.pit.specs.Runs.{file_bytes, file_opens, history_opens, inputs_of, of_cli, of_plan, of_replay, OpensEach, IsRunOf, IsValueRun, IsCheckRun, IsAskedPlan, IsReplayRun};
+ghost use Rattle.pit.specs.Runs.{file_bytes, file_opens, history_opens, inputs_of, OpensEach, IsRunOf, IsValueRun, IsCheckRun, IsPlanning, IsReplayRun};
 
 use crate::argument::retries_of;
 use crate::engine::Engine;
-use crate::fault::EngineFault;
 use crate::files::{Disk, history_file, opened};
 use crate::plan_files::plan_input;
 use clap::ArgMatches;
-use pit_cli::{CliFault, Input, Status, check, value};
+use pit_cli::{CliFault, Input, Status, check, plan, replay, value};
 use pit_num::Sink;
-use pit_planning::{PlanFault, plan};
-use pit_replay::{ReplayFault, replay};
 use std::alloc::Global;
 use std::sync::Wait;
 use std::thread::Threads;
@@ -27,7 +24,7 @@ pub fn run<D: Disk, R: Threads + Wait + Sync, W: Sink, L: Sink>(
     given: &ArgMatches<'_>,
     out: &mut W,
     report: &mut L,
-) -> Result<Status, EngineFault>
+) -> Result<Status, CliFault>
     ensures { let opens = file_opens (D.opens_at disk.now) given.now in
         let told = file_bytes (D.bytes_at disk.now) given.now in
         let written = writing_of (W.contents out.old) (W.contents out.new) (W.has_failed out.new) in
@@ -36,38 +33,10 @@ pub fn run<D: Disk, R: Threads + Wait + Sync, W: Sink, L: Sink>(
         IsRunOf engine opens told keeps given.now (out.new ≡ out.old) (report.new ≡ report.old) written lines result }
 {
     match engine {
-        Engine::Value => of_cli(run_value(alloc, disk, given, out)),
-        Engine::Check => of_cli(run_check(alloc, disk, given, out)),
-        Engine::Plan => of_plan(run_plan(alloc, disk, rt, given, out, report)),
-        Engine::Replay => of_replay(run_replay(alloc, disk, given, out)),
-    }
-}
-
-/// The answer of an engine whose faults are those of inputs and outputs.
-fn of_cli(answer: Result<Status, CliFault>) -> Result<Status, EngineFault>
-    ensures { result ≡ of_cli answer }
-{
-    match answer {
-        Ok(status) => Ok(status),
-        Err(fault) => Err(EngineFault::Cli(fault)),
-    }
-}
-
-fn of_plan(answer: Result<Status, PlanFault>) -> Result<Status, EngineFault>
-    ensures { result ≡ of_plan answer }
-{
-    match answer {
-        Ok(status) => Ok(status),
-        Err(fault) => Err(EngineFault::Plan(fault)),
-    }
-}
-
-fn of_replay(answer: Result<Status, ReplayFault>) -> Result<Status, EngineFault>
-    ensures { result ≡ of_replay answer }
-{
-    match answer {
-        Ok(status) => Ok(status),
-        Err(fault) => Err(EngineFault::Replay(fault)),
+        Engine::Value => run_value(alloc, disk, given, out),
+        Engine::Check => run_check(alloc, disk, given, out),
+        Engine::Plan => run_plan(alloc, disk, rt, given, out, report),
+        Engine::Replay => run_replay(alloc, disk, given, out),
     }
 }
 
@@ -111,25 +80,16 @@ fn run_replay<D: Disk, W: Sink>(
     disk: &D,
     given: &ArgMatches<'_>,
     out: &mut W,
-) -> Result<Status, ReplayFault>
+) -> Result<Status, CliFault>
     ensures { let told = file_bytes (D.bytes_at disk.now) given.now in
         let written = writing_of (W.contents out.old) (W.contents out.new) (W.has_failed out.new) in
         OpensEach (file_opens (D.opens_at disk.now) given.now) (inputs_of replay_engine)
-        (λ input. (result ≡ Err (ReplayFault.Cli (CliFault.CannotRead input))) × (out.new ≡ out.old))
+        (λ input. (result ≡ Err (CliFault.CannotRead input)) × (out.new ≡ out.old))
         (IsReplayRun told written result) }
 {
-    let mut model = match opened(disk, given, Input::Model) {
-        Ok(file) => file,
-        Err(fault) => return Err(ReplayFault::Cli(fault)),
-    };
-    let mut precedence = match opened(disk, given, Input::Precedence) {
-        Ok(file) => file,
-        Err(fault) => return Err(ReplayFault::Cli(fault)),
-    };
-    let mut history = match opened(disk, given, Input::History) {
-        Ok(file) => file,
-        Err(fault) => return Err(ReplayFault::Cli(fault)),
-    };
+    let mut model = opened(disk, given, Input::Model)?;
+    let mut precedence = opened(disk, given, Input::Precedence)?;
+    let mut history = opened(disk, given, Input::History)?;
     replay(alloc, alloc, &mut model, &mut precedence, &mut history, out)
 }
 
@@ -140,22 +100,22 @@ fn run_plan<D: Disk, R: Threads + Wait + Sync, W: Sink, L: Sink>(
     given: &ArgMatches<'_>,
     out: &mut W,
     report: &mut L,
-) -> Result<Status, PlanFault>
+) -> Result<Status, CliFault>
     ensures { let opens = file_opens (D.opens_at disk.now) given.now in
         let told = file_bytes (D.bytes_at disk.now) given.now in
         let written = writing_of (W.contents out.old) (W.contents out.new) (W.has_failed out.new) in
         let lines = writing_of (L.contents report.old) (L.contents report.new) (L.has_failed report.new) in
         let keeps = history_opens (D.keeps_at disk.now) given.now in
-        IsAskedPlan opens told keeps given.now written lines result }
+        IsPlanning opens told keeps given.now written lines result }
 {
     let retries = retries_of(given);
     let input = match plan_input(alloc, disk, given) {
         Ok(input) => input,
-        Err(fault) => return Err(PlanFault::Cli(fault)),
+        Err(fault) => return Err(fault),
     };
     let mut history = match history_file(disk, given) {
         Ok(history) => history,
-        Err(fault) => return Err(PlanFault::Cli(fault)),
+        Err(fault) => return Err(fault),
     };
     plan(alloc, rt, input, retries, out, report, &mut history)
 }

@@ -1,30 +1,26 @@
-//! The engines of `pit`: from the bytes of the inputs to the bytes of the answer.
+//! Several planners, each with a script, edit one schedule at once: from the texts of the inputs to the solution, the report and the history.
 //!
-//! An engine is a run of steps: it reads its inputs whole from devices, in order, and each is parsed before the next is read. What it writes is
-//! the text of what its inputs stand for, or nothing where an input has a fault or memory is wanting; the fault is the first one. As
-//! `one_outcome` says, what the devices show tells how a run ended. An engine in a crate above is made of the same steps: `bytes_of` reads an
-//! input, and `builder_of`, `ordered`, `placed`, `built` and `schedule_of` parse one each; `read_ordered_pit` reads and parses two, and
-//! `write_answer` writes.
+//! The texts are parsed in order. A desk is opened on the start, and a workspace on the desk, with a planner for each script. What is proved of their
+//! run is what `pit_run` says, after the opening history of that start; or the first fault is answered: of the texts, of the pit's limits, of the
+//! start, or of the number of planners. What is written is the solution that the closed history leaves, what is told of the runs, and the history
+//! where it is asked for. As `one_outcome` says, whether the texts are refused, and for which fault, is theirs alone, and the answer tells what was
+//! written.
 #![tactic(auto)]
 
-mod check_text;
-mod engines;
-mod fault;
-mod input;
+mod engine;
 mod outcome;
-mod parsed;
-mod planned;
-mod read;
-mod status;
-mod value_text;
+mod plan_input;
+mod planning;
+mod report;
+mod report_text;
+mod texts;
 
-pub use engines::check::{check, read_ordered_pit};
-pub use engines::value::value;
-pub use engines::write_answer;
-pub use fault::CliFault;
-pub use input::Input;
-pub use outcome::one_outcome;
-pub use parsed::{builder_of, built, bytes_of, ordered, placed, schedule_of};
-pub use read::{INPUT_BYTES_MAX, ReadError, read_all};
-pub use status::Status;
-pub use value_text::with_value;
+pub use engine::plan;
+pub use outcome::{one_closed_history, one_outcome};
+pub use pit_step::{
+    CliFault, INPUT_BYTES_MAX, Input, Micro, ReadError, Status, bytes_of, read_all,
+};
+pub use pit_view::{check, replay, value};
+pub use plan_input::PlanInput;
+pub use planning::planned_run;
+pub use report::write_report;

@@ -11,7 +11,7 @@ use Rattle.pit_job.specs.declared.outcome.RunEnd.{RunEnd}
 use Rattle.pit_job.specs.declared.outcome.RunEnd.TheVariants as end
 use Rattle.pit_job.specs.Outcomes.{IsItem}
 use Rattle.pit_job.specs.Runs.{Ran, RanFrom, EndedBefore}
-use Rattle.pit_job.specs.Laws.{of_job, HasOwnEffect, EndsAfter}
+use Rattle.pit_job.specs.JobByJob.{of_job, HasOwnEffect, EndsAfter}
 
 All-map : {X : Type 0} (P Q : X → Type 0) → ((x : X) → P x → Q x) → (xs : List X) → All P xs → All Q xs
 All-map P Q f xs all = λ k d less. f (get_or xs k d) (all k d less)

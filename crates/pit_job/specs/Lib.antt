@@ -2,5 +2,5 @@ pub mod Shifts
 pub mod Effect
 pub mod Outcomes
 pub mod Runs
-pub mod Laws
+pub mod JobByJob
 pub mod Inside

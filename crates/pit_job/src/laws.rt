@@ -9,7 +9,7 @@ ghost use Rattle.pit_job.specs.declared.outcome.Outcome.{Outcome};
 ghost use Rattle.pit_job.specs.declared.outcome.RunEnd.{RunEnd};
 ghost use Rattle.pit_job.specs.Effect.{Known, Agrees, Effect, effect, changes, unread, whole, HasEffect};
 ghost use Rattle.pit_job.specs.Runs.{RanFrom, Ran};
-ghost use Rattle.pit_job.specs.Laws.{of_job, HasOwnEffect, EndsAfter};
+ghost use Rattle.pit_job.specs.JobByJob.{of_job, HasOwnEffect, EndsAfter};
 
 /// A law of effects: where the effect over what was read isn't unread, whatever agrees with it has the same.
 pub fn one_effect()

@@ -6,7 +6,7 @@ use Rattle.std.proofs.lemmas.Int.{ints}
 use Rattle.std.proofs.lemmas.List.{length-replicate}
 use Rattle.std.specs.Int.{w64}
 use Rattle.pit_num.specs.declared.limits.TheConstants.{PERIODS_MAX, RATE_MAX}
-use Rattle.pit_model.specs.declared.limits.TheConstants.{BLOCKS_MAX, RESOURCES_MAX}
+use Rattle.pit_model.specs.declared.counts.TheConstants.{BLOCKS_MAX, RESOURCES_MAX}
 use Rattle.pit_model.specs.Pit.{Pit, IsSound, AreCoefs, ArePreds, coefs_of, empty_pit, with_pair, with_coef, preds_from, with_preds}
 use Rattle.pit_model.proofs.Rows.{get_or-replicate_default, set-each}
 use Rattle.pit_model.proofs.Coefs.{AreCoefs-with_pair}

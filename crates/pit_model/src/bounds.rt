@@ -3,7 +3,7 @@ ghost use Rattle.std.specs.Prelude.{◌≡◌, ℕ, ℤ, ◌<◌, ◌≤◌, ◌
 ghost use Rattle.pit_model.specs.Tightest.{LimitLine, with_line, AreTightest};
 ghost use Rattle.std.specs.Int.{int_max, int_min};
 ghost use Rattle.pit_num.specs.declared.limits.TheConstants.{PERIODS_MAX};
-ghost use Rattle.pit_model.specs.declared.limits.TheConstants.{RESOURCES_MAX};
+ghost use Rattle.pit_model.specs.declared.counts.TheConstants.{RESOURCES_MAX};
 ghost use Rattle.pit_model.specs.Pit.{Pit, is_below_zero, tighter_bound, empty_pit, with_profit, with_coef, with_preds, with_place};
 ghost use Rattle.pit_model.specs.Pit.{tighter_bounds as tighter_bounds_of};
 ghost use Rattle.pit_model.specs.Refusals.{is_empty_interval as is_empty};

@@ -1,7 +1,7 @@
 ghost use Rattle.std.specs.Prelude.{◌≡◌, ◌≤◌, ◌<◌, false, nat_le, None, is_some, slice_index_or, All, IfOk, IfErr, OnOk, OnErr, IsOk, MatchOption, IsErrOf};
 ghost use Rattle.std.specs.List.{list_any};
 ghost use Rattle.pit_num.specs.declared.limits.TheConstants.{PERIODS_MAX, RATE_MAX};
-ghost use Rattle.pit_model.specs.declared.limits.TheConstants.{BLOCKS_MAX, RESOURCES_MAX};
+ghost use Rattle.pit_model.specs.declared.counts.TheConstants.{BLOCKS_MAX, RESOURCES_MAX};
 ghost use Rattle.pit_model.specs.Pit.{empty_pit, with_profit, with_coef, with_preds, with_limit, with_place};
 ghost use Rattle.pit_model.specs.Refusals.{profit_refusal, coef_refusal, preds_refusal, limit_refusal, place_refusal};
 ghost use Rattle.pit_num.specs.Refused.{IsRefusedBy};

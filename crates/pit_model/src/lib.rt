@@ -8,9 +8,9 @@ mod block_set;
 mod bounds;
 mod builder;
 mod coefficients;
+mod counts;
 mod error;
 mod instance;
-mod limits;
 mod places;
 mod predecessors;
 mod profits;
@@ -19,6 +19,6 @@ mod successors;
 
 pub use bounds::bounds_are_tightest;
 pub use builder::Builder;
+pub use counts::{BLOCKS_MAX, RESOURCES_MAX};
 pub use error::BuildError;
 pub use instance::Instance;
-pub use limits::{BLOCKS_MAX, RESOURCES_MAX};

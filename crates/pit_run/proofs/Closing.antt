@@ -16,7 +16,7 @@ use Rattle.pit_script.specs.Jobs.{Job}
 use Rattle.pit_share.specs.Logs.{entries_of, IsPlanner}
 use Rattle.pit_job.proofs.CallerLemmas.{committed-effect}
 use Rattle.pit_job.specs.Runs.{RanFrom}
-use Rattle.pit_job.specs.Laws.{HasOwnEffect}
+use Rattle.pit_job.specs.JobByJob.{HasOwnEffect}
 use Rattle.pit_job.proofs.CallerLemmas.{own-effects}
 use Rattle.pit_run.specs.Reports.{RunState, RanScript, NotStarted, AllDid, IsReport}
 use Rattle.pit_run.specs.Laws.{IsOneByOne}

@@ -8,7 +8,7 @@ use Rattle.pit_model.specs.Pit.{Pit}
 use Rattle.pit_desk.specs.History.{Answered}
 use Rattle.pit_script.specs.Jobs.{Job}
 use Rattle.pit_share.specs.Planners.{PlannerState}
-use Rattle.pit_share.specs.Logs.{entries_of, IsPlanner, AreLogged}
+use Rattle.pit_share.specs.Logs.{entries_of, AreLogged}
 use Rattle.pit_share.specs.Opening.{AreSeats}
 use Rattle.pit_run.specs.Reports.{RunState, RanScript, PlannerRan, AllRan, AllDid}
 

@@ -5,7 +5,7 @@ use Rattle.pit_desk.specs.History.{Answered}
 use Rattle.pit_desk.specs.OneThread.{held_period_after}
 use Rattle.pit_desk.specs.declared.reply.EntryReply.TheVariants.{Committed}
 use Rattle.pit_script.specs.Jobs.{Job}
-use Rattle.pit_job.specs.Laws.{WroteEffect}
+use Rattle.pit_job.specs.JobByJob.{WroteEffect}
 
 -- its planner is one of the run's, and it wrote what its own job of that planner's script does to the schedule
 pub record DidOwnJob (pit : Pit) (scripts : List (List Job)) (schedule : ℕ → Option ℕ) (e : Answered) : Type 0 where

@@ -1,3 +1,14 @@
 pub mod Reports
 pub mod Laws
 pub mod Inside
+pub use Rattle.pit_script.specs.Words
+pub use Rattle.pit_script.specs.Numbers
+pub use Rattle.pit_script.specs.Benches
+pub use Rattle.pit_script.specs.Lines
+pub use Rattle.pit_script.specs.Jobs
+pub use Rattle.pit_script.specs.Ranges
+pub use Rattle.pit_job.specs.Shifts
+pub use Rattle.pit_job.specs.Effect
+pub use Rattle.pit_job.specs.Outcomes
+pub use Rattle.pit_job.specs.Runs
+pub use Rattle.pit_job.specs.JobByJob

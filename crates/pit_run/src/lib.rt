@@ -10,6 +10,10 @@ mod report;
 mod running;
 mod threads;
 
+pub use pit_job::{Gate, Open, Outcome, RETRIES_MAX, RunEnd, laws as job_laws, run_script};
+pub use pit_script::{
+    Benches, JOBS_MAX, JobEnd, SHIFT_MAX, Script, ScriptCause, ScriptError, Step, Word,
+};
 pub use planner_run::PlannerRun;
 pub use report::{Report, RunError};
 pub use running::run;

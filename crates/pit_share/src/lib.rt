@@ -27,6 +27,7 @@ pub use closed::Closed;
 pub use error::{CloseError, OpenError, ReadStop};
 pub use laws::{committed_is_seen, one_shared_history};
 pub use log::PlannerLog;
+pub use pit_board::Session;
 pub use planner::Planner;
 pub use seat::Seat;
 pub use transaction::Transaction;

@@ -5,7 +5,7 @@ use Rattle.std.specs.Str.{bytes_eq}
 use Rattle.pit_num.specs.Decimal.{whole_of, micro_of}
 use Rattle.pit_num.specs.declared.parse.NumError.{NumError}
 use Rattle.pit_num.specs.declared.limits.TheConstants.{PERIODS_MAX, RATE_MAX}
-use Rattle.pit_model.specs.declared.limits.TheConstants.{BLOCKS_MAX, RESOURCES_MAX}
+use Rattle.pit_model.specs.declared.counts.TheConstants.{BLOCKS_MAX, RESOURCES_MAX}
 use Rattle.pit_model.specs.Pit.{Pit, coefs_of}
 use Rattle.pit_model.specs.Refusals.{preds_refusal, place_refusal, is_empty_interval}
 use Rattle.pit_model.specs.declared.error.BuildError.{BuildError}

@@ -3,7 +3,7 @@ use Rattle.std.specs.Prelude.{ℕ, ◌≤◌, ℤ, List, Option, nat_eq, is_some
 use Rattle.pit_model.specs.Fitting.{Fits, RevisionsFit}
 use Rattle.pit_keyed.specs.Keyed.{at_key}
 use Rattle.pit_num.specs.declared.limits.TheConstants.{PERIODS_MAX}
-use Rattle.pit_model.specs.declared.limits.TheConstants.{BLOCKS_MAX, RESOURCES_MAX}
+use Rattle.pit_model.specs.declared.counts.TheConstants.{BLOCKS_MAX, RESOURCES_MAX}
 
 pub record Sets : Type 0 where
   -- who made it, for which of its jobs, and after how many commits

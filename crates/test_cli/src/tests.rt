@@ -1,87 +1,171 @@
-//! The engines against answers that were calculated by hand, devices that fail, and want of memory.
-mod answers;
-mod devices;
+//! Plans on the small pit.
+ghost use Rattle.std.specs.Prelude.{◌≤◌};
+
 mod faults;
 mod memory;
-mod reading;
+mod rows;
 
-use pit_cli::{CliFault, Status, check, value};
-use pit_num::{In, Out, Sink, Source};
-use pit_sample::{TINY_MODEL, TINY_PRECEDENCE, TINY_SOLUTION};
-use std::alloc::Global;
+use pit_cli::{PlanInput, plan};
+use pit_sample::{Narrow, TINY_MODEL, TINY_PRECEDENCE};
+use pit_step::{CliFault, Status};
+use std::alloc::{Allocator, Global};
 use std::process::Abort;
-use std::test::Fail;
+use std::sync::Wait;
+use std::thread::Threads;
 
-/// What `check` writes of the small pit and its solution: the load of 4 in period 0 is at its limit, and that of 3 in period 1 between 1
-/// and 4.
-const FINE: &[u8] = b"value 37.772727272730000000\nfine\n";
-
-/// What an engine answers, and what it writes.
-type Answered = (Result<Status, CliFault>, Vec<u8>);
-
-/// What `value` answers to such sources.
-fn valued<M: Source, S: Source>(alloc: Global, model: &mut M, solution: &mut S) -> Answered {
-    let mut out = Out::new(Vec::new(alloc));
-    let answer = value(alloc, model, solution, &mut out);
-    (answer, out.into_inner())
+/// What a plan is made of.
+#[derive(Clone, Copy)]
+struct Given<'a> {
+    model: &'a [u8],
+    precedence: &'a [u8],
+    blocks: Option<&'a [u8]>,
+    start: Option<&'a [u8]>,
+    scripts: &'a [&'a [u8]],
 }
 
-/// What `check` answers to such sources.
-fn checked<M: Source, P: Source, S: Source>(
-    alloc: Global,
-    model: &mut M,
-    precedence: &mut P,
-    solution: &mut S,
-) -> Answered {
-    let mut out = Out::new(Vec::new(alloc));
-    let answer = check(alloc, model, precedence, solution, &mut out);
-    (answer, out.into_inner())
-}
+/// The small pit without places, and no block of it mined.
+const BARE: Given<'static> = Given {
+    model: TINY_MODEL,
+    precedence: TINY_PRECEDENCE,
+    blocks: None,
+    start: None,
+    scripts: &[],
+};
 
-/// Whether an engine answered so, and wrote this.
-fn is_answer(answered: Answered, answer: Result<Status, CliFault>, written: &[u8]) -> bool {
-    let (found, text) = answered;
-    let is = found == answer && text.as_slice() == written;
-    drop(text);
-    is
-}
-
-/// What `value` answers for the small pit and its solution.
-fn value_to<W: Sink>(alloc: Global, out: &mut W) -> Result<Status, CliFault> {
-    value(
-        alloc,
-        &mut In::new(TINY_MODEL),
-        &mut In::new(TINY_SOLUTION),
-        out,
-    )
-}
-
-/// What `check` answers for them.
-fn check_to<W: Sink>(alloc: Global, out: &mut W) -> Result<Status, CliFault> {
-    check(
-        alloc,
-        &mut In::new(TINY_MODEL),
-        &mut In::new(TINY_PRECEDENCE),
-        &mut In::new(TINY_SOLUTION),
-        out,
-    )
-}
-
-/// The answer is a fault with this line and this status.
-fn assert_fault(
-    rt: &impl Abort,
-    alloc: Global,
+/// How a plan ends, and what it writes.
+#[derive(Drop)]
+struct Ended {
     answer: Result<Status, CliFault>,
-    line: &str,
-    status: u8,
-) -> Result<(), Fail> {
-    let Err(fault) = answer else {
-        panic!(rt; "no fault for {line}");
-    };
-    let found = fault.status();
-    assert!(rt; found == status, "{found} for {status} of {line}");
-    let shown = format!(in alloc; "{fault}")?;
-    assert!(rt; shown.as_str() == line, "{shown} for {line}");
-    drop(shown);
-    Ok(())
+    solution: Narrow,
+    report: Narrow,
+    history: Option<Narrow>,
 }
+
+/// For how many bytes its outputs have room.
+#[derive(Clone, Copy)]
+struct Rooms {
+    solution: usize,
+    report: usize,
+    /// Where a history is wanted.
+    history: Option<usize>,
+}
+
+/// Room for all that a plan on the small pit writes.
+const ROOM: usize = 10_000;
+
+const ROOMS: Rooms = Rooms {
+    solution: ROOM,
+    report: ROOM,
+    history: None,
+};
+
+/// A device for a history, where one is wanted.
+fn device_if(alloc: Global, room: Option<usize>) -> Option<Narrow> {
+    match room {
+        Some(room) => Some(Narrow::new(alloc, 7, room)),
+        None => None,
+    }
+}
+
+fn bytes_of<A: Allocator + Copy + Drop>(rt: &impl Abort, alloc: A, text: &[u8]) -> Vec<u8, A> {
+    let mut bytes = Vec::new(alloc);
+    assert!(rt; bytes.extend_from_slice(text).is_ok());
+    bytes
+}
+
+fn bytes_if<A: Allocator + Copy + Drop>(
+    rt: &impl Abort,
+    alloc: A,
+    text: Option<&[u8]>,
+) -> Option<Vec<u8, A>> {
+    match text {
+        Some(text) => Some(bytes_of(rt, alloc, text)),
+        None => None,
+    }
+}
+
+fn input_of<A: Allocator + Copy + Drop>(
+    rt: &impl Abort,
+    alloc: A,
+    given: Given<'_>,
+) -> PlanInput<A> {
+    let mut scripts = Vec::new(alloc);
+    for text in given.scripts {
+        let bytes = bytes_of(rt, alloc, text);
+        let Ok(()) = scripts.push(bytes) else {
+            panic!(rt; "memory")
+        };
+    }
+    PlanInput::new(
+        bytes_of(rt, alloc, given.model),
+        bytes_of(rt, alloc, given.precedence),
+        bytes_if(rt, alloc, given.blocks),
+        bytes_if(rt, alloc, given.start),
+        scripts,
+    )
+}
+
+/// What a plan does, where its outputs have room for so many bytes.
+fn planned_in<R: Threads + Wait + Abort + Sync>(
+    rt: &R,
+    alloc: Global,
+    given: Given<'_>,
+    rooms: Rooms,
+) -> Ended {
+    let mut solution = Narrow::new(alloc, 7, rooms.solution);
+    let mut report = Narrow::new(alloc, 7, rooms.report);
+    let mut history = device_if(alloc, rooms.history);
+    let input = input_of(rt, alloc, given);
+    let answer = plan(
+        alloc,
+        rt,
+        input,
+        3,
+        &mut solution,
+        &mut report,
+        &mut history,
+    );
+    Ended {
+        answer,
+        solution,
+        report,
+        history,
+    }
+}
+
+fn planned<R: Threads + Wait + Abort + Sync>(rt: &R, alloc: Global, given: Given<'_>) -> Ended {
+    planned_in(rt, alloc, given, ROOMS)
+}
+
+/// It answers so, and writes these texts.
+fn assert_ended(
+    rt: &impl Abort,
+    ended: &Ended,
+    answer: Result<Status, CliFault>,
+    solution: &[u8],
+    report: &[u8],
+) {
+    assert!(rt; ended.answer == answer);
+    assert!(rt; ended.solution.held() == solution);
+    assert!(rt; ended.report.held() == report);
+}
+
+/// What it wrote for a history.
+fn history_of(ended: &Ended) -> &[u8] {
+    match &ended.history {
+        Some(device) => device.held(),
+        None => &[],
+    }
+}
+
+/// It answers this fault, and writes nothing.
+fn assert_refused<R: Threads + Wait + Abort + Sync>(
+    rt: &R,
+    alloc: Global,
+    given: Given<'_>,
+    fault: CliFault,
+) {
+    assert_ended(rt, &planned(rt, alloc, given), Err(fault), b"", b"");
+}
+
+const CANNOT_WRITE: CliFault = CliFault::CannotWrite;

@@ -7,14 +7,14 @@ mod memory;
 mod replies;
 mod worked;
 
-use pit_cli::Status;
 use pit_num::{In, Out, Sink, Source};
-use pit_replay::{ReplayFault, replay};
 use pit_sample::{TINY_MODEL, TINY_PRECEDENCE};
+use pit_step::{CliFault, Status};
+use pit_view::replay;
 use std::alloc::Global;
 
 /// What a replay answers, and what it writes.
-type Answered = (Result<Status, ReplayFault>, Vec<u8>);
+type Answered = (Result<Status, CliFault>, Vec<u8>);
 
 /// What a replay answers to such sources.
 fn replayed<M: Source, P: Source, H: Source>(
@@ -29,7 +29,7 @@ fn replayed<M: Source, P: Source, H: Source>(
 }
 
 /// What a replay of a history of the small pit answers.
-fn replay_to<W: Sink>(alloc: Global, history: &[u8], out: &mut W) -> Result<Status, ReplayFault> {
+fn replay_to<W: Sink>(alloc: Global, history: &[u8], out: &mut W) -> Result<Status, CliFault> {
     replay(
         alloc,
         alloc,
@@ -41,7 +41,7 @@ fn replay_to<W: Sink>(alloc: Global, history: &[u8], out: &mut W) -> Result<Stat
 }
 
 /// Whether a replay answered so, and wrote this.
-fn is_answer(answered: &Answered, answer: Result<Status, ReplayFault>, written: &[u8]) -> bool {
+fn is_answer(answered: &Answered, answer: Result<Status, CliFault>, written: &[u8]) -> bool {
     answered.0 == answer && answered.1.as_slice() == written
 }
 
@@ -49,7 +49,7 @@ fn is_answer(answered: &Answered, answer: Result<Status, ReplayFault>, written: 
 fn is_replayed(
     alloc: Global,
     history: &[u8],
-    answer: Result<Status, ReplayFault>,
+    answer: Result<Status, CliFault>,
     written: &[u8],
 ) -> bool {
     let mut out = Out::new(Vec::new(alloc));

@@ -1,5 +1,5 @@
-//! The tests of `pit_run`, `pit_effect`, `pit_job` and `pit_report`, and of `planned_run`, in a crate of their own: a crate that has tests is proved
-//! a second time with them.
+//! The tests of `pit_run` and `pit_job`, of `planned_run` and of reports, in a crate of their own: a crate that has tests is proved a second
+//! time with them.
 #![tactic(auto)]
 
 #[cfg(test)]

@@ -1,7 +1,7 @@
 //! The three sets against lists that were written down by hand.
 use linked_list_allocator::LocalHeap;
-use pit_num::PERIODS_MAX;
 use pit_model::{BLOCKS_MAX, RESOURCES_MAX};
+use pit_num::PERIODS_MAX;
 use pit_refuse::Refusing;
 use pit_tx::{Work, WorkError};
 use std::alloc::{Allocator, Global};

@@ -2,7 +2,7 @@
 use Rattle.std.specs.Prelude.{◌≡◌, ℕ, ◌≤◌, List, [], length, Option, is_none, find, Some, None, false, slice_index_or, unwrap_or}
 use Rattle.std.specs.List.{list_any}
 use Rattle.pit_num.specs.declared.limits.TheConstants.{PERIODS_MAX, RATE_MAX}
-use Rattle.pit_model.specs.declared.limits.TheConstants.{BLOCKS_MAX, RESOURCES_MAX}
+use Rattle.pit_model.specs.declared.counts.TheConstants.{BLOCKS_MAX, RESOURCES_MAX}
 use Rattle.pit_model.specs.Pit.{Pit}
 use Rattle.pit_text.specs.declared.model.key.Key.{Key}
 use Rattle.pit_text.specs.declared.model.key.Key.TheVariants.{Kind, Blocks, Periods, Resources, Rate, Destinations, Generals}

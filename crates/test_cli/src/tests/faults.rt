@@ -1,106 +1,115 @@
-//! The line of each fault, and its status.
-use super::{assert_fault, checked};
-use pit_cli::{CliFault, Input, Status};
-use pit_num::In;
-use pit_sample::{TINY_MODEL, TINY_PRECEDENCE};
-use pit_text::{Cause, TextError};
-use std::alloc::Global;
-use std::process::Abort;
-use std::test::Fail;
+//! The first fault of the texts, and what has one behind them.
+use super::{BARE, Given, assert_refused};
+use pit_model::BuildError;
+use pit_num::NumError;
+use pit_sample::TINY_BLOCKS;
+use pit_script::{ScriptCause, ScriptError};
+use pit_step::{CliFault, Input, Micro};
+use pit_text::{Cause, Key, TextError};
 
-/// Nothing is written, and the fault has this line and the status of a refused input.
-fn assert_refused(rt: &impl Abort, alloc: Global, texts: Texts, line: &str) -> Result<(), Fail> {
-    let answer = answer_of(rt, alloc, texts, line);
-    assert_fault(rt, alloc, answer, line, 2)
-}
+/// Refused by each reader, at its first line.
+const BAD: &[u8] = b"no model\n";
 
-/// What `check` answers to texts that have the fault of this line. It writes nothing.
-fn answer_of(rt: &impl Abort, alloc: Global, texts: Texts, line: &str) -> Result<Status, CliFault> {
-    let (model, precedence, solution) = texts;
-    let (answer, written) = checked(
-        alloc,
-        &mut In::new(model),
-        &mut In::new(precedence),
-        &mut In::new(solution),
-    );
-    assert!(rt; written.is_empty(), "of {line}");
-    drop(written);
-    answer
-}
-
-/// A model, precedences and a solution.
-type Texts = (&'static [u8], &'static [u8], &'static [u8]);
-
-const TEXTS: &[(Texts, &str)] = &[
-    ((b"", b"x", b"x"), "pit: model line 1: missing TYPE"),
-    (
-        (b"NAME: Tiny\nTYPE: PCPSP\n", b"", b""),
-        "pit: model line 2: not cpit",
-    ),
-    (
-        (TINY_MODEL, b"2 3 0 1", b"x"),
-        "pit: precedence line 1: predecessor count",
-    ),
-    (
-        (TINY_MODEL, TINY_PRECEDENCE, b"4 0"),
-        "pit: solution line 1: block out of range",
-    ),
-];
-
-// The first of the inputs that has one.
-#[test]
-fn of_texts(rt: HostRuntime) -> Result<(), Fail> {
-    for (texts, line) in TEXTS {
-        assert_refused(&rt, rt.alloc(), *texts, line)?;
-    }
-    Ok(())
-}
-
-const ERROR: TextError = TextError {
-    line: 7,
-    cause: Cause::NotAscii,
-};
-
-/// A fault, its line and its status.
-const FAULTS: &[(CliFault, &str, u8)] = &[
-    (
-        CliFault::Text {
-            file: Input::Model,
-            error: ERROR,
-        },
-        "pit: model line 7: not ascii",
-        2,
-    ),
-    (CliFault::TooLong(Input::Model), "pit: model: too long", 2),
-    (
-        CliFault::TooLong(Input::Precedence),
-        "pit: precedence: too long",
-        2,
-    ),
-    (
-        CliFault::CannotRead(Input::Model),
-        "pit: cannot read model",
-        3,
-    ),
-    (
-        CliFault::CannotRead(Input::Solution),
-        "pit: cannot read solution",
-        3,
-    ),
-    (CliFault::CannotWrite, "pit: cannot write", 3),
-    (CliFault::NoMemory, "pit: no memory", 3),
-];
-
-#[test]
-fn each_has_its_line_and_status(rt: HostRuntime) -> Result<(), Fail> {
-    for (fault, line, status) in FAULTS {
-        assert_fault(&rt, rt.alloc(), Err(*fault), line, *status)?;
-    }
-    Ok(())
+fn of_text(file: Input, line: u64, cause: Cause) -> CliFault {
+    let error = TextError { line, cause };
+    CliFault::Text { file, error }
 }
 
 #[test]
-fn answers_have_their_codes(rt: HostRuntime) {
-    assert_eq!(rt; Status::Fine.code(), 0);
-    assert_eq!(rt; Status::Failed.code(), 1);
+fn a_bad_model(rt: HostRuntime) {
+    let given = Given {
+        model: BAD,
+        precedence: BAD,
+        blocks: Some(BAD),
+        start: Some(BAD),
+        scripts: &[BAD],
+    };
+    let fault = of_text(Input::Model, 2, Cause::MissingHeader(Key::Kind));
+    assert_refused(&rt, rt.alloc(), given, fault);
+}
+
+#[test]
+fn bad_precedences(rt: HostRuntime) {
+    let given = Given {
+        precedence: BAD,
+        blocks: Some(BAD),
+        start: Some(BAD),
+        scripts: &[BAD],
+        ..BARE
+    };
+    let fault = of_text(Input::Precedence, 1, Cause::BadNumber(NumError::Malformed));
+    assert_refused(&rt, rt.alloc(), given, fault);
+}
+
+#[test]
+fn bad_blocks(rt: HostRuntime) {
+    let given = Given {
+        blocks: Some(BAD),
+        start: Some(BAD),
+        scripts: &[BAD],
+        ..BARE
+    };
+    let fault = of_text(Input::Blocks, 1, Cause::FieldCount);
+    assert_refused(&rt, rt.alloc(), given, fault);
+}
+
+#[test]
+fn a_bad_start(rt: HostRuntime) {
+    let given = Given {
+        blocks: Some(TINY_BLOCKS),
+        start: Some(b"0 2\n"),
+        scripts: &[BAD],
+        ..BARE
+    };
+    let fault = of_text(Input::Start, 1, Cause::Build(BuildError::PeriodRange));
+    assert_refused(&rt, rt.alloc(), given, fault);
+}
+
+/// Before the start's own breach.
+#[test]
+fn a_bad_script(rt: HostRuntime) {
+    let given = Given {
+        start: Some(b"2 0\n"),
+        scripts: &[b"", b"begin\nbench 0 0\ncommit\n", BAD],
+        ..BARE
+    };
+    let error = ScriptError {
+        line: 2,
+        cause: ScriptCause::NoBench,
+    };
+    let fault = CliFault::Script { number: 2, error };
+    assert_refused(&rt, rt.alloc(), given, fault);
+}
+
+#[test]
+fn an_early_start(rt: HostRuntime) {
+    let given = Given {
+        start: Some(b"2 0\n"),
+        ..BARE
+    };
+    let fault = CliFault::StartPrecedence {
+        block: 2,
+        before: 0,
+    };
+    assert_refused(&rt, rt.alloc(), given, fault);
+}
+
+#[test]
+fn a_heavy_start(rt: HostRuntime) {
+    let given = Given {
+        start: Some(b"0 0\n1 0\n3 0\n"),
+        ..BARE
+    };
+    let fault = CliFault::StartOver {
+        resource: 0,
+        period: 0,
+        load: Micro(5_000_000),
+        limit: Micro(4_000_000),
+    };
+    assert_refused(&rt, rt.alloc(), given, fault);
+}
+
+#[test]
+fn no_script(rt: HostRuntime) {
+    assert_refused(&rt, rt.alloc(), BARE, CliFault::PlannerCount);
 }

@@ -1,30 +1,102 @@
-//! Want of memory, and what is freed after a fault.
-mod engines;
-mod long;
-mod reads;
-mod runs;
-mod steps;
+//! Each request of a plan refused in turn.
+use super::{BARE, Given, ROOM, input_of};
+use pit_cli::plan;
+use pit_refuse::{Count, Refusing};
+use pit_sample::{Narrow, TINY_BLOCKS};
+use pit_step::{CliFault, Status};
+use std::alloc::Global;
+use std::process::Abort;
+use std::sync::Wait;
+use std::thread::Threads;
 
-use linked_list_allocator::LocalHeap;
-use pit_refuse::Refusing;
-use pit_sample::Broken;
+/// An allocator that counts requests, and refuses one or none.
+type Heap<'a> = &'a Refusing<Global>;
 
-/// An allocator that refuses one request.
-type Heap<'a> = &'a Refusing<LocalHeap>;
+const GIVEN: Given<'static> = Given {
+    blocks: Some(TINY_BLOCKS),
+    start: Some(b"0 0\n"),
+    scripts: &[b"begin\nput 1 0\ncommit\nbegin\nbench 2 1\ncommit\nbegin\nread 3\nabort\n"],
+    ..BARE
+};
 
-/// The bytes of a heap, of which no call takes half.
-const BYTES: usize = 4_194_304;
+const SOLUTION: &[u8] = b"0 0\n1 0\n";
 
-/// The bytes that a device gives or takes at once, so that what is read grows by doubling.
-const PIECE: usize = 1_000;
+const REPORT: &[u8] = b"planner 1 job 1 committed 2 tries 1
+planner 1 job 2 refused precedence 1 0 tries 1
+planner 1 job 3 withdrawn tries 1
+value 10.500000000000000000
+short 0 1 0.000000 1.000000
+";
 
-/// More calls than it takes to read a text.
-const ALL: usize = 1_000;
+/// And the history.
+const HISTORY: &[u8] = br#"{"format":1}
+{"act":"commit","job":0,"planner":0,"reads":[],"reply":{"committed":1},"start":0,"writes":[[0,0]]}
+{"act":"commit","job":1,"planner":1,"reads":[],"reply":{"committed":2},"start":1,"writes":[[1,0]]}
+{"act":"commit","job":2,"planner":1,"reads":[],"reply":{"precedence":[1,0]},"start":2,"writes":[[0,1],[3,1]]}
+{"act":"withdraw","job":3,"planner":1,"reads":[[3,null]],"reply":"withdrawn","start":2,"writes":[]}
+"#;
 
-/// A text, and how many calls its device answers before it fails.
-type Given<'a> = (&'a [u8], usize);
+/// The count of requests before the plan, and behind it.
+fn planned<'a, R: Threads + Wait + Abort + Sync>(
+    rt: &R,
+    alloc: Global,
+    heap: Heap<'a>,
+) -> (Count, Count) {
+    let mut solution = Narrow::new(alloc, 100, ROOM);
+    let mut report = Narrow::new(alloc, 100, ROOM);
+    let mut history = Some(Narrow::new(alloc, 100, ROOM));
+    let input = input_of(rt, heap, GIVEN);
+    let before = heap.count();
+    let answer = plan(heap, rt, input, 3, &mut solution, &mut report, &mut history);
+    let after = heap.count();
+    let kept = match &history {
+        Some(device) => device.held(),
+        None => &[],
+    };
+    match answer {
+        Ok(status) => {
+            assert!(rt; status == Status::Failed);
+            assert!(rt; solution.held() == SOLUTION);
+            assert!(rt; report.held() == REPORT);
+            assert!(rt; kept == HISTORY);
+        }
+        Err(CliFault::Stopped) => assert_stopped(rt, heap, report.held(), kept),
+        Err(fault) => {
+            assert!(rt; fault == CliFault::NoMemory);
+            assert!(rt; heap.count().has_refused());
+            assert!(rt; solution.held().is_empty());
+            assert!(rt; report.held().is_empty());
+            assert!(rt; kept.is_empty());
+        }
+    }
+    (before, after)
+}
 
-fn device<'a>(given: Given<'a>) -> Broken<'a> {
-    let (text, calls) = given;
-    Broken::new(text, PIECE, calls)
+/// A planner stopped for want of memory, and its jobs before that are told as ever, as are their entries.
+fn assert_stopped<'a>(rt: &impl Abort, heap: Heap<'a>, report: &[u8], history: &[u8]) {
+    assert!(rt; heap.count().has_refused());
+    let told = TOLD.iter().any(|lines| report.starts_with(lines));
+    assert!(rt; told);
+    assert!(rt; !history.is_empty() && history.ends_with(b"\n") && HISTORY.starts_with(history));
+}
+
+/// What is told of a planner who stops at each of the jobs.
+const TOLD: &[&[u8]] = &[
+    b"planner 1 stopped at job 1: no memory\nvalue -10.000000000000000000\n",
+    b"planner 1 job 1 committed 2 tries 1\nplanner 1 stopped at job 2: no memory\nvalue 10.500000000000000000\n",
+    b"planner 1 job 1 committed 2 tries 1\nplanner 1 job 2 refused precedence 1 0 tries 1\nplanner 1 stopped at job 3: no memory\nvalue 10.500000000000000000\n",
+    b"planner 1 not started\nvalue -10.000000000000000000\n",
+];
+
+#[test]
+fn each_request(rt: HostRuntime) {
+    let alloc = rt.alloc();
+    let none = Refusing::new(alloc, 0);
+    let (before, after) = planned(&rt, alloc, &none);
+    assert!(rt; before.asked.wrapping_add(50) < after.asked);
+    for number in before.asked..after.asked {
+        let heap = Refusing::new(alloc, number.wrapping_add(1));
+        let (again, _) = planned(&rt, alloc, &heap);
+        assert!(rt; again.asked == before.asked);
+    }
 }

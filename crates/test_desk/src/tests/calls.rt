@@ -1,7 +1,7 @@
 //! How transactions end, and the works and entries of them.
 use pit_desk::{Act, Entry, EntryReply};
-use pit_num::PERIODS_MAX;
 use pit_model::{BLOCKS_MAX, RESOURCES_MAX};
+use pit_num::PERIODS_MAX;
 use pit_sample::Size;
 use pit_tx::{Work, WorkError};
 use std::alloc::Allocator;

@@ -2,9 +2,8 @@
 use super::assert_tiny;
 use Fact::{Coef, Limit, Place, Preds, Profit};
 use linked_list_allocator::LocalHeap;
-use pit_model::{BuildError, Builder, Instance};
+use pit_model::{BuildError, Builder, Instance, RESOURCES_MAX};
 use pit_num::NoMemory;
-use pit_model::RESOURCES_MAX;
 use pit_refuse::Refusing;
 use pit_sample::{Fact, Size, TINY, TINY_PLACES, TINY_SIZE, tell};
 use std::alloc::{Allocator, Global};

@@ -1,10 +1,9 @@
 //! Devices that give or take little, and then fail.
 use super::histories::{LOADING, LOADING_LEGAL};
 use super::{is_answer, replay_to, replayed};
-use pit_cli::{CliFault, Input, Status};
 use pit_num::In;
-use pit_replay::ReplayFault;
 use pit_sample::{Broken, Narrow, TINY_MODEL, TINY_PRECEDENCE};
+use pit_step::{CliFault, Input, Status};
 use std::alloc::Global;
 
 /// A history, and what is written of it.
@@ -20,8 +19,7 @@ const WRITTEN: &[(&str, &str)] = &[
 fn is_front(alloc: Global, history: &str, written: &str, room: usize) -> bool {
     let mut out = Narrow::new(alloc, 5, room);
     let answer = replay_to(alloc, history.as_bytes(), &mut out);
-    answer == Err(ReplayFault::Cli(CliFault::CannotWrite))
-        && Some(out.held()) == written.as_bytes().get(..room)
+    answer == Err(CliFault::CannotWrite) && Some(out.held()) == written.as_bytes().get(..room)
 }
 
 // At room 0 it takes no byte.
@@ -64,7 +62,7 @@ fn is_without_history(alloc: Global, calls: usize) -> bool {
     let mut history = Broken::new(LOADING.as_bytes(), 1, calls);
     let answered = replayed(alloc, &mut model, &mut precedence, &mut history);
     let fault = CliFault::CannotRead(Input::History);
-    is_answer(&answered, Err(ReplayFault::Cli(fault)), b"")
+    is_answer(&answered, Err(fault), b"")
 }
 
 #[test]
@@ -85,7 +83,7 @@ fn is_without_precedences(alloc: Global, calls: usize) -> bool {
         &mut history,
     );
     let fault = CliFault::CannotRead(Input::Precedence);
-    is_answer(&answered, Err(ReplayFault::Cli(fault)), b"") && history.rest().len() == 1
+    is_answer(&answered, Err(fault), b"") && history.rest().len() == 1
 }
 
 /// The same of the model.
@@ -95,7 +93,7 @@ fn is_without_model(alloc: Global, calls: usize) -> bool {
     let mut precedence = In::new(TINY_PRECEDENCE);
     let answered = replayed(alloc, &mut model, &mut precedence, &mut history);
     let fault = CliFault::CannotRead(Input::Model);
-    is_answer(&answered, Err(ReplayFault::Cli(fault)), b"") && history.rest().len() == 1
+    is_answer(&answered, Err(fault), b"") && history.rest().len() == 1
 }
 
 #[test]

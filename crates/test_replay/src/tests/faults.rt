@@ -1,10 +1,9 @@
 //! The line of each fault, and its status.
 use super::histories::LOADING;
 use super::replayed;
-use pit_cli::{CliFault, Input, Status};
 use pit_num::In;
-use pit_replay::ReplayFault;
 use pit_sample::{TINY_COEFFICIENTS, TINY_HEADER, TINY_MODEL, TINY_OBJECTIVE, TINY_PRECEDENCE};
+use pit_step::{CliFault, Input, Status};
 use std::alloc::{AllocError, Global};
 use std::process::Abort;
 use std::test::Fail;
@@ -13,7 +12,7 @@ use std::test::Fail;
 fn assert_fault(
     rt: &impl Abort,
     alloc: Global,
-    answer: Result<Status, ReplayFault>,
+    answer: Result<Status, CliFault>,
     line: &str,
     status: u8,
 ) -> Result<(), Fail> {
@@ -144,7 +143,7 @@ fn each_has_its_line_and_status(rt: HostRuntime) -> Result<(), Fail> {
         (CliFault::CannotWrite, "pit: cannot write", 3),
         (CliFault::NoMemory, "pit: no memory", 3),
     ] {
-        assert_fault(&rt, rt.alloc(), Err(ReplayFault::Cli(fault)), line, status)?;
+        assert_fault(&rt, rt.alloc(), Err(fault), line, status)?;
     }
     Ok(())
 }

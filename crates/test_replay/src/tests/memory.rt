@@ -2,11 +2,11 @@
 use super::histories::{LOADING, LOADING_LEGAL, REVISING, REVISING_LEGAL};
 use LinesCause::Shape;
 use linked_list_allocator::LocalHeap;
-use pit_cli::{CliFault, Input, Status};
 use pit_lines::{LinesCause, LinesError};
 use pit_refuse::Refusing;
-use pit_replay::{ReplayFault, replay};
 use pit_sample::{Broken, Narrow, TINY_MODEL, TINY_PRECEDENCE};
+use pit_step::{CliFault, Input, Status};
+use pit_view::replay;
 use std::alloc::Global;
 use std::fmt::Write;
 use std::process::Abort;
@@ -28,7 +28,7 @@ const ALL: usize = 1_000;
 struct Run<'a> {
     history: &'a str,
     calls: usize,
-    answer: Result<Status, ReplayFault>,
+    answer: Result<Status, CliFault>,
     written: &'a str,
 }
 
@@ -38,7 +38,7 @@ fn answer_of(
     plain: Global,
     run: Run<'_>,
     out: &mut Narrow,
-) -> Result<Status, ReplayFault> {
+) -> Result<Status, CliFault> {
     replay(
         heap,
         plain,
@@ -54,7 +54,7 @@ fn is_right(rt: &impl Abort, heap: Heap<'_>, plain: Global, run: Run<'_>) -> boo
     let mut out = Narrow::new(plain, PIECE, run.written.len());
     let answer = answer_of(heap, plain, run, &mut out);
     assert!(rt; heap.used() == 0);
-    if answer == Err(ReplayFault::Cli(CliFault::NoMemory)) {
+    if answer == Err(CliFault::NoMemory) {
         assert!(rt; out.held().is_empty());
         return false;
     }
@@ -131,7 +131,7 @@ const OTHERS: &[Run<'static>] = &[
     },
     Run {
         history: CUT,
-        answer: Err(ReplayFault::History(LinesError {
+        answer: Err(CliFault::History(LinesError {
             line: 3,
             cause: Shape,
         })),
@@ -140,12 +140,12 @@ const OTHERS: &[Run<'static>] = &[
     },
     Run {
         calls: 1,
-        answer: Err(ReplayFault::Cli(CliFault::CannotRead(Input::History))),
+        answer: Err(CliFault::CannotRead(Input::History)),
         written: "",
         ..LEGAL
     },
     Run {
-        answer: Err(ReplayFault::Cli(CliFault::CannotWrite)),
+        answer: Err(CliFault::CannotWrite),
         written: "legal 3",
         ..LEGAL
     },

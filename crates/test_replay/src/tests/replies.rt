@@ -3,7 +3,7 @@ use super::histories::{
     GIVING_UP, GIVING_UP_LEGAL, LOADING, LOADING_LEGAL, MEETING, MEETING_LEGAL, REVISING,
 };
 use super::is_replayed;
-use pit_cli::Status;
+use pit_step::Status;
 use std::alloc::{AllocError, Global};
 use std::test::Fail;
 

@@ -1,7 +1,7 @@
 //! Worked examples, byte for byte.
 use super::histories::{LOADING, LOADING_LEGAL, MEETING, MEETING_LEGAL, REVISING, REVISING_LEGAL};
 use super::is_replayed;
-use pit_cli::Status;
+use pit_step::Status;
 use std::alloc::Global;
 
 /// A history, and what is written of it.

@@ -1,12 +1,13 @@
-//! The lines that tell how a run ended.
+//! The report of a run.
 use super::rows::{REVISED, THREE};
 use super::{empty_desk, report_of, started_desk};
-use pit_cli::with_value;
+use pit_cli::write_report;
 use pit_job::Open;
+use pit_num::Out;
 use pit_refuse::Refusing;
-use pit_report::run_lines;
 use pit_run::Report;
-use std::alloc::Global;
+use pit_step::CliFault;
+use std::alloc::{Allocator, Global};
 use std::process::Abort;
 use std::sync::Wait;
 use std::thread::Threads;
@@ -21,6 +22,8 @@ const ROWS: &[(u32, &[u8], &str)] = &[
 planner 1 job 1 committed 1 tries 1
 planner 1 job 2 refused over 0 0 5.000000 4.000000 tries 1
 planner 1 stopped at job 3: full
+value 10.500000000000000000
+short 0 1 0.000000 1.000000
 ",
     ),
     (
@@ -30,20 +33,29 @@ planner 1 stopped at job 3: full
 planner 1 job 1 committed 1 tries 1
 planner 1 job 2 committed 2 tries 1
 planner 1 job 3 refused over 0 0 5.000000 4.000000 tries 1
+value 15.500000000000000000
+short 0 1 0.000000 1.000000
 ",
     ),
     // no job
-    (0, b"\n", ""),
+    (
+        0,
+        b"\n",
+        "\
+value 0.000000000000000000
+short 0 1 0.000000 1.000000
+",
+    ),
 ];
 
 #[test]
 fn a_planner_stops(rt: HostRuntime) {
     for (max_entries, text, wanted) in ROWS {
-        assert_told(&rt, rt.alloc(), *max_entries, text, wanted);
+        assert_reported(&rt, rt.alloc(), *max_entries, text, wanted);
     }
 }
 
-fn assert_told<R: Threads + Wait + Abort + Sync>(
+fn assert_reported<R: Threads + Wait + Abort + Sync>(
     rt: &R,
     alloc: Global,
     max_entries: u32,
@@ -55,31 +67,6 @@ fn assert_told<R: Threads + Wait + Abort + Sync>(
     assert_lines(rt, alloc, &report, wanted);
     assert_refusals(rt, alloc, &report);
     drop(report);
-}
-
-/// Behind them stand the value and the loads that fall short.
-#[test]
-fn the_value_follows(rt: HostRuntime) {
-    let desk = empty_desk(&rt, rt.alloc(), 2);
-    let report = report_of(&rt, rt.alloc(), desk, &[THREE], 1, 3, &Open);
-    assert_whole(&rt, rt.alloc(), &report);
-    drop(report);
-}
-
-const WHOLE: &str = "\
-planner 1 job 1 committed 1 tries 1
-planner 1 job 2 refused over 0 0 5.000000 4.000000 tries 1
-planner 1 stopped at job 3: full
-value 10.500000000000000000
-short 0 1 0.000000 1.000000
-";
-
-fn assert_whole(rt: &impl Abort, alloc: Global, report: &Report<Global>) {
-    let plan = report.closed.desk().plan();
-    let shorts = plan.shortfalls().expect(rt, "memory");
-    let lines = run_lines(alloc, report.runs.as_slice()).expect(rt, "memory");
-    let text = with_value(lines, plan.value(), shorts.as_slice()).expect(rt, "memory");
-    assert!(rt; text.as_slice() == WHOLE.as_bytes());
 }
 
 /// The planners stand in their order, whoever was done first.
@@ -98,18 +85,35 @@ const WRITER: &[u8] = b"begin\nput 1 0\ncommit\n";
 const BOTH: &str = "\
 planner 1 job 1 withdrawn tries 1
 planner 2 job 1 refused precedence 1 0 tries 1
+value 4.545454545455000000
 ";
 
 fn assert_lines(rt: &impl Abort, alloc: Global, report: &Report<Global>, wanted: &str) {
-    let lines = run_lines(alloc, report.runs.as_slice()).expect(rt, "memory");
-    assert!(rt; lines.as_slice() == wanted.as_bytes());
+    let (answer, text) = written(alloc, alloc, report);
+    assert!(rt; answer == Ok(()));
+    assert!(rt; text.as_slice() == wanted.as_bytes());
 }
 
-/// Memory is wanted only where it was refused.
+/// What is answered, and what a text that grows has then.
+fn written<A: Allocator + Copy + Drop>(
+    alloc: A,
+    of_text: Global,
+    report: &Report<Global>,
+) -> (Result<(), CliFault>, Vec<u8>) {
+    let mut out = Out::new(Vec::new(of_text));
+    let answer = write_report(alloc, &mut out, report);
+    (answer, out.into_inner())
+}
+
+/// Memory is wanted only where it was refused, and then nothing is written.
 fn assert_refusals(rt: &impl Abort, alloc: Global, report: &Report<Global>) {
     for number in 1..20 {
         let heap = Refusing::new(alloc, number);
-        let answer = run_lines(&heap, report.runs.as_slice());
-        assert!(rt; answer.is_err() == heap.count().has_refused());
+        let (answer, text) = written(&heap, alloc, report);
+        if heap.count().has_refused() {
+            assert!(rt; answer == Err(CliFault::NoMemory) && text.is_empty());
+        } else {
+            assert!(rt; answer == Ok(()));
+        }
     }
 }

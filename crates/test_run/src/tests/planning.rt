@@ -1,11 +1,11 @@
 //! Runs from a start, and what is answered where planners can't begin.
 use super::rows::THREE;
 use super::{assert_legal, benches_of, scripts_of, tiny};
-use pit_cli::CliFault;
+use pit_cli::planned_run;
 use pit_model::Instance;
-use pit_planning::{Micro, PlanFault, planned_run};
 use pit_run::Report;
 use pit_sample::{Fact, TINY, TINY_SIZE, built};
+use pit_step::{CliFault, Micro};
 use std::alloc::Global;
 use std::process::Abort;
 use std::sync::Wait;
@@ -17,7 +17,7 @@ fn from_nothing<R: Threads + Wait + Abort + Sync>(
     alloc: Global,
     pit: Instance<Global>,
     texts: &[&[u8]],
-) -> Result<Report<Global>, PlanFault> {
+) -> Result<Report<Global>, CliFault> {
     let benches = benches_of(rt, alloc, &pit);
     let scripts = scripts_of(rt, alloc, &pit, &benches, texts);
     let answer = planned_run(alloc, rt, pit, &[], scripts.as_slice(), &benches, 3);
@@ -35,7 +35,7 @@ fn assert_periods(rt: &impl Abort, report: &Report<Global>, periods: [Option<u32
     }
 }
 
-fn assert_text(rt: &impl Abort, alloc: Global, fault: PlanFault, text: &str, status: u8) {
+fn assert_text(rt: &impl Abort, alloc: Global, fault: CliFault, text: &str, status: u8) {
     let shown = format!(in alloc; "{}", fault).expect(rt, "memory");
     assert!(rt; shown.as_str() == text);
     assert!(rt; fault.status() == status);
@@ -66,8 +66,8 @@ fn one_script(rt: HostRuntime) {
 fn assert_refused<R: Threads + Wait + Abort + Sync>(
     rt: &R,
     alloc: Global,
-    answer: Result<Report<Global>, PlanFault>,
-    fault: PlanFault,
+    answer: Result<Report<Global>, CliFault>,
+    fault: CliFault,
     text: &str,
 ) {
     match answer {
@@ -90,7 +90,7 @@ fn limited(rt: &impl Abort, alloc: Global, limit: i64) -> Instance<Global> {
 #[test]
 fn a_limit_below_zero(rt: HostRuntime) {
     let pit = limited(&rt, rt.alloc(), -1_000_000);
-    let fault = PlanFault::LimitBelowZero {
+    let fault = CliFault::LimitBelowZero {
         resource: 0,
         period: 0,
     };
@@ -111,7 +111,7 @@ fn an_early_start(rt: HostRuntime) {
     assert!(rt; pit.periods() > 0);
     let benches = benches_of(&rt, rt.alloc(), &pit);
     let answer = planned_run(rt.alloc(), &rt, pit, &[(2, 0)], &[], &benches, 0);
-    let fault = PlanFault::StartPrecedence {
+    let fault = CliFault::StartPrecedence {
         block: 2,
         before: 0,
     };
@@ -125,7 +125,7 @@ fn a_start_over_a_limit(rt: HostRuntime) {
     assert!(rt; pit.periods() > 0);
     let benches = benches_of(&rt, rt.alloc(), &pit);
     let answer = planned_run(rt.alloc(), &rt, pit, &[(0, 0)], &[], &benches, 0);
-    let fault = PlanFault::StartOver {
+    let fault = CliFault::StartOver {
         resource: 0,
         period: 0,
         load: Micro(2_000_000),
@@ -138,7 +138,7 @@ fn a_start_over_a_limit(rt: HostRuntime) {
 fn assert_planner_count<R: Threads + Wait + Abort + Sync>(rt: &R, alloc: Global, texts: &[&[u8]]) {
     let pit = tiny(rt, alloc);
     let answer = from_nothing(rt, alloc, pit, texts);
-    let fault = PlanFault::PlannerCount;
+    let fault = CliFault::PlannerCount;
     assert_refused(rt, alloc, answer, fault, "pit: planner count");
 }
 
@@ -171,15 +171,9 @@ fn sixty_four_planners(rt: HostRuntime) {
 /// Lines that no run of a test leads to.
 #[test]
 fn other_lines(rt: HostRuntime) {
-    assert_text(&rt, rt.alloc(), PlanFault::NoPlace, "pit: no place", 3);
-    assert_text(&rt, rt.alloc(), PlanFault::NotClosed, "pit: not closed", 3);
-    assert_text(
-        &rt,
-        rt.alloc(),
-        PlanFault::Cli(CliFault::NoMemory),
-        "pit: no memory",
-        3,
-    );
+    assert_text(&rt, rt.alloc(), CliFault::NoPlace, "pit: no place", 3);
+    assert_text(&rt, rt.alloc(), CliFault::NotClosed, "pit: not closed", 3);
+    assert_text(&rt, rt.alloc(), CliFault::NoMemory, "pit: no memory", 3);
 }
 
 /// Loads and limits, in millionths, with their texts.

@@ -1,6 +1,6 @@
 use Rattle.std.proofs.lemmas.List.{get_or_default}
 use Rattle.pit.specs.Runs.{file_opens}
-use Rattle.pit_cli.proofs.CallerLemmas.{err_handed}
+use Rattle.pit_step.proofs.CallerLemmas.{err_handed}
 use Rattle.pit.proofs.PlanFiles.{first-closed}
 use Rattle.pit.proofs.plan_files.open_each.Goals as goal
 

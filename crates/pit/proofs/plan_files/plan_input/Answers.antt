@@ -1,8 +1,8 @@
 use Rattle.std.proofs.Common.{◌≡◌, All, List, ℕ, is_some, map, ap, subst, sym, ◌∙◌, arith}
 use Rattle.std.proofs.lemmas.List.{length-map}
-use Rattle.pit_cli.specs.declared.input.Input.{Input}
-use Rattle.pit_cli.specs.declared.input.Input.TheVariants.{Blocks, Start}
-use Rattle.pit_cli.proofs.CallerLemmas.{handed_on}
+use Rattle.pit_step.specs.declared.input.Input.{Input}
+use Rattle.pit_step.specs.declared.input.Input.TheVariants.{Blocks, Start}
+use Rattle.pit_step.proofs.CallerLemmas.{handed_on}
 use Rattle.pit.specs.Asked.{path_of}
 use Rattle.pit.specs.Runs.{file_bytes, file_opens}
 use Rattle.pit.specs.PlanRun.{plan_inputs, IsOpen, IsUnreadOf, AreRead}

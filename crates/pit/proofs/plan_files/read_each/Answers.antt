@@ -1,8 +1,8 @@
 use Rattle.std.proofs.Common.{◌+◌, List, None, ℕ, slice_index_or, map, take, ap, subst, sym, ◌∙◌}
 use Rattle.std.proofs.lemmas.List.{get_or_default, map_push}
-use Rattle.pit_cli.specs.declared.input.Input.TheVariants.{Model}
-use Rattle.pit_cli.specs.Devices.{reading_of}
-use Rattle.pit_cli.proofs.CallerLemmas.{handed_on}
+use Rattle.pit_step.specs.declared.input.Input.TheVariants.{Model}
+use Rattle.pit_step.specs.Devices.{reading_of}
+use Rattle.pit_step.proofs.CallerLemmas.{handed_on}
 use Rattle.pit.specs.PlanRun.{AreRead, IsRead}
 use Rattle.pit.proofs.PlanFiles.{read-first, read-more, rest-kept, told-at}
 use Rattle.pit.proofs.plan_files.read_each.Goals as goal

@@ -1,5 +1,5 @@
 use Rattle.std.proofs.Common.{◌≡◌, ℕ, List, Option, drop, map, take}
-use Rattle.pit_cli.specs.declared.input.Input.{Input}
+use Rattle.pit_step.specs.declared.input.Input.{Input}
 use Rattle.pit.specs.PlanRun.{AreRead}
 use Rattle.pit.proofs.plan_files.read_each.Given as goal
 

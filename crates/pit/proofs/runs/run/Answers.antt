@@ -2,13 +2,13 @@ use Rattle.std.proofs.Common.{refl}
 use Rattle.pit.proofs.runs.run.Goals as goal
 
 pub returns-in-Value : goal.returns-in-Value
-returns-in-Value g c = rw c.in-Value.is (record { answer = c.run_value.result; runs = c.run_value.ensures; is = c.of_cli.ensures; quiet = refl })
+returns-in-Value g c = rw c.in-Value.is (record { runs = c.run_value.ensures; quiet = refl })
 
 pub returns-in-Check : goal.returns-in-Check
-returns-in-Check g c = rw c.in-Check.is (record { answer = c.run_check.result; runs = c.run_check.ensures; is = c.of_cli-in-Check.ensures; quiet = refl })
+returns-in-Check g c = rw c.in-Check.is (record { runs = c.run_check.ensures; quiet = refl })
 
 pub returns-in-Plan : goal.returns-in-Plan
-returns-in-Plan g c = rw c.in-Plan.is (record { answer = c.run_plan.result; runs = c.run_plan.ensures; is = c.of_plan.ensures })
+returns-in-Plan g c = rw c.in-Plan.is c.run_plan.ensures
 
 pub returns-in-Replay : goal.returns-in-Replay
-returns-in-Replay g c = rw c.in-Replay.is (record { answer = c.run_replay.result; runs = c.run_replay.ensures; is = c.of_replay.ensures; quiet = refl })
+returns-in-Replay g c = rw c.in-Replay.is (record { runs = c.run_replay.ensures; quiet = refl })

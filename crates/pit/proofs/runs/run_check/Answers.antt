@@ -1,5 +1,5 @@
 use Rattle.std.proofs.Common.{inr}
-use Rattle.pit_cli.specs.Devices.{reading_of}
+use Rattle.pit_step.specs.Devices.{reading_of}
 use Rattle.pit.proofs.runs.run_check.Goals as goal
 
 pub returns : goal.returns

@@ -1,7 +1,6 @@
 use Rattle.std.proofs.Common.{Err, refl, ap}
-use Rattle.pit_cli.proofs.CallerLemmas.{keeps_itself}
-use Rattle.pit_cli.specs.declared.fault.CliFault.{CliFault}
-use Rattle.pit_planning.specs.declared.plan_fault.PlanFault.TheVariants.{Cli}
+use Rattle.pit_step.proofs.CallerLemmas.{keeps_itself}
+use Rattle.pit_step.specs.declared.fault.CliFault.{CliFault}
 use Rattle.pit.specs.PlanRun.IsPlanRun.{planned, refused, unkept}
 use Rattle.pit.proofs.History.{new_history}
 use Rattle.pit.proofs.runs.run_plan.Goals as goal
@@ -20,7 +19,7 @@ returns-in-Err-history_file g c = record {
   runs =
       unkept c.in-Ok.input c.in-Ok.ensures c.in-Err-history_file.ensures.fails c.in-Err-history_file.ensures.fault.1
       (keeps_itself (g.W.Sink.contents c.args.out.now)) (keeps_itself (g.L.Sink.contents c.args.report.now))
-      (ap (λ (fault : CliFault). Err (Cli fault)) c.in-Err-history_file.ensures.fault.0);
+      (ap (λ (fault : CliFault). Err fault) c.in-Err-history_file.ensures.fault.0);
 }
 
 pub returns : goal.returns

@@ -1,4 +1,4 @@
-use Rattle.std.proofs.Common.{rules, ◌≡◌, ◌+◌, ◌++◌, ◌∷◌, [], List, length, arith, ℕ, take, subst, ap, ◌∙◌, vec_len, sym}
+use Rattle.std.proofs.Common.{rules, ◌≡◌, ◌+◌, ◌++◌, ◌∷◌, [], List, length, arith, ℕ, take, subst}
 use Rattle.pit_share.specs.Opening.{AreSeats}
 use Rattle.pit_run.specs.Reports.{AllRan, PlannerRan}
 use Rattle.pit_run.proofs.Threading.{ran-next, numbered-last, numbered-front}

@@ -1,4 +1,4 @@
-use Rattle.std.proofs.Common.{List, arith, subst, take}
+use Rattle.std.proofs.Common.{List, arith, subst}
 use Rattle.std.proofs.lemmas.List.{take_all}
 use Rattle.pit_script.specs.Jobs.{Job}
 use Rattle.pit_run.specs.Reports.{AllRan}

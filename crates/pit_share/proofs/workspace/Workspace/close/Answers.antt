@@ -1,6 +1,5 @@
 use Rattle.std.proofs.Common.{List, length, drop, sym, subst}
 use Rattle.pit_desk.specs.State.{State}
-use Rattle.pit_share.specs.Closing.{IsClosed}
 use Rattle.pit_share.specs.Logs.{AreLogged, HasEachLog}
 use Rattle.pit_share.specs.Planners.{PlannerState}
 use Rattle.pit_share.proofs.workspace.Workspace.close.Goals as goal

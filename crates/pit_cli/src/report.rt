@@ -1,0 +1,87 @@
+//! The report of a run, and how `plan` ends.
+ghost use Rattle.std.specs.Prelude.{◌≡◌, ◌<◌, IfOk, length};
+ghost use Rattle.pit_plan.specs.Schedule.{held_period};
+ghost use Rattle.pit_plan.specs.Shortfalls.{shortfalls_of};
+ghost use Rattle.pit_desk.specs.History.{commits_of};
+ghost use Rattle.pit_step.specs.Devices.{writing_of};
+ghost use Rattle.pit_step.specs.Steps.{IsResultOf};
+ghost use Rattle.pit_cli.specs.Telling.{is_whole, all_whole, status_by, ended_of, report_text, report_step};
+
+use crate::report_text::run_lines;
+use pit_job::RunEnd;
+use pit_num::{NoMemory, Sink, write_text};
+use pit_plan::Short;
+use pit_run::{PlannerRun, Report};
+use pit_step::{CliFault, Status, with_value};
+use std::alloc::Allocator;
+
+/// Writes the report of a run, at once: a line for each job and for each planner that stopped, by rising planner and job, the value, and the
+/// shortfalls. Takes the memory of the lines; nothing is written where that is wanting.
+pub fn write_report<A: Allocator + Copy + Drop, B: Allocator + Copy + Drop, W: Sink>(
+    alloc: B,
+    w: &mut W,
+    report: &Report<A>,
+) -> Result<(), CliFault>
+    ensures { let written = writing_of (W.contents w.old) (W.contents w.new) (W.has_failed w.new) in
+        let text = report_text report.now.closed.plan.pit (commits_of report.now.closed.history) report.now.runs.items in
+        IsResultOf (report_step text written) tt result }
+{
+    let Ok((lines, _ended)) = reported(alloc, report) else {
+        return Err(CliFault::NoMemory);
+    };
+    match write_text(w, &lines) {
+        Ok(()) => Ok(()),
+        Err(_) => Err(CliFault::CannotWrite),
+    }
+}
+
+/// The report's lines, and how the run ends.
+pub(crate) fn reported<A: Allocator + Copy + Drop, B: Allocator + Copy + Drop>(
+    alloc: B,
+    report: &Report<A>,
+) -> Result<(Vec<u8, B>, Result<Status, CliFault>), NoMemory>
+    ensures text { IfOk result (λ lines. lines.0.items ≡ report_text report.now.closed.plan.pit (commits_of report.now.closed.history) report.now.runs.items) }
+    ensures some { IfOk result (λ lines. 0 < length lines.0.items) }
+    ensures ended { IfOk result (λ lines. lines.1 ≡ ended_of report.now.runs.items (shortfalls_of report.now.closed.plan.pit (held_period (commits_of report.now.closed.history)))) }
+{
+    let plan = report.closed.desk().plan();
+    let shorts = plan.shortfalls()?;
+    let lines = run_lines(alloc, &report.runs)?;
+    let text = with_value(lines, plan.value(), &shorts)?;
+    Ok((text, ended(&report.runs, &shorts)))
+}
+
+fn ended<A: Allocator + Drop>(runs: &[PlannerRun<A>], shorts: &[Short]) -> Result<Status, CliFault>
+    ensures { result ≡ ended_of runs.now shorts.now }
+{
+    if are_whole(runs) {
+        Ok(status_of(shorts))
+    } else {
+        Err(CliFault::Stopped)
+    }
+}
+
+fn status_of(shorts: &[Short]) -> Status
+    ensures { result ≡ status_by shorts.now }
+{
+    match shorts {
+        [] => Status::Fine,
+        _ => Status::Failed,
+    }
+}
+
+/// Whether each planner did all of its script.
+fn are_whole<A: Allocator + Drop>(runs: &[PlannerRun<A>]) -> bool
+    ensures { result ≡ all_whole runs.now }
+{
+    runs.iter().all(|run| is_whole(run.ended()))
+}
+
+fn is_whole(ended: RunEnd) -> bool
+    ensures { result ≡ is_whole ended }
+{
+    match ended {
+        RunEnd::Whole => true,
+        _ => false,
+    }
+}

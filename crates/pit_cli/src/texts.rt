@@ -1,0 +1,172 @@
+//! From the texts of the inputs to what they stand for.
+ghost use Rattle.std.specs.Prelude.{◌≡◌, ◌++◌, ◌∷◌, [], All, IfOk, IfErr, OnOk, MatchResult, map, option_map};
+ghost use Rattle.pit_script.specs.Benches.{AreBenchesOf};
+ghost use Rattle.pit_script.specs.Ranges.{AreJobsIn};
+ghost use Rattle.pit_step.specs.Inputs.{IsModel, IsModelFault, IsOrder, IsOrderFault, IsScheduleOf};
+ghost use Rattle.pit_cli.specs.Texts.{ArePlacesOf, IsPlacedFault, IsPitOf, IsPitFault, IsStartOf, IsStartFault, IsScriptOf, IsScriptFault, AreScriptsOf, IsScriptsFault, AreTextsOf, IsTextsFault};
+
+use crate::plan_input::PlanInput;
+use pit_model::{Builder, Instance};
+use pit_script::{Benches, Script, ScriptCause};
+use pit_step::{CliFault, Input, builder_of, built, ordered, placed, schedule_of};
+use std::alloc::Allocator;
+
+/// What the texts stand for.
+#[derive(Drop)]
+pub struct Inputs<A: Allocator + Copy + Drop> {
+    pub pit: Instance<A>,
+    pub start: Vec<(u32, u32), A>,
+    pub benches: Benches<A>,
+    pub scripts: Vec<Script<A>, A>,
+}
+
+/// Parses the texts in order. Each is freed once it is parsed, except the scripts, which are freed together.
+pub fn parsed<A: Allocator + Copy + Drop>(
+    alloc: A,
+    input: PlanInput<A>,
+) -> Result<Inputs<A>, CliFault>
+    ensures ok { IfOk result (λ inputs. AreTextsOf input inputs.pit inputs.start.items inputs.scripts.items) }
+    ensures fits { IfOk result (λ inputs. IsScheduleOf inputs.pit inputs.start.items) }
+    ensures benches { IfOk result (λ inputs. AreBenchesOf inputs.pit inputs.benches) }
+    ensures in_range { IfOk result (λ inputs. All (AreJobsIn inputs.pit) inputs.scripts.items) }
+    ensures err { IfErr result (IsTextsFault input) }
+{
+    let PlanInput {
+        model,
+        precedence,
+        blocks,
+        start,
+        scripts,
+    } = input;
+    let pit = match pit_of(alloc, model, precedence, blocks) {
+        Ok(pit) => pit,
+        Err(fault) => return Err(fault),
+    };
+    let start = match start_of(alloc, start, &pit) {
+        Ok(start) => start,
+        Err(fault) => return Err(fault),
+    };
+    let Ok(benches) = Benches::of(alloc, &pit) else {
+        return Err(CliFault::NoMemory);
+    };
+    let scripts = scripts_of(alloc, &scripts, &pit, &benches)?;
+    Ok(Inputs {
+        pit,
+        start,
+        benches,
+        scripts,
+    })
+}
+
+/// The pit of a model, of precedences, and of places where they are given.
+fn pit_of<A: Allocator + Copy + Drop>(
+    alloc: A,
+    model: Vec<u8, A>,
+    precedence: Vec<u8, A>,
+    blocks: Option<Vec<u8, A>>,
+) -> Result<Instance<A>, CliFault>
+    ensures { let places = option_map (λ bytes. bytes.items) blocks in
+        MatchResult result (IsPitOf model.items precedence.items places) (IsPitFault model.items precedence.items places) }
+{
+    let bare = bare_pit(alloc, model)?;
+    let given = ordered_pit(alloc, precedence, bare)?;
+    placed_pit(given, blocks)
+}
+
+fn bare_pit<A: Allocator + Copy + Drop>(alloc: A, model: Vec<u8, A>) -> Result<Builder<A>, CliFault>
+    ensures { MatchResult result (IsModel model.items) (IsModelFault model.items) }
+{
+    builder_of(alloc, &model)
+}
+
+fn ordered_pit<A: Allocator + Copy + Drop>(
+    alloc: A,
+    precedence: Vec<u8, A>,
+    given: Builder<A>,
+) -> Result<Builder<A>, CliFault>
+    ensures { MatchResult result (IsOrder given precedence.items) (IsOrderFault given precedence.items) }
+{
+    ordered(alloc, &precedence, given)
+}
+
+fn placed_pit<A: Allocator + Copy + Drop>(
+    given: Builder<A>,
+    blocks: Option<Vec<u8, A>>,
+) -> Result<Instance<A>, CliFault>
+    ensures { let places = option_map (λ bytes. bytes.items) blocks in
+        MatchResult result (ArePlacesOf given places) (IsPlacedFault given places) }
+{
+    let Some(bytes) = blocks else {
+        return built(given);
+    };
+    let builder = placed(&bytes, given)?;
+    built(builder)
+}
+
+/// The schedule of a solution, or that in which no block is mined.
+fn start_of<A: Allocator + Copy + Drop>(
+    alloc: A,
+    start: Option<Vec<u8, A>>,
+    pit: &Instance<A>,
+) -> Result<Vec<(u32, u32), A>, CliFault>
+    ensures result { let bytes = option_map (λ bytes. bytes.items) start in
+        MatchResult result (λ schedule. IsStartOf pit.now bytes schedule.items) (IsStartFault pit.now bytes) }
+    ensures fits { IfOk result (λ schedule. IsScheduleOf pit.now schedule.items) }
+{
+    match start {
+        Some(bytes) => schedule_of(alloc, Input::Start, &bytes, pit),
+        None => Ok(Vec::new(alloc)),
+    }
+}
+
+/// The scripts of texts. The first fault is answered.
+fn scripts_of<A: Allocator + Copy + Drop>(
+    alloc: A,
+    texts: &[Vec<u8, A>],
+    pit: &Instance<A>,
+    benches: &Benches<A>,
+) -> Result<Vec<Script<A>, A>, CliFault>
+    requires { AreBenchesOf pit.now benches.now }
+    ensures result { let all = map (λ bytes. bytes.items) texts.now in
+        MatchResult result (λ scripts. AreScriptsOf pit.now all scripts.items) (IsScriptsFault pit.now 1 all) }
+    ensures in_range { IfOk result (λ scripts. All (AreJobsIn pit.now) scripts.items) }
+{
+    let mut scripts = Vec::new(alloc);
+    for (i, text) in texts.iter().enumerate() {
+        let script = script_of(alloc, i as u64 + 1, text, pit, benches)?;
+        push_script(&mut scripts, script)?;
+    }
+    Ok(scripts)
+}
+
+fn push_script<A: Allocator + Copy + Drop>(
+    scripts: &mut Vec<Script<A>, A>,
+    script: Script<A>,
+) -> Result<(), CliFault>
+    ensures ok { OnOk result (scripts.new.items ≡ scripts.old.items ++ script ∷ []) }
+    ensures err { IfErr result (λ fault. fault ≡ CliFault.NoMemory) }
+{
+    match scripts.push(script) {
+        Ok(()) => Ok(()),
+        Err(_) => Err(CliFault::NoMemory),
+    }
+}
+
+/// The script of a text, which has this number.
+fn script_of<A: Allocator + Copy + Drop>(
+    alloc: A,
+    number: u64,
+    text: &[u8],
+    pit: &Instance<A>,
+    benches: &Benches<A>,
+) -> Result<Script<A>, CliFault>
+    requires { AreBenchesOf pit.now benches.now }
+    ensures result { MatchResult result (IsScriptOf pit.now text.now) (IsScriptFault pit.now number text.now) }
+    ensures in_range { IfOk result (AreJobsIn pit.now) }
+{
+    match Script::parse(alloc, text, pit, benches) {
+        Ok(script) => Ok(script),
+        Err(error) if error.cause == ScriptCause::NoMemory => Err(CliFault::NoMemory),
+        Err(error) => Err(CliFault::Script { number, error }),
+    }
+}

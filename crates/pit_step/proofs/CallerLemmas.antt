@@ -1,0 +1,8 @@
+-- For the crates above: a fault that is handed on, what no call does, what devices determine, and where memory is wanted behind a text.
+pub use Rattle.pit_step.proofs.HandedOn.{handed_on, err_handed}
+pub use Rattle.pit_step.proofs.Known.{keeps_itself}
+pub use Rattle.pit_step.proofs.Shorts.{shorts_none}
+pub use Rattle.pit_step.proofs.Determined.{IsDetermined, IsShown, IsNeverBoth, shown_run}
+pub use Rattle.pit_step.proofs.DeterminedSteps.{IsOneText, input-determined, write-determined, write-shown, write-never_both}
+pub use Rattle.pit_step.proofs.DeterminedInputs.{model_text, order_text, places_text, solution_text, model-determined, ordered_pit-determined}
+pub use Rattle.pit_step.proofs.Stops.{made, model-stop, order-stop, solution-stop}

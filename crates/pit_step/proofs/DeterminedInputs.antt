@@ -1,0 +1,47 @@
+-- What the devices of a model, of precedences and of a solution determine.
+use Rattle.std.proofs.Common.{ℕ, List, IsSome}
+use Rattle.pit_model.specs.Pit.{Pit}
+use Rattle.pit_text.specs.Cutting.{cut_of, end_line}
+use Rattle.pit_text.specs.Stands.{StandsFor, FailsFirst, StandsWhole, FailsWhole}
+use Rattle.pit_text.specs.Model.{model_line, model_end, pit_of}
+use Rattle.pit_text.specs.Precedence.{precedence_line, pit_with_preds}
+use Rattle.pit_text.specs.Blocks.{block_line, pit_with_places}
+use Rattle.pit_text.specs.Solution.{solution_line, period_in, schedule_of}
+use Rattle.pit_text.proofs.CallerLemmas.{one_result, one_whole_result}
+use Rattle.pit_step.specs.declared.input.Input.{Input}
+use Rattle.pit_step.specs.declared.input.Input.TheVariants.{Model, Precedence, Blocks}
+use Rattle.pit_step.specs.declared.fault.CliFault.TheVariants.{NoMemory}
+use Rattle.pit_step.specs.Devices.{Reading}
+use Rattle.pit_step.specs.Inputs.{IsModel, IsModelStop, IsModelFault, IsOrder, IsOrderStop, IsOrderFault, IsPlaced, IsPlacesStop, IsPlacesFault, IsSolutionOf, IsSolutionStop, IsSolutionFault, model_step, order_step, ordered_pit_step}
+use Rattle.pit_step.proofs.Determined.{IsDetermined, in_turn-determined}
+use Rattle.pit_step.proofs.DeterminedSteps.{IsOneText, one_text, input-determined}
+
+pub model_text : (bytes : List ℕ) → IsOneText (IsModel bytes) (IsModelFault bytes)
+model_text bytes =
+    one_text Model (StandsWhole model_line model_end (cut_of bytes)) (FailsWhole model_line model_end (cut_of bytes) (end_line bytes)) (IsModelStop bytes) pit_of
+    (one_whole_result model_line model_end (cut_of bytes) (end_line bytes))
+
+pub order_text : (given : Pit) (bytes : List ℕ) → IsOneText (IsOrder given bytes) (IsOrderFault given bytes)
+order_text given bytes =
+    one_text Precedence (StandsFor (precedence_line given) (cut_of bytes)) (FailsFirst (precedence_line given) (cut_of bytes)) (IsOrderStop given bytes) (pit_with_preds given)
+    (one_result (precedence_line given) (cut_of bytes))
+
+pub places_text : (given : Pit) (bytes : List ℕ) → IsOneText (IsPlaced given bytes) (IsPlacesFault given bytes)
+places_text given bytes =
+    one_text Blocks (StandsFor (block_line given) (cut_of bytes)) (FailsFirst (block_line given) (cut_of bytes)) (IsPlacesStop given bytes) (pit_with_places given)
+    (one_result (block_line given) (cut_of bytes))
+
+pub solution_text : (file : Input) (pit : Pit) (bytes : List ℕ) → IsOneText (IsSolutionOf pit bytes) (IsSolutionFault file pit bytes)
+solution_text file pit bytes =
+    one_text file (StandsFor (solution_line pit.blocks pit.periods) (cut_of bytes)) (FailsFirst (solution_line pit.blocks pit.periods) (cut_of bytes)) (IsSolutionStop pit bytes)
+    (λ facts. schedule_of pit.blocks (period_in facts)) (one_result (solution_line pit.blocks pit.periods) (cut_of bytes))
+
+pub model-determined : (model : Reading) → IsSome model.before → IsDetermined NoMemory (model_step model) tt
+model-determined model told = input-determined Model model (λ _. IsModel) (λ _. IsModelFault) tt told model_text
+
+order-determined : (precedence : Reading) (given : Pit) → IsSome precedence.before → IsDetermined NoMemory (order_step precedence) given
+order-determined precedence given told = input-determined Precedence precedence IsOrder IsOrderFault given told (order_text given)
+
+pub ordered_pit-determined : (model precedence : Reading) → IsSome model.before → IsSome precedence.before → IsDetermined NoMemory (ordered_pit_step model precedence) tt
+ordered_pit-determined model precedence told also =
+    in_turn-determined NoMemory (model_step model) (order_step precedence) tt (model-determined model told) (λ given. order-determined precedence given also)

@@ -1,0 +1,5 @@
+pub mod Steps
+pub mod Devices
+pub mod Inputs
+pub mod Statuses
+pub mod LineTexts

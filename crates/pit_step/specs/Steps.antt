@@ -1,0 +1,33 @@
+-- The steps of a run, one behind the other, and the run's first fault.
+use Rattle.std.specs.Prelude.{◌≡◌, ◌≢◌, ◌⊎◌, Result, MatchResult}
+
+-- A step uses devices. As these show it, it gives a value of what it was given, or has a fault, or has left them alone.
+pub record Step (F A B : Type 0) : Type 1 where
+  pub Gives : A → B → Type 0
+  pub Fails : A → F → Type 0
+  pub IsUntouched : Type 0
+
+-- One step and then another, which is given what the first one gives. The first fault is that of the first step, and the devices of the
+-- other are left alone; or, where the first step gives a value, that of the other.
+abbrev pub in_turn : {F A B C : Type 0} → Step F A B → Step F B C → Step F A C
+in_turn {F} {A} {B} {C} first next = record {
+  Gives = λ given value. (between : B) × first.Gives given between × next.Gives between value;
+  Fails = λ given fault.
+      (first.Fails given fault × next.IsUntouched) ⊎ ((between : B) × first.Gives given between × next.Fails between fault);
+  IsUntouched = first.IsUntouched × next.IsUntouched;
+}
+
+-- a judgement, which uses no device
+abbrev pub judge_step : {F A B : Type 0} → (A → B → Type 0) → (A → F → Type 0) → Step F A B
+judge_step Gives Fails = record { Gives = Gives; Fails = Fails; IsUntouched = Unit {0} }
+
+-- the result is a value that the step gives, or a fault that it has
+abbrev pub IsResultOf : {F A B : Type 0} → Step F A B → A → Result B F → Type 0
+IsResultOf step given result = MatchResult result (step.Gives given) (step.Fails given)
+
+-- A run gives a value or has a fault, never both, and never two of either. Want of memory is shown by no device, so it is left out of two
+-- faults.
+pub record HasOneOutcome {F B : Type 0} (no_memory : F) (run : Step F (Unit {0}) B) : Type 0 where
+  pub values : (value other : B) → run.Gives tt value → run.Gives tt other → value ≡ other
+  pub apart : (value : B) (fault : F) → run.Gives tt value → run.Fails tt fault → ⊥
+  pub faults : (fault other : F) → fault ≢ no_memory → other ≢ no_memory → run.Fails tt fault → run.Fails tt other → fault ≡ other

@@ -1,0 +1,91 @@
+ghost use Rattle.std.specs.Prelude.{◌≡◌, ◌≤◌};
+
+use super::input::Input;
+use super::micro::Micro;
+use pit_lines::LinesError;
+use pit_script::ScriptError;
+use pit_text::TextError;
+use thiserror::Error;
+
+/// Why an engine gives no answer. The text of a fault is the line that the program prints of it, but for `Stopped`, which has none.
+#[derive(Clone, Copy, Debug, PartialEq, Eq, Error)]
+pub enum CliFault {
+    /// The first fault of the text of an input other than a script or a history, which is never want of memory.
+    #[error("pit: {file} {error}")]
+    Text {
+        file: Input,
+        error: TextError,
+    },
+    /// The first fault of a script, by its number, counted from 1.
+    #[error("pit: script {number} {error}")]
+    Script {
+        number: u64,
+        error: ScriptError,
+    },
+    /// The first fault of a history's text.
+    #[error("pit: history {0}")]
+    History(LinesError),
+    /// More than `INPUT_BYTES_MAX` bytes came.
+    #[error("pit: {0}: too long")]
+    TooLong(Input),
+    /// The least period, and in it the least resource, whose upper limit is below zero, so that the empty schedule is above it.
+    #[error("pit: model: upper limit below zero {resource} {period}")]
+    LimitBelowZero {
+        resource: u32,
+        period: u32,
+    },
+    /// The first breach of the start.
+    #[error("pit: start: precedence {block} {before}")]
+    StartPrecedence {
+        block: u32,
+        before: u32,
+    },
+    /// The first breach of a start that breaks no precedence.
+    #[error("pit: start: over {resource} {period} {load} {limit}")]
+    StartOver {
+        resource: u32,
+        period: u32,
+        load: Micro,
+        limit: Micro,
+    },
+    /// There are not 1 to 64 scripts.
+    #[error("pit: planner count")]
+    PlannerCount,
+    /// A file that can't be opened, or a device that failed.
+    #[error("pit: cannot read {0}")]
+    CannotRead(Input),
+    #[error("pit: cannot write")]
+    CannotWrite,
+    #[error("pit: no memory")]
+    NoMemory,
+    /// A planner can't be given a place to read the schedule from.
+    #[error("pit: no place")]
+    NoPlace,
+    /// The planners' own logs contradict the history.
+    #[error("pit: not closed")]
+    NotClosed,
+    /// Some planner did not do all of its script, as the report says.
+    #[error("")]
+    Stopped,
+}
+
+impl CliFault {
+    ghost use Rattle.pit_step.specs.Statuses.{fault_status};
+
+    /// The status that the program ends with: 2 where an input, the start or the number of planners is refused; 3 where memory, a device, a thread or a
+    /// place is wanting, where a planner stopped, or where the logs don't close the workspace.
+    pub fn status(&self) -> u8
+        ensures is { result ≡ fault_status self.now }
+        ensures range { (2 ≤ result) × (result ≤ 3) }
+    {
+        match self {
+            CliFault::CannotRead(_)
+            | CliFault::CannotWrite
+            | CliFault::NoMemory
+            | CliFault::NoPlace
+            | CliFault::NotClosed
+            | CliFault::Stopped => 3,
+            _ => 2,
+        }
+    }
+}

@@ -1,0 +1,33 @@
+use std::fmt;
+
+/// An input of the program, by the word that faults name it with.
+#[derive(Clone, Copy, Debug, PartialEq, Eq)]
+pub enum Input {
+    Model,
+    Precedence,
+    Blocks,
+    Start,
+    Solution,
+    /// By its number, counted from 1.
+    Script(u64),
+    History,
+}
+
+impl fmt::Display for Input {
+    ghost use Rattle.std.specs.Prelude.{Some};
+    ghost use Rattle.pit_step.specs.Inputs.{input_name};
+
+    ghost output = { λ input. Some (input_name input) };
+
+    fn fmt<W: fmt::Write>(&self, f: &mut fmt::Formatter<W>) -> fmt::Result {
+        match self {
+            Input::Model => write!(f, "model"),
+            Input::Precedence => write!(f, "precedence"),
+            Input::Blocks => write!(f, "blocks"),
+            Input::Start => write!(f, "start"),
+            Input::Solution => write!(f, "solution"),
+            Input::Script(number) => write!(f, "script {number}"),
+            Input::History => write!(f, "history"),
+        }
+    }
+}

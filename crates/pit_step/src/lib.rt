@@ -1,0 +1,30 @@
+//! What the engines of `pit` are made of: steps, from the bytes of the inputs to the bytes of the answer.
+//!
+//! An engine is a run of steps: it reads its inputs whole from devices, in order, and parses them. What it writes is the text of what its
+//! inputs stand for, or nothing where an input has a fault or memory is wanting; the fault is the first one. `bytes_of` reads an input, and
+//! `builder_of`, `ordered`, `placed`, `built`, `schedule_of` and `history_of` parse one each; `read_ordered_pit` reads and parses two, and `write_answer`
+//! writes. A fault is a `CliFault`, with a variant for each line that the program prints.
+#![tactic(auto)]
+
+mod answer;
+mod fault;
+mod input;
+mod lines;
+mod micro;
+mod parsed;
+mod read;
+mod status;
+mod value_text;
+
+pub use answer::write_answer;
+pub use fault::CliFault;
+pub use input::Input;
+pub use lines::{write_breach, write_shorts};
+pub use micro::Micro;
+pub use parsed::{
+    builder_of, built, bytes_of, history_of, ordered, placed, read_builder, read_history,
+    read_ordered_pit, read_schedule, schedule_of,
+};
+pub use read::{INPUT_BYTES_MAX, ReadError, read_all};
+pub use status::Status;
+pub use value_text::{with_value, write_line};

@@ -1,0 +1,3 @@
+pub mod LegalText
+pub mod Runs
+pub mod OneReplay

@@ -1,0 +1,4 @@
+pub mod CheckText
+pub mod Value
+pub mod Check
+pub mod Replay

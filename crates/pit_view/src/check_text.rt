@@ -1,0 +1,48 @@
+//! The lines of `check`.
+ghost use Rattle.std.specs.Prelude.{◌≡◌, if◌then◌else◌, OnOk, IfOk};
+ghost use Rattle.std.specs.Io.KnownBytes.{Appends};
+ghost use Rattle.pit_step.specs.declared.status.Status.TheVariants.{Fine, Failed};
+ghost use Rattle.pit_view.specs.CheckText.{is_fine as fine_of, fine_text, check_text, check_status};
+
+use pit_num::{Sink, WriteFault, write_text};
+use pit_plan::{Breach, Short};
+use pit_step::{Status, write_breach, write_line, write_shorts};
+
+/// The value, the first breach where there is one, the shortfalls, and `fine` where there is neither. Answers the status that goes with them.
+pub(crate) fn write_check<W: Sink>(
+    w: &mut W,
+    value: i128,
+    breach: Option<Breach>,
+    shorts: &[Short],
+) -> Result<Status, WriteFault>
+    ensures text { OnOk result (Appends (W.contents w.old) (W.contents w.new) (check_text value breach shorts.now)) }
+    ensures status { IfOk result (λ status. status ≡ check_status breach shorts.now) }
+{
+    write_text(w, b"value ")?;
+    write_line(w, value)?;
+    write_breach(w, breach)?;
+    write_shorts(w, shorts)?;
+    write_fine(w, is_fine(breach, shorts))
+}
+
+/// Whether nothing is broken and nothing falls short.
+fn is_fine(breach: Option<Breach>, shorts: &[Short]) -> bool
+    ensures { result ≡ fine_of breach shorts.now }
+{
+    match (breach, shorts) {
+        (None, []) => true,
+        _ => false,
+    }
+}
+
+fn write_fine<W: Sink>(w: &mut W, is_fine: bool) -> Result<Status, WriteFault>
+    ensures text { OnOk result (Appends (W.contents w.old) (W.contents w.new) (fine_text is_fine)) }
+    ensures status { IfOk result (λ status. status ≡ (if is_fine then Fine else Failed)) }
+{
+    if is_fine {
+        write_text(w, b"fine\n")?;
+        return Ok(Status::Fine);
+    }
+    write_text(w, b"")?;
+    Ok(Status::Failed)
+}

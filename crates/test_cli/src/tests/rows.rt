@@ -1,0 +1,125 @@
+//! Worked plans.
+use super::{
+    BARE, CANNOT_WRITE, Given, ROOM, ROOMS, Rooms, assert_ended, history_of, planned, planned_in,
+};
+use pit_sample::{TINY_BLOCKS, TINY_SOLUTION};
+use pit_step::Status;
+
+/// Three jobs, of which the second is too heavy.
+const SCRIPT: &[u8] = b"begin
+put 0 0
+put 1 0
+commit
+begin
+put 3 0
+commit
+begin
+put 3 1
+commit
+";
+
+/// The solution that they leave.
+const SOLUTION: &[u8] = b"0 0\n1 0\n3 1\n";
+
+/// And what is told of them.
+const REPORT: &[u8] = b"planner 1 job 1 committed 1 tries 1
+planner 1 job 2 refused over 0 0 5.000000 4.000000 tries 1
+planner 1 job 3 committed 2 tries 1
+value 15.045454545455000000
+";
+
+const ONE: Given<'static> = Given {
+    scripts: &[SCRIPT],
+    ..BARE
+};
+
+#[test]
+fn one_planner(rt: HostRuntime) {
+    let found = planned(&rt, rt.alloc(), ONE);
+    assert_ended(&rt, &found, Ok(Status::Fine), SOLUTION, REPORT);
+}
+
+#[test]
+fn nothing_is_done(rt: HostRuntime) {
+    let given = Given {
+        scripts: &[b""],
+        ..BARE
+    };
+    let found = planned(&rt, rt.alloc(), given);
+    let report = b"value 0.000000000000000000\nshort 0 1 0.000000 1.000000\n";
+    assert_ended(&rt, &found, Ok(Status::Failed), b"", report);
+}
+
+#[test]
+fn from_a_start_by_benches(rt: HostRuntime) {
+    let given = Given {
+        blocks: Some(TINY_BLOCKS),
+        start: Some(TINY_SOLUTION),
+        scripts: &[b"", b"begin\nbench 0 1\nbench 1 1\ncommit\n"],
+        ..BARE
+    };
+    let found = planned(&rt, rt.alloc(), given);
+    let report = b"planner 2 job 1 refused over 0 1 5.000000 4.000000 tries 1
+value 37.772727272730000000
+";
+    assert_ended(&rt, &found, Ok(Status::Fine), TINY_SOLUTION, report);
+}
+
+/// And the history.
+const HISTORY: &[u8] = br#"{"format":1}
+{"act":"commit","job":1,"planner":1,"reads":[],"reply":{"committed":1},"start":0,"writes":[[0,0],[1,0]]}
+{"act":"commit","job":2,"planner":1,"reads":[],"reply":{"over":[0,0,"5000000","4000000"]},"start":1,"writes":[[3,0]]}
+{"act":"commit","job":3,"planner":1,"reads":[],"reply":{"committed":2},"start":1,"writes":[[3,1]]}
+"#;
+
+#[test]
+fn a_history(rt: HostRuntime) {
+    let rooms = Rooms {
+        history: Some(ROOM),
+        ..ROOMS
+    };
+    let found = planned_in(&rt, rt.alloc(), ONE, rooms);
+    assert_ended(&rt, &found, Ok(Status::Fine), SOLUTION, REPORT);
+    assert!(rt; history_of(&found) == HISTORY);
+}
+
+#[test]
+fn a_full_output(rt: HostRuntime) {
+    for room in 0..SOLUTION.len() {
+        let rooms = Rooms {
+            solution: room,
+            history: Some(ROOM),
+            ..ROOMS
+        };
+        let found = planned_in(&rt, rt.alloc(), ONE, rooms);
+        assert_ended(&rt, &found, Err(CANNOT_WRITE), &SOLUTION[..room], b"");
+        assert!(rt; history_of(&found).is_empty());
+    }
+}
+
+#[test]
+fn a_full_report(rt: HostRuntime) {
+    for room in 0..REPORT.len() {
+        let rooms = Rooms {
+            report: room,
+            history: Some(ROOM),
+            ..ROOMS
+        };
+        let found = planned_in(&rt, rt.alloc(), ONE, rooms);
+        assert_ended(&rt, &found, Err(CANNOT_WRITE), SOLUTION, &REPORT[..room]);
+        assert!(rt; history_of(&found).is_empty());
+    }
+}
+
+#[test]
+fn a_full_history(rt: HostRuntime) {
+    for room in 0..HISTORY.len() {
+        let rooms = Rooms {
+            history: Some(room),
+            ..ROOMS
+        };
+        let found = planned_in(&rt, rt.alloc(), ONE, rooms);
+        assert_ended(&rt, &found, Err(CANNOT_WRITE), SOLUTION, REPORT);
+        assert!(rt; history_of(&found) == &HISTORY[..room]);
+    }
+}
