@@ -78,22 +78,10 @@ plants() {
     } | sort | diff - "$found" || fail "plants of $1: < is listed and was not found, > was found and is not listed"
 }
 
-# samples: the crates of samples get the further modules of audit/samples.
-samples() {
-    local file to
-    for file in "$top"/audit/samples/*/*.rt.txt; do
-        to=$tree/crates/$(basename "$(dirname "$file")")/src/$(basename "$file" .txt)
-        [ -f "$to" ] && continue
-        cp "$file" "$to"
-        echo "pub mod $(basename "$to" .rt);" >>"${to%/*}/lib.rt"
-    done
-}
-
 # tests CRATE: the test files of audit/tests/CRATE pass beside those of the crate.
 tests() {
     local from=$top/audit/tests/$1 file
     [ -d "$from" ] || return
-    samples
     mkdir -p "$tree/crates/$1/src/tests"
     for file in "$from"/*.rt.txt; do
         cp "$file" "$tree/crates/$1/src/tests/$(basename "$file" .txt)"

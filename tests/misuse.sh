@@ -14,7 +14,7 @@ tar -c --exclude=out crates crates.txt HANDLES | tar -x -C "$work" || exit 2
 cd "$work" || exit 2
 git init -q . || exit 2
 mkdir -p crates/misuse/src
-echo 'misuse: pit_board pit_share' >>crates.txt
+echo 'misuse: pit_share' >>crates.txt
 cd crates/misuse || exit 2
 failures=0
 
@@ -32,9 +32,9 @@ refused() {
     fi
 }
 
-refused let_go '9:46: error[linear-value-let-go]'
-refused dropped '10:5: error[unsatisfied-bound]'
-refused ended_twice '12:29: error[borrow-e0382]'
+refused let_go '8:46: error[linear-value-let-go]'
+refused dropped '9:5: error[unsatisfied-bound]'
+refused ended_twice '11:29: error[borrow-e0382]'
 
 if [ "$failures" -ne 0 ]; then
     echo "$failures failed"

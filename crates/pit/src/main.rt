@@ -39,9 +39,9 @@ fn answer<R: Threads + Wait + Sync>(rt: &HostRuntime, threads: &R) -> Result<Sta
     let mut out = Out::new(rt.stdout());
     let mut report = Out::new(rt.stderr());
     Ok(run(
+        threads,
         rt.alloc(),
         rt,
-        threads,
         engine,
         given,
         &mut out,

@@ -1,8 +1,12 @@
 //! The files of the inputs of `plan`: all are opened, in the order of the inputs, and then each is read whole.
-ghost use Rattle.std.specs.Prelude.{◌≡◌, ◌++◌, ◌∷◌, [], ◌+◌, ◌≤◌, ℕ, List, Option, All, IfOk, IfErr, OnOk, MatchResult, length, map, is_some, option_to_list};
+ghost use Rattle.std.specs.Prelude.{◌≡◌, ◌++◌, ◌∷◌, [], ◌+◌, ◌≤◌, ℕ, List, Option, IfOk, IfErr, OnOk, MatchResult, length, map, is_some, option_to_list};
 ghost use Rattle.pit_step.specs.declared.input.Input.{Input as input_type};
+ghost use Rattle.pit_step.specs.Steps.{in_turn, may_step, IsResultOf};
+ghost use Rattle.pit_step.specs.declared.fault.CliFault.TheVariants.{NoMemory};
+ghost use Rattle.pit.specs.Files.{open_each as opening_of};
 ghost use Rattle.pit.specs.Runs.{file_bytes, file_opens};
-ghost use Rattle.pit.specs.PlanRun.{plan_inputs, input_if, script_inputs, count_if, all_texts, IsOpen, IsUnopened, IsUnreadOf, AreRead, IsInput, IsNoInput};
+ghost use Rattle.pit.specs.Inside.Files.{still};
+ghost use Rattle.pit.specs.PlanRun.{plan_inputs, input_if, script_inputs, count_if, all_texts, read_each as reading_of_each, texts_step};
 
 use crate::argument::{path_of, script_count};
 use crate::files::{Disk, opened};
@@ -18,9 +22,7 @@ pub fn plan_input<D: Disk>(
     disk: &D,
     given: &ArgMatches<'_>,
 ) -> Result<PlanInput<Global>, CliFault>
-    ensures { let opens = file_opens (D.opens_at disk.now) given.now in
-        let told = file_bytes (D.bytes_at disk.now) given.now in
-        MatchResult result (IsInput opens told given.now) (IsNoInput opens told given.now) }
+    ensures { IsResultOf (texts_step (file_opens (D.opens_at disk.now) given.now) (file_bytes (D.bytes_at disk.now) given.now) given.now) tt result }
 {
     let inputs = plan_inputs(alloc, given)?;
     let mut files = open_each(alloc, disk, given, &inputs)?;
@@ -82,10 +84,12 @@ fn open_each<D: Disk>(
     given: &ArgMatches<'_>,
     inputs: &[Input],
 ) -> Result<Vec<In<D::File>>, CliFault>
-    ensures files { let told = file_bytes (D.bytes_at disk.now) given.now in
-        IfOk result (λ files. map (λ file. D.File.remaining file.reader) files.items ≡ map told inputs.now) }
-    ensures open { let opens = file_opens (D.opens_at disk.now) given.now in OnOk result (All (IsOpen opens) inputs.now) }
-    ensures err { let opens = file_opens (D.opens_at disk.now) given.now in IfErr result (IsUnopened opens inputs.now) }
+    ensures files { let holds = file_bytes (D.bytes_at disk.now) given.now in
+        IfOk result (λ files. map (λ file. D.File.remaining file.reader) files.items ≡ map holds inputs.now) }
+    ensures open { let opening = opening_of (file_opens (D.opens_at disk.now) given.now) (file_bytes (D.bytes_at disk.now) given.now) inputs.now in
+        OnOk result (opening.Gives tt (map (still (file_bytes (D.bytes_at disk.now) given.now)) inputs.now)) }
+    ensures err { let opening = opening_of (file_opens (D.opens_at disk.now) given.now) (file_bytes (D.bytes_at disk.now) given.now) inputs.now in
+        IfErr result ((in_turn (may_step NoMemory) opening).Fails tt) }
 {
     let mut files = Vec::new(alloc);
     for input in inputs {
@@ -102,8 +106,8 @@ fn read_each<F: Read + Drop>(
     files: &mut [In<F>],
 ) -> Result<Vec<Vec<u8>>, CliFault>
     requires { length files.old ≡ length inputs.now }
-    ensures { (told : input_type → Option (List ℕ)) → map (λ file. F.remaining file.reader) files.old ≡ map told inputs.now
-        → MatchResult result (λ texts. AreRead told inputs.now (map (λ bytes. bytes.items) texts.items)) (IsUnreadOf told inputs.now) }
+    ensures { (holds : input_type → Option (List ℕ)) → map (λ file. F.remaining file.reader) files.old ≡ map holds inputs.now
+        → MatchResult result (λ texts. (reading_of_each holds inputs.now).Gives tt (map (λ bytes. bytes.items) texts.items)) ((reading_of_each holds inputs.now).Fails tt) }
 {
     let mut texts = Vec::new(alloc);
     for i in 0..inputs.len() {

@@ -1,8 +1,9 @@
 //! The runs of the engines on the files that the words name. Files are opened in the order of the engine's inputs, and each before one is read.
 ghost use Rattle.std.specs.Prelude.{◌≡◌};
+ghost use Rattle.pit_step.specs.Steps.{IsResultOf};
 ghost use Rattle.pit_step.specs.Devices.{writing_of};
 ghost use Rattle.pit.specs.declared.engine.Engine.TheVariants.{Value as value_engine, Check as check_engine, Replay as replay_engine};
-ghost use Rattle.pit.specs.Runs.{file_bytes, file_opens, history_opens, inputs_of, OpensEach, IsRunOf, IsValueRun, IsCheckRun, IsPlanning, IsReplayRun};
+ghost use Rattle.pit.specs.Runs.{file_bytes, file_opens, history_opens, IsRunOf, IsPlanRun, engine_run};
 
 use crate::argument::retries_of;
 use crate::engine::Engine;
@@ -17,25 +18,25 @@ use std::thread::Threads;
 
 /// Runs an engine. Only `plan` writes a report, and a history. The first input whose file can't be opened is answered, and then nothing is written.
 pub fn run<D: Disk, R: Threads + Wait + Sync, W: Sink, L: Sink>(
+    rt: &R,
     alloc: Global,
     disk: &D,
-    rt: &R,
     engine: Engine,
     given: &ArgMatches<'_>,
     out: &mut W,
     report: &mut L,
 ) -> Result<Status, CliFault>
     ensures { let opens = file_opens (D.opens_at disk.now) given.now in
-        let told = file_bytes (D.bytes_at disk.now) given.now in
+        let holds = file_bytes (D.bytes_at disk.now) given.now in
         let written = writing_of (W.contents out.old) (W.contents out.new) (W.has_failed out.new) in
         let lines = writing_of (L.contents report.old) (L.contents report.new) (L.has_failed report.new) in
         let keeps = history_opens (D.keeps_at disk.now) given.now in
-        IsRunOf engine opens told keeps given.now (out.new ≡ out.old) (report.new ≡ report.old) written lines result }
+        IsRunOf engine opens holds keeps given.now (out.new ≡ out.old) (report.new ≡ report.old) written lines result }
 {
     match engine {
         Engine::Value => run_value(alloc, disk, given, out),
         Engine::Check => run_check(alloc, disk, given, out),
-        Engine::Plan => run_plan(alloc, disk, rt, given, out, report),
+        Engine::Plan => run_plan(rt, alloc, disk, given, out, report),
         Engine::Replay => run_replay(alloc, disk, given, out),
     }
 }
@@ -46,11 +47,10 @@ fn run_value<D: Disk, W: Sink>(
     given: &ArgMatches<'_>,
     out: &mut W,
 ) -> Result<Status, CliFault>
-    ensures { let told = file_bytes (D.bytes_at disk.now) given.now in
+    ensures { let opens = file_opens (D.opens_at disk.now) given.now in
+        let holds = file_bytes (D.bytes_at disk.now) given.now in
         let written = writing_of (W.contents out.old) (W.contents out.new) (W.has_failed out.new) in
-        OpensEach (file_opens (D.opens_at disk.now) given.now) (inputs_of value_engine)
-        (λ input. (result ≡ Err (CliFault.CannotRead input)) × (out.new ≡ out.old))
-        (IsValueRun told written result) }
+        IsResultOf (engine_run value_engine opens holds written (out.new ≡ out.old)) tt result }
 {
     let mut model = opened(disk, given, Input::Model)?;
     let mut solution = opened(disk, given, Input::Solution)?;
@@ -63,11 +63,10 @@ fn run_check<D: Disk, W: Sink>(
     given: &ArgMatches<'_>,
     out: &mut W,
 ) -> Result<Status, CliFault>
-    ensures { let told = file_bytes (D.bytes_at disk.now) given.now in
+    ensures { let opens = file_opens (D.opens_at disk.now) given.now in
+        let holds = file_bytes (D.bytes_at disk.now) given.now in
         let written = writing_of (W.contents out.old) (W.contents out.new) (W.has_failed out.new) in
-        OpensEach (file_opens (D.opens_at disk.now) given.now) (inputs_of check_engine)
-        (λ input. (result ≡ Err (CliFault.CannotRead input)) × (out.new ≡ out.old))
-        (IsCheckRun told written result) }
+        IsResultOf (engine_run check_engine opens holds written (out.new ≡ out.old)) tt result }
 {
     let mut model = opened(disk, given, Input::Model)?;
     let mut precedence = opened(disk, given, Input::Precedence)?;
@@ -81,11 +80,10 @@ fn run_replay<D: Disk, W: Sink>(
     given: &ArgMatches<'_>,
     out: &mut W,
 ) -> Result<Status, CliFault>
-    ensures { let told = file_bytes (D.bytes_at disk.now) given.now in
+    ensures { let opens = file_opens (D.opens_at disk.now) given.now in
+        let holds = file_bytes (D.bytes_at disk.now) given.now in
         let written = writing_of (W.contents out.old) (W.contents out.new) (W.has_failed out.new) in
-        OpensEach (file_opens (D.opens_at disk.now) given.now) (inputs_of replay_engine)
-        (λ input. (result ≡ Err (CliFault.CannotRead input)) × (out.new ≡ out.old))
-        (IsReplayRun told written result) }
+        IsResultOf (engine_run replay_engine opens holds written (out.new ≡ out.old)) tt result }
 {
     let mut model = opened(disk, given, Input::Model)?;
     let mut precedence = opened(disk, given, Input::Precedence)?;
@@ -94,19 +92,19 @@ fn run_replay<D: Disk, W: Sink>(
 }
 
 fn run_plan<D: Disk, R: Threads + Wait + Sync, W: Sink, L: Sink>(
+    rt: &R,
     alloc: Global,
     disk: &D,
-    rt: &R,
     given: &ArgMatches<'_>,
     out: &mut W,
     report: &mut L,
 ) -> Result<Status, CliFault>
     ensures { let opens = file_opens (D.opens_at disk.now) given.now in
-        let told = file_bytes (D.bytes_at disk.now) given.now in
+        let holds = file_bytes (D.bytes_at disk.now) given.now in
         let written = writing_of (W.contents out.old) (W.contents out.new) (W.has_failed out.new) in
         let lines = writing_of (L.contents report.old) (L.contents report.new) (L.has_failed report.new) in
         let keeps = history_opens (D.keeps_at disk.now) given.now in
-        IsPlanning opens told keeps given.now written lines result }
+        IsPlanRun opens holds keeps given.now ((out.new ≡ out.old) × (report.new ≡ report.old)) written lines result }
 {
     let retries = retries_of(given);
     let input = match plan_input(alloc, disk, given) {
@@ -117,5 +115,5 @@ fn run_plan<D: Disk, R: Threads + Wait + Sync, W: Sink, L: Sink>(
         Ok(history) => history,
         Err(fault) => return Err(fault),
     };
-    plan(alloc, rt, input, retries, out, report, &mut history)
+    plan(rt, alloc, input, retries, out, report, &mut history)
 }

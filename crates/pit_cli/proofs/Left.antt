@@ -1,18 +1,24 @@
--- The solution that the commits of a desk leave, by the periods that its plan keeps.
-use Rattle.std.proofs.Common.{◌≡◌, ℕ, Bool, List, Option, Some, None, Result, true, is_some, length, refl, ap, sym, subst, ◌∙◌}
+-- The solution that the commits of a desk leave, by the periods that its plan keeps, and what is written.
+use Rattle.std.proofs.Common.{◌≡◌, inl, inr, ℕ, Bool, List, Option, Some, None, Result, Ok, Err, true, false, is_some, length, refl, ap, sym, subst, ◌∙◌}
+use Rattle.std.specs.Result.{is_err}
+use Rattle.std.proofs.lemmas.Bool.{false≢true}
+use Rattle.pit_num.specs.Printed.{WritesIfAny}
 use Rattle.pit_plan.specs.Schedule.{Commit, by_block, held_period}
 use Rattle.pit_plan.specs.Standing.{Standing, IsPlanOf}
 use Rattle.pit_text.specs.Solution.{schedule_of}
 use Rattle.pit_text.specs.SolutionText.{solution_text}
 use Rattle.pit_desk.specs.History.{commits_of}
 use Rattle.pit_desk.specs.State.{State, IsDeskKept}
-use Rattle.pit_step.specs.Devices.{Writing, writing_of}
+use Rattle.pit_step.specs.Devices.{Writing, writing_of, write_step, write_if_step}
 use Rattle.pit_step.proofs.CallerLemmas.{keeps_itself}
 use Rattle.pit_step.specs.declared.status.Status.{Status}
 use Rattle.pit_step.specs.declared.fault.CliFault.{CliFault}
 use Rattle.pit_text.proofs.CallerLemmas.{schedule_of-same}
-use Rattle.pit_cli.specs.Telling.{left_text, writing_if, IsLeft, HasWhole, HasFront, Told, IsWritten}
-use Rattle.pit_cli.specs.Telling.IsWritten.{whole, no_solution, no_report, no_history}
+use Rattle.pit_step.specs.declared.fault.CliFault.TheVariants.{NoMemory}
+use Rattle.pit_step.specs.Steps.{in_turn, IsResultOf}
+use Rattle.pit_cli.specs.Texts.{Texts}
+use Rattle.pit_cli.specs.Planning.{Ran, plan_judged, planners_step}
+use Rattle.pit_cli.specs.Output.{left_text, writing_if, IsLeft, IsUnwritten, Outputs, outputs_run, outputs_of, ran_end, plan_run}
 
 left_is : (plan : Standing) (commits : List Commit) → IsPlanOf plan commits → length plan.periods ≡ plan.pit.blocks
     → solution_text (schedule_of (length plan.periods) (by_block plan.periods)) ≡ left_text plan.pit commits
@@ -38,31 +44,66 @@ pub left_itself : {S : Type 0} (contents : S → Option (List ℕ)) (failed : S 
 left_itself contents failed None = tt
 left_itself contents failed (Some device) = keeps_itself (contents device)
 
+-- the same as a step leaves it
+pub if_itself : {S : Type 0} (contents : S → Option (List ℕ)) (failed : S → Bool) (device : Option S) (text : List ℕ)
+    → (write_if_step {A = Unit {0}} (writing_if (λ old new. writing_of (contents old) (contents new) (failed new)) device device) (λ _. text)).IsUntouched
+if_itself contents failed None text = tt
+if_itself contents failed (Some device) text = keeps_itself (contents device)
+
 -- a device that is known of was there before
 pub was_there : {S : Type 0} (of : S → S → Writing) (old new : Option S) → is_some (writing_if of old new) ≡ true → is_some old ≡ true
 was_there of (Some old) new h = refl
 was_there of None new h = cc
 
-whole_as : (kept : Option Writing) (text other : List ℕ) → (is_some kept ≡ true → text ≡ other) → HasWhole kept text → HasWhole kept other
-whole_as None text other same has = tt
-whole_as (Some device) text other same has = subst (λ (t : List ℕ). HasWhole (Some device) t) (same refl) has
-
-front_as : (kept : Option Writing) (text other : List ℕ) → (is_some kept ≡ true → text ≡ other) → HasFront kept text → HasFront kept other
-front_as None text other same front = front
-front_as (Some device) text other same front = subst (λ (t : List ℕ). HasFront (Some device) t) (same refl) front
-
 -- of another history the same is written where no device was there for it
-other_history : (out lines : Writing) (kept : Option Writing) (told : Told) (history : List ℕ) (ended result : Result Status CliFault) → (is_some kept ≡ true → told.history ≡ history)
-    → IsWritten out lines kept told ended result → IsWritten out lines kept (record told { history = history }) ended result
-other_history out lines kept told history ended result same (whole a b c d e f) = whole a b c d (whole_as kept told.history history same e) f
-other_history out lines kept told history ended result same (no_solution a b c d e f) = no_solution a b c d e f
-other_history out lines kept told history ended result same (no_report a b c d e f) = no_report a b c d e f
-other_history out lines kept told history ended result same (no_history a b c d e f) = no_history a b c d (front_as kept told.history history same e) f
+other_history : (out lines : Writing) (kept : Option Writing) (texts : Outputs) (history : List ℕ) (ended result : Result Status CliFault) → (is_some kept ≡ true → texts.history ≡ history)
+    → IsResultOf (outputs_run texts ended out lines kept) tt result → IsResultOf (outputs_run (record texts { history = history }) ended out lines kept) tt result
+other_history out lines None texts history ended (Ok status) same is = is
+other_history out lines None texts history ended (Err fault) same is = is
+other_history out lines (Some device) texts history ended result same is =
+    subst (λ (h : List ℕ). IsResultOf (outputs_run (record texts { history = h }) ended out lines (Some device)) tt result) (same refl) is
 
-pub written_as : (out lines : Writing) (kept : Option Writing) (told other : Told) (ended ended2 result : Result Status CliFault) → told.solution ≡ other.solution → told.report ≡ other.report
-    → (is_some kept ≡ true → told.history ≡ other.history) → ended ≡ ended2 → IsWritten out lines kept told ended result → IsWritten out lines kept other ended2 result
-written_as out lines kept told other ended ended2 result a b c d written =
-    subst (λ (s : List ℕ). IsWritten out lines kept (record { solution = s; report = other.report; history = other.history }) ended2 result) a
-    (subst (λ (r : List ℕ). IsWritten out lines kept (record { solution = told.solution; report = r; history = other.history }) ended2 result) b
-    (subst (λ (e : Result Status CliFault). IsWritten out lines kept (record { solution = told.solution; report = told.report; history = other.history }) e result) d
-    (other_history out lines kept told other.history ended result c written)))
+pub written_as : (out lines : Writing) (kept : Option Writing) (texts other : Outputs) (ended ended2 result : Result Status CliFault) → texts.solution ≡ other.solution → texts.report ≡ other.report
+    → (is_some kept ≡ true → texts.history ≡ other.history) → ended ≡ ended2 → IsResultOf (outputs_run texts ended out lines kept) tt result → IsResultOf (outputs_run other ended2 out lines kept) tt result
+written_as out lines kept texts other ended ended2 result a b c d written =
+    subst (λ (s : List ℕ). IsResultOf (outputs_run (record { solution = s; report = other.report; history = other.history }) ended2 out lines kept) tt result) a
+    (subst (λ (r : List ℕ). IsResultOf (outputs_run (record { solution = texts.solution; report = r; history = other.history }) ended2 out lines kept) tt result) b
+    (subst (λ (e : Result Status CliFault). IsResultOf (outputs_run (record { solution = texts.solution; report = texts.report; history = other.history }) e out lines kept) tt result) d
+    (other_history out lines kept texts other.history ended result c written)))
+
+-- behind a run, where memory is not wanting
+pub ran_as : (texts : Texts) (retries : ℕ) (out lines : Writing) (kept : Option Writing) (ran : Ran) (result : Result Status CliFault) → (in_turn (plan_judged texts) (planners_step retries)).Gives tt ran
+    → IsResultOf (outputs_run (outputs_of ran) (ran_end ran) out lines kept) tt result → IsResultOf (plan_run texts retries out lines kept) tt result
+ran_as texts retries out lines kept ran (Ok status) (setup, judged, run) p = (setup, judged, (ran, run, (tt, (refl, tt), p)))
+ran_as texts retries out lines kept ran (Err fault) (setup, judged, run) p = inr (setup, judged, inr (ran, run, inr (tt, (refl, tt), p)))
+
+-- where it is
+pub ran_wants : (texts : Texts) (retries : ℕ) (out lines : Writing) (kept : Option Writing) (ran : Ran) → (in_turn (plan_judged texts) (planners_step retries)).Gives tt ran
+    → (outputs_run (outputs_of ran) (ran_end ran) out lines kept).IsUntouched → (plan_run texts retries out lines kept).Fails tt NoMemory
+ran_wants texts retries out lines kept ran (setup, judged, run) left = inr (setup, judged, inr (ran, run, inl (refl, left)))
+
+-- where there is no run
+pub never_ran : (texts : Texts) (retries : ℕ) (out lines : Writing) (kept : Option Writing) (fault : CliFault) → (in_turn (plan_judged texts) (planners_step retries)).Fails tt fault
+    → IsUnwritten out lines kept → (plan_run texts retries out lines kept).Fails tt fault
+never_ran texts retries out lines kept fault (inl p) left = inl (p.0, (tt, left))
+never_ran texts retries out lines kept fault (inr (setup, judged, p)) left = inr (setup, judged, inl (p, left))
+
+-- what was given to a device, where that is no fault
+pub wrote : {D E : Type 0} (contents : D → Option (List ℕ)) (has_failed : D → Bool) (old new : D) (text : List ℕ) (result : Result (Unit {0}) E)
+    → WritesIfAny contents has_failed old new text result → false ≡ is_err result
+    → (write_step {A = Unit {0}} (writing_of (contents old) (contents new) (has_failed new)) (λ _. text) (λ _. tt {0})).Gives tt tt
+wrote contents has_failed old new text (Ok x) writes is = (refl, writes.ok, writes.sound)
+wrote contents has_failed old new text (Err e) writes is = absurd (false≢true is)
+
+-- all is written, and it ends so
+pub all_written : (texts : Outputs) (ended : Result Status CliFault) (out lines : Writing) (kept : Option Writing)
+    → (write_step {A = Unit {0}} out (λ _. texts.solution) (λ _. tt {0})).Gives tt tt → (write_step {A = Unit {0}} lines (λ _. texts.report) (λ _. tt {0})).Gives tt tt
+    → (write_if_step {A = Unit {0}} kept (λ _. texts.history)).Gives tt tt → IsResultOf (outputs_run texts ended out lines kept) tt ended
+all_written texts (Ok status) out lines kept p q r = (tt, p, (tt, q, (tt, r, refl)))
+all_written texts (Err fault) out lines kept p q r = inr (tt, p, inr (tt, q, inr (tt, r, refl)))
+
+-- the last device fails
+pub last_failed : (texts : Outputs) (ended : Result Status CliFault) (out lines : Writing) (kept : Option Writing) (fault : CliFault)
+    → (write_step {A = Unit {0}} out (λ _. texts.solution) (λ _. tt {0})).Gives tt tt → (write_step {A = Unit {0}} lines (λ _. texts.report) (λ _. tt {0})).Gives tt tt
+    → (write_if_step {A = Unit {0}} kept (λ _. texts.history)).Fails tt fault → (outputs_run texts ended out lines kept).Fails tt fault
+last_failed texts ended out lines kept fault p q r = inr (tt, p, inr (tt, q, inl (r, tt)))

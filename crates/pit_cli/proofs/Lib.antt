@@ -1,10 +1,9 @@
-pub mod Scripts
 pub mod Wanting
 pub mod Left
-pub mod Decided
 pub mod DecidedTexts
 pub mod Refusals
 pub mod ReportEnd
 pub mod OneOutcome
 pub mod Closed
 pub mod ReportLines
+pub mod OpenDesk

@@ -7,26 +7,24 @@ use Rattle.pit_model.specs.Pit.{Pit}
 use Rattle.pit_plan.specs.Schedule.{Commit, held_period, value_of}
 use Rattle.pit_plan.specs.Shortfalls.{shortfalls_of}
 use Rattle.pit_desk.specs.History.{commits_of}
-use Rattle.pit_desk.specs.State.{State}
-use Rattle.pit_cli.specs.ReportText.{runs_text}
 use Rattle.pit_run.specs.Reports.{RunState}
 use Rattle.pit_step.specs.LineTexts.{value_text, shorts_text}
-use Rattle.pit_step.specs.Devices.{Writing}
+use Rattle.pit_step.specs.Devices.{Writing, write_if_step}
+use Rattle.pit_step.specs.Steps.{IsResultOf}
+use Rattle.pit_step.specs.declared.fault.CliFault.{CliFault}
 use Rattle.pit_step.specs.declared.fault.CliFault.TheVariants as cli
 use Rattle.pit_step.specs.declared.status.Status.{Status}
 use Rattle.pit_step.specs.declared.status.Status.TheVariants.{Fine}
-use Rattle.pit_step.proofs.CallerLemmas.{write-shown}
-use Rattle.pit_step.specs.declared.fault.CliFault.{CliFault}
 use Rattle.pit_step.specs.Statuses.{fault_status}
-use Rattle.pit_cli.specs.Texts.{Texts}
-use Rattle.pit_cli.specs.Telling.{status_by, all_whole, report_text, told_of, HasWhole, HasFront, Told, IsWritten, IsTextsRun, IsNoRun, IsPlanned}
-use Rattle.pit_cli.specs.Telling.IsWritten.{whole, no_solution, no_report, no_history}
-use Rattle.pit_cli.specs.Telling.IsPlanned.{ran, untold, refused}
-use Rattle.pit_cli.specs.Outcomes.{MayRun, AreRefused, IsUnwritten, closed_end, IsTold, IsDecisive, has_failed_if, HasFailed}
-use Rattle.pit_cli.proofs.DecidedTexts.{never_two}
+use Rattle.pit_step.proofs.CallerLemmas.{IsOfInputs, never_two, write-shown}
+use Rattle.pit_cli.specs.ReportText.{runs_text}
+use Rattle.pit_cli.specs.Texts.{Texts, Setup}
+use Rattle.pit_cli.specs.Planning.{Ran, IsRan, IsRunFault, plan_judged}
+use Rattle.pit_cli.specs.Output.{status_by, all_whole, report_text, Outputs, outputs_run, outputs_of, ran_end, ran_run, HasWhole, IsLeft, IsUnwritten, plan_run}
+use Rattle.pit_cli.specs.Outcomes.{MayRun, AreRefused, IsWritten, IsDecisive, has_failed_if, HasFailed}
+use Rattle.pit_cli.proofs.DecidedTexts.{IsEarly}
 use Rattle.pit_cli.proofs.ReportEnd.{one_report}
-use Rattle.pit_cli.proofs.Refusals.{IsSomeStart, IsStartApart, IsOneStart, IsKind, kind, never_refused, one_refusal}
-use Rattle.pit_cli.proofs.Refusals.IsKind.{of_inputs, no_memory, no_place, not_closed}
+use Rattle.pit_cli.proofs.Refusals.{IsSomeStart, IsStartApart, IsOneStart, plan_early, never_refused, one_refusal}
 
 -- ---- results
 
@@ -34,21 +32,20 @@ abbrev the_fault : CliFault → Result Status CliFault → CliFault
 the_fault other (Ok status) = other
 the_fault other (Err fault) = fault
 
+abbrev err_of : CliFault → Result Status CliFault
+err_of fault = Err fault
+
 same_fault : (fault other : CliFault) (result : Result Status CliFault) → result ≡ Err fault → result ≡ Err other → fault ≡ other
 same_fault fault other result p q = ap (the_fault fault) (sym p ∙ q)
 
-only_stopped : (all : Bool) (status : Status) (fault : CliFault) (result : Result Status CliFault) → result ≡ Err fault → result ≡ (if all then Ok status else Err cli.Stopped) → fault ≡ cli.Stopped
-only_stopped true status fault result p q = let clash : ⊥ = cc in absurd clash
-only_stopped false status fault result p q = same_fault fault cli.Stopped result p q
+only_stopped : (all : Bool) (status : Status) (fault : CliFault) → (if all then Ok status else Err cli.Stopped) ≡ Err fault → fault ≡ cli.Stopped
+only_stopped true status fault is = let clash : ⊥ = cc in absurd clash
+only_stopped false status fault is = same_fault fault cli.Stopped (Err cli.Stopped) is refl
 
-end_stopped : (closed : State) (runs : List RunState) (fault : CliFault) (result : Result Status CliFault) → result ≡ Err fault → result ≡ closed_end closed runs → fault ≡ cli.Stopped
-end_stopped closed runs fault result p q =
-    only_stopped (all_whole runs) (status_by (shortfalls_of closed.plan.pit (held_period (commits_of closed.history)))) fault result p q
+end_stopped : (ran : Ran) (fault : CliFault) → ran_end ran ≡ Err fault → fault ≡ cli.Stopped
+end_stopped ran fault is = only_stopped (all_whole ran.1) (status_by (shortfalls_of ran.0.plan.pit (held_period (commits_of ran.0.history)))) fault is
 
--- ---- a run
-
-run_may : (texts : Texts) (retries : ℕ) (closed : State) (runs : List RunState) → IsTextsRun texts retries closed runs → MayRun texts
-run_may texts retries closed runs is = record { pit = is.pit; start = is.start; scripts = is.scripts; stand = is.stand; good = is.run.good; count = is.run.count }
+-- ---- devices
 
 some_report : (pit : Pit) (commits : List Commit) (runs : List RunState) → 0 < length (report_text pit commits runs)
 some_report pit commits runs =
@@ -62,175 +59,225 @@ same_text (Some xs) (Some ys) text other tells p q = append_cancel_left xs text 
 
 -- a device that tells its bytes shows that it was given some
 shown : (device : Writing) (text : List ℕ) → IsSome device.before → 0 < length text → Appends device.before device.after text → device.failed ≡ false → Keeps device.before device.after → ⊥
-shown device text told some appended sound kept = write-shown device (λ (xs : List ℕ). xs) (λ xs. Fine) text told some Fine (refl, appended, sound) kept
+shown device text tells some appended sound kept =
+    write-shown device (λ (xs : List ℕ). xs) (λ xs. Fine) text tells some Fine (refl, appended, λ more. sound) kept
 
-front_failed : (kept : Option Writing) (text : List ℕ) → HasFront kept text → has_failed_if kept ≡ true
-front_failed None text front = absurd front
-front_failed (Some device) text front = front.1
+module _ (kept : Option Writing) (text : List ℕ) where
+  pub whole_if : (write_if_step {A = Unit {0}} kept (λ _. text)).Gives tt tt → HasWhole kept text
+  whole_if = by kept
+    where
+      by : (k : Option Writing) → (write_if_step {A = Unit {0}} k (λ _. text)).Gives tt tt → HasWhole k text
+      by None p = tt
+      by (Some device) p = (p.1, p.2)
 
--- all of it was written, or a device failed
-abbrev IsWholeOrFailed : Writing → Writing → Option Writing → Told → Result Status CliFault → Result Status CliFault → Type 0
-IsWholeOrFailed out lines kept told ended result =
-    ((result ≡ ended) × Appends out.before out.after told.solution × Appends lines.before lines.after told.report × (lines.failed ≡ false) × HasWhole kept told.history)
-    ⊎ ((result ≡ Err cli.CannotWrite) × HasFailed out lines kept)
+  failed_if : (fault : CliFault) → (write_if_step {A = Unit {0}} kept (λ _. text)).Fails tt fault → (fault ≡ cli.CannotWrite) × (has_failed_if kept ≡ true)
+  failed_if = by kept
+    where
+      by : (k : Option Writing) (fault : CliFault) → (write_if_step {A = Unit {0}} k (λ _. text)).Fails tt fault → (fault ≡ cli.CannotWrite) × (has_failed_if k ≡ true)
+      by None fault p = absurd p
+      by (Some device) fault p = (p.0, p.2)
 
-of_written : (out lines : Writing) (kept : Option Writing) (told : Told) (ended result : Result Status CliFault) → IsWritten out lines kept told ended result
-    → IsWholeOrFailed out lines kept told ended result
-of_written out lines kept told ended result (whole a b c d e is) = inl (is, a, c, d, e)
-of_written out lines kept told ended result (no_solution a b c d e is) = inr (is, inl c)
-of_written out lines kept told ended result (no_report a b c d e is) = inr (is, inr (inl d))
-of_written out lines kept told ended result (no_history a b c d e is) = inr (is, inr (inr (front_failed kept told.history e)))
+  left_if : (write_if_step {A = Unit {0}} kept (λ _. text)).IsUntouched → IsLeft kept
+  left_if = by kept
+    where
+      by : (k : Option Writing) → (write_if_step {A = Unit {0}} k (λ _. text)).IsUntouched → IsLeft k
+      by None p = tt
+      by (Some device) p = p
 
--- ---- by the answer
+-- ---- the outputs
 
-module _ (texts : Texts) (retries : ℕ) (out lines : Writing) (kept : Option Writing) where
-  told_whole : (result : Result Status CliFault) (closed : State) (runs : List RunState) → IsTextsRun texts retries closed runs → result ≢ Err cli.CannotWrite
-      → IsWholeOrFailed out lines kept (told_of closed runs) (closed_end closed runs) result → IsTold texts retries out lines kept result
-  told_whole result closed runs run some (inl is) = record { closed = closed; runs = runs; run = run; ended = is.0; solution = is.1; report = is.2; sound = is.3; history = is.4 }
-  told_whole result closed runs run some (inr is) = absurd (some is.0)
+module _ (out lines : Writing) (kept : Option Writing) where
+  abbrev AllWritten : Outputs → Type 0
+  AllWritten texts =
+      Appends out.before out.after texts.solution × Appends lines.before lines.after texts.report × (0 < length texts.report → lines.failed ≡ false) × HasWhole kept texts.history
 
-  pub fine_told : (status : Status) → IsPlanned texts retries out lines kept (Ok status) → IsTold texts retries out lines kept (Ok status)
-  fine_told status (ran closed runs run written) =
-      told_whole (Ok status) closed runs run (λ is. cc) (of_written out lines kept (told_of closed runs) (closed_end closed runs) (Ok status) written)
-  fine_told status (untold closed runs run a b c is) = let clash : ⊥ = cc in absurd clash
-  fine_told status (refused fault none a b c is) = let clash : ⊥ = cc in absurd clash
+  module _ (texts : Outputs) (ended : Result Status CliFault) where
+    outputs_given : (status : Status) → (outputs_run texts ended out lines kept).Gives tt status → (ended ≡ Ok status) × AllWritten texts
+    outputs_given status (a, p, (b, q, (c, r, is))) = (is, (p.1, q.1, q.2, whole_if kept texts.history r))
 
-  never_stopped : IsKind texts cli.Stopped → ⊥
-  never_stopped (of_inputs is) = never_two is
-  never_stopped (no_memory is) = cc
-  never_stopped (no_place may is) = cc
-  never_stopped (not_closed may is) = cc
+    -- a device failed; or all was written, and it ended so
+    outputs_failed : (fault : CliFault) → (outputs_run texts ended out lines kept).Fails tt fault
+        → ((fault ≡ cli.CannotWrite) × HasFailed out lines kept) ⊎ ((ended ≡ Err fault) × AllWritten texts)
+    outputs_failed fault (inl (p, left)) = inl (p.0, inl p.2)
+    outputs_failed fault (inr (a, p, inl (q, left))) = inl (q.0, inr (inl q.2))
+    outputs_failed fault (inr (a, p, inr (b, q, inl (r, left)))) =
+        let failed = failed_if kept texts.history fault r in inl (failed.0, inr (inr failed.1))
+    outputs_failed fault (inr (a, p, inr (b, q, inr (c, r, is)))) = inr (is, (p.1, q.1, q.2, whole_if kept texts.history r))
 
-  pub stopped_told : IsPlanned texts retries out lines kept (Err cli.Stopped) → IsTold texts retries out lines kept (Err cli.Stopped)
-  stopped_told (ran closed runs run written) =
-      told_whole (Err cli.Stopped) closed runs run (λ is. cc) (of_written out lines kept (told_of closed runs) (closed_end closed runs) (Err cli.Stopped) written)
-  stopped_told (untold closed runs run a b c is) = let clash : ⊥ = cc in absurd clash
-  stopped_told (refused fault none a b c is) =
-      absurd (never_stopped (subst (λ (f : CliFault). IsKind texts f) (sym (same_fault cli.Stopped fault (Err cli.Stopped) refl is)) (kind texts retries fault none)))
+    outputs_left : (outputs_run texts ended out lines kept).IsUntouched → IsUnwritten out lines kept
+    outputs_left (p, (q, (r, rest))) = (p, q, left_if kept texts.history r)
 
-  never_told : (fault : CliFault) (closed : State) (runs : List RunState) → fault ≢ cli.Stopped → fault ≢ cli.CannotWrite → IsWholeOrFailed out lines kept (told_of closed runs) (closed_end closed runs) (Err fault) → ⊥
-  never_told fault closed runs some also (inl is) = some (end_stopped closed runs fault (Err fault) refl is.0)
-  never_told fault closed runs some also (inr is) = also (same_fault fault cli.CannotWrite (Err fault) refl is.0)
+  -- how what stands behind a run fails
+  abbrev EndsLate : Ran → CliFault → Type 0
+  EndsLate ran fault =
+      ((fault ≡ cli.NoMemory) × IsUnwritten out lines kept)
+      ⊎ (((fault ≡ cli.CannotWrite) × HasFailed out lines kept) ⊎ ((ran_end ran ≡ Err fault) × AllWritten (outputs_of ran)))
 
-  pub fault_unwritten : (fault : CliFault) → fault ≢ cli.Stopped → fault ≢ cli.CannotWrite → IsPlanned texts retries out lines kept (Err fault) → IsUnwritten out lines kept
-  fault_unwritten fault some also (ran closed runs run written) =
-      absurd (never_told fault closed runs some also (of_written out lines kept (told_of closed runs) (closed_end closed runs) (Err fault) written))
-  fault_unwritten fault some also (untold closed runs run a b c is) = (a, b, c)
-  fault_unwritten fault some also (refused other none a b c is) = (a, b, c)
+  ran_failed : (ran : Ran) (fault : CliFault) → (ran_run out lines kept ran).Fails tt fault → EndsLate ran fault
+  ran_failed ran fault (inl (p, left)) = inl (p, outputs_left (outputs_of ran) (ran_end ran) left)
+  ran_failed ran fault (inr (a, p, q)) = inr (outputs_failed (outputs_of ran) (ran_end ran) fault q)
 
-  never_unwritten : IsKind texts cli.CannotWrite → ⊥
-  never_unwritten (of_inputs is) = never_two is
-  never_unwritten (no_memory is) = cc
-  never_unwritten (no_place may is) = cc
-  never_unwritten (not_closed may is) = cc
+  module _ (texts : Texts) (retries : ℕ) where
+    -- how a plan fails: before the run, in it, or behind it
+    pub data Failure (fault : CliFault) : Type 0 where
+      early : (plan_judged texts).Fails tt fault → IsUnwritten out lines kept → Failure fault
+      in_run : (setup : Setup) → (plan_judged texts).Gives tt setup → IsRunFault setup retries fault → IsUnwritten out lines kept → Failure fault
+      late : (setup : Setup) (ran : Ran) → (plan_judged texts).Gives tt setup → IsRan setup retries ran → EndsLate ran fault → Failure fault
 
-  has_failed : (closed : State) (runs : List RunState) → IsWholeOrFailed out lines kept (told_of closed runs) (closed_end closed runs) (Err cli.CannotWrite) → HasFailed out lines kept
-  has_failed closed runs (inl is) =
-      let stopped : cli.CannotWrite ≡ cli.Stopped = end_stopped closed runs cli.CannotWrite (Err cli.CannotWrite) refl is.0 in
-      let clash : ⊥ = cc in absurd clash
-  has_failed closed runs (inr is) = is.1
+    failure : (fault : CliFault) → (plan_run texts retries out lines kept).Fails tt fault → Failure fault
+    failure fault (inl (p, (a, left))) = early p left
+    failure fault (inr (setup, judged, inl (p, left))) = in_run setup judged p left
+    failure fault (inr (setup, judged, inr (ran, run, p))) = late setup ran judged run (ran_failed ran fault p)
 
-  pub failed_device : IsPlanned texts retries out lines kept (Err cli.CannotWrite) → MayRun texts × HasFailed out lines kept
-  failed_device (ran closed runs run written) = (
-    run_may texts retries closed runs run,
-    has_failed closed runs (of_written out lines kept (told_of closed runs) (closed_end closed runs) (Err cli.CannotWrite) written),
-  )
-  failed_device (untold closed runs run a b c is) =
-      let same : cli.CannotWrite ≡ cli.NoMemory = same_fault cli.CannotWrite cli.NoMemory (Err cli.CannotWrite) refl is in
-      let clash : ⊥ = cc in absurd clash
-  failed_device (refused fault none a b c is) =
-      absurd (never_unwritten (subst (λ (f : CliFault). IsKind texts f) (sym (same_fault cli.CannotWrite fault (Err cli.CannotWrite) refl is)) (kind texts retries fault none)))
+    written_of : (setup : Setup) (ran : Ran) (result : Result Status CliFault) → (plan_judged texts).Gives tt setup → IsRan setup retries ran → result ≡ ran_end ran → AllWritten (outputs_of ran)
+        → IsWritten texts retries out lines kept result
+    written_of setup ran result judged run is all = record {
+      setup = setup;
+      ran = ran;
+      judged = judged;
+      run = run;
+      ended = is;
+      solution = all.0;
+      report = all.1;
+      sound = all.2 (some_report ran.0.plan.pit (commits_of ran.0.history) ran.1);
+      history = all.3;
+    }
 
-  pub told_seen : (result : Result Status CliFault) → IsSome lines.before → IsTold texts retries out lines kept result → IsUnwritten out lines kept → ⊥
-  told_seen result tells is unwritten =
-      shown lines (told_of is.closed is.runs).report tells (some_report is.closed.plan.pit (commits_of is.closed.history) is.runs) is.report is.sound unwritten.1
+    pub given_written : (status : Status) → (plan_run texts retries out lines kept).Gives tt status → IsWritten texts retries out lines kept (Ok status)
+    given_written status (setup, judged, (ran, run, (a, m, p))) =
+        let given = outputs_given (outputs_of ran) (ran_end ran) status p in written_of setup ran (Ok status) judged run (sym given.0) given.1
 
-  -- the report's device shows how the run ended
-  told_once : (result other : Result Status CliFault) → IsSome lines.before → IsTold texts retries out lines kept result → IsTold texts retries out lines kept other → result ≡ other
-  told_once result other tells p q =
-      p.ended
-      ∙ one_report p.closed.plan.pit q.closed.plan.pit (commits_of p.closed.history) (commits_of q.closed.history) p.runs q.runs
-      (same_text lines.before lines.after (told_of p.closed p.runs).report (told_of q.closed q.runs).report tells p.report q.report) ∙ sym q.ended
+    -- ---- by the fault
 
--- ---- by the texts
+    never_early : (fault : CliFault) → fault_status fault ≡ 3 → fault ≢ cli.NoMemory → IsEarly fault → ⊥
+    never_early fault three some (inl two) = never_two (sym three ∙ two)
+    never_early fault three some (inr is) = some is
 
-module _ (some_start : IsSomeStart) (start_apart : IsStartApart) (one_start : IsOneStart) (texts : Texts) (retries : ℕ) (out lines : Writing) (kept : Option Writing) where
-  module _ (fault : CliFault) (are : AreRefused texts fault) where
-    no_run : (may : MayRun texts) → ⊥
-    no_run may = never_refused some_start start_apart one_start texts fault may are
+    run_three : (setup : Setup) (fault : CliFault) → IsRunFault setup retries fault → fault_status fault ≡ 3
+    run_three setup cli.NoMemory p = refl
+    run_three setup cli.NoPlace p = refl
+    run_three setup cli.NotClosed p = refl
+    run_three setup other p = absurd p
 
-    answer_of : (other : CliFault) → IsNoRun texts retries other → IsKind texts other → (other ≡ fault) ⊎ (other ≡ cli.NoMemory)
-    answer_of other none (of_inputs is) =
-        inl (one_refusal some_start start_apart one_start texts other fault (record { retries = retries; none = none; status = is }) are)
-    answer_of other none (no_memory is) = inr is
-    answer_of other none (no_place may is) = absurd (no_run may)
-    answer_of other none (not_closed may is) = absurd (no_run may)
+    late_three : (ran : Ran) (fault : CliFault) → EndsLate ran fault → fault_status fault ≡ 3
+    late_three ran fault (inl p) = ap fault_status p.0
+    late_three ran fault (inr (inl p)) = ap fault_status p.0
+    late_three ran fault (inr (inr p)) = ap fault_status (end_stopped ran fault p.0)
 
-    answered : (other : CliFault) (result : Result Status CliFault) → result ≡ Err other → (other ≡ fault) ⊎ (other ≡ cli.NoMemory) → (result ≡ Err fault) ⊎ (result ≡ Err cli.NoMemory)
-    answered other result is (inl same) = inl (is ∙ ap (λ (f : CliFault). Err f) same)
-    answered other result is (inr same) = inr (is ∙ ap (λ (f : CliFault). Err f) same)
+    late_stopped : (setup : Setup) (ran : Ran) → (plan_judged texts).Gives tt setup → IsRan setup retries ran → EndsLate ran cli.Stopped
+        → IsWritten texts retries out lines kept (Err cli.Stopped)
+    late_stopped setup ran judged run (inl p) = let clash : ⊥ = absurd (let is = p.0 in cc) in absurd clash
+    late_stopped setup ran judged run (inr (inl p)) = let clash : ⊥ = absurd (let is = p.0 in cc) in absurd clash
+    late_stopped setup ran judged run (inr (inr p)) = written_of setup ran (Err cli.Stopped) judged run (sym p.0) p.1
 
-    pub refused_so : (result : Result Status CliFault) → IsPlanned texts retries out lines kept result
-        → IsUnwritten out lines kept × ((result ≡ Err fault) ⊎ (result ≡ Err cli.NoMemory))
-    refused_so result (ran closed runs run written) = absurd (no_run (run_may texts retries closed runs run))
-    refused_so result (untold closed runs run a b c is) = absurd (no_run (run_may texts retries closed runs run))
-    refused_so result (refused other none a b c is) = ((a, b, c), answered other result is (answer_of other none (kind texts retries other none)))
+    of_stopped : Failure cli.Stopped → IsWritten texts retries out lines kept (Err cli.Stopped)
+    of_stopped (early p left) = absurd (never_early cli.Stopped refl (λ is. cc) (plan_early texts cli.Stopped p))
+    of_stopped (in_run setup judged p left) = absurd p
+    of_stopped (late setup ran judged run p) = late_stopped setup ran judged run p
 
-  module _ (may : MayRun texts) where
-    kind_three : (other : CliFault) → IsNoRun texts retries other → IsKind texts other → fault_status other ≡ 3
-    kind_three other none (of_inputs is) =
-        absurd (never_refused some_start start_apart one_start texts other may (record { retries = retries; none = none; status = is }))
-    kind_three other none (no_memory is) = ap fault_status is
-    kind_three other none (no_place also is) = ap fault_status is
-    kind_three other none (not_closed also is) = ap fault_status is
+    pub stopped_written : (plan_run texts retries out lines kept).Fails tt cli.Stopped → IsWritten texts retries out lines kept (Err cli.Stopped)
+    stopped_written p = of_stopped (failure cli.Stopped p)
 
-    ran_three : (fault : CliFault) (closed : State) (runs : List RunState) → IsWholeOrFailed out lines kept (told_of closed runs) (closed_end closed runs) (Err fault) → fault_status fault ≡ 3
-    ran_three fault closed runs (inl is) = ap fault_status (end_stopped closed runs fault (Err fault) refl is.0)
-    ran_three fault closed runs (inr is) = ap fault_status (same_fault fault cli.CannotWrite (Err fault) refl is.0)
+    late_failed : (ran : Ran) → EndsLate ran cli.CannotWrite → HasFailed out lines kept
+    late_failed ran (inl p) = let clash : ⊥ = absurd (let is = p.0 in cc) in absurd clash
+    late_failed ran (inr (inl p)) = p.1
+    late_failed ran (inr (inr p)) = let is = end_stopped ran cli.CannotWrite p.0 in let clash : ⊥ = cc in absurd clash
 
-    pub wanting_only : (fault : CliFault) → IsPlanned texts retries out lines kept (Err fault) → fault_status fault ≡ 3
-    wanting_only fault (ran closed runs run written) = ran_three fault closed runs (of_written out lines kept (told_of closed runs) (closed_end closed runs) (Err fault) written)
-    wanting_only fault (untold closed runs run a b c is) = ap fault_status (same_fault fault cli.NoMemory (Err fault) refl is)
-    wanting_only fault (refused other none a b c is) =
-        ap fault_status (same_fault fault other (Err fault) refl is) ∙ kind_three other none (kind texts retries other none)
+    of_failed : Failure cli.CannotWrite → MayRun texts × HasFailed out lines kept
+    of_failed (early p left) = absurd (never_early cli.CannotWrite refl (λ is. cc) (plan_early texts cli.CannotWrite p))
+    of_failed (in_run setup judged p left) = absurd p
+    of_failed (late setup ran judged run p) = ((setup, judged), late_failed ran p)
 
-  -- ---- an outcome
+    pub failed_device : (plan_run texts retries out lines kept).Fails tt cli.CannotWrite → MayRun texts × HasFailed out lines kept
+    failed_device p = of_failed (failure cli.CannotWrite p)
 
-  abbrev IsToldOrRefused : Result Status CliFault → Type 0
-  IsToldOrRefused result = IsTold texts retries out lines kept result ⊎ ((fault : CliFault) × (result ≡ Err fault) × AreRefused texts fault)
+    late_unwritten : (ran : Ran) (fault : CliFault) → fault ≢ cli.Stopped → fault ≢ cli.CannotWrite → EndsLate ran fault → IsUnwritten out lines kept
+    late_unwritten ran fault some also (inl p) = p.1
+    late_unwritten ran fault some also (inr (inl p)) = absurd (also p.0)
+    late_unwritten ran fault some also (inr (inr p)) = absurd (some (end_stopped ran fault p.0))
 
-  ran_otherwise : (fault : CliFault) (closed : State) (runs : List RunState) → fault_status fault ≡ 2
-      → IsWholeOrFailed out lines kept (told_of closed runs) (closed_end closed runs) (Err fault) → ⊥
-  ran_otherwise fault closed runs two (inl is) = never_two (sym (ap fault_status (end_stopped closed runs fault (Err fault) refl is.0)) ∙ two)
-  ran_otherwise fault closed runs two (inr is) = never_two (sym (ap fault_status (same_fault fault cli.CannotWrite (Err fault) refl is.0)) ∙ two)
+    of_unwritten : (fault : CliFault) → fault ≢ cli.Stopped → fault ≢ cli.CannotWrite → Failure fault → IsUnwritten out lines kept
+    of_unwritten fault some also (early p left) = left
+    of_unwritten fault some also (in_run setup judged p left) = left
+    of_unwritten fault some also (late setup ran judged run p) = late_unwritten ran fault some also p
 
-  pub refuses : (fault : CliFault) → fault_status fault ≡ 2 → IsPlanned texts retries out lines kept (Err fault) → AreRefused texts fault
-  refuses fault two (ran closed runs run written) = absurd (ran_otherwise fault closed runs two (of_written out lines kept (told_of closed runs) (closed_end closed runs) (Err fault) written))
-  refuses fault two (untold closed runs run a b c is) =
-      absurd (never_two (sym (ap fault_status (same_fault fault cli.NoMemory (Err fault) refl is)) ∙ two))
-  refuses fault two (refused other none a b c is) = record {
-    retries = retries;
-    none = subst (λ (f : CliFault). IsNoRun texts retries f) (sym (same_fault fault other (Err fault) refl is)) none;
-    status = two;
-  }
+    pub fault_unwritten : (fault : CliFault) → fault ≢ cli.Stopped → fault ≢ cli.CannotWrite → (plan_run texts retries out lines kept).Fails tt fault → IsUnwritten out lines kept
+    fault_unwritten fault some also p = of_unwritten fault some also (failure fault p)
 
-  of_outcome : (result : Result Status CliFault) → IsDecisive result → IsPlanned texts retries out lines kept result → IsToldOrRefused result
-  of_outcome (Ok status) is planned = inl (fine_told texts retries out lines kept status planned)
-  of_outcome (Err fault) (inl is) planned =
-      inl (subst (λ (f : CliFault). IsTold texts retries out lines kept (Err f)) (sym is)
-      (stopped_told texts retries out lines kept (subst (λ (f : CliFault). IsPlanned texts retries out lines kept (Err f)) is planned)))
-  of_outcome (Err fault) (inr is) planned = inr (fault, refl, refuses fault is planned)
+    pub written_seen : (result : Result Status CliFault) → IsSome lines.before → IsWritten texts retries out lines kept result → IsUnwritten out lines kept → ⊥
+    written_seen result tells is unwritten =
+        shown lines (outputs_of is.ran).report tells (some_report is.ran.0.plan.pit (commits_of is.ran.0.history) is.ran.1) is.report is.sound unwritten.1
 
-  told_apart : (result : Result Status CliFault) (fault : CliFault) → IsTold texts retries out lines kept result → AreRefused texts fault → ⊥
-  told_apart result fault is are = never_refused some_start start_apart one_start texts fault (run_may texts retries is.closed is.runs is.run) are
+    -- the report's device shows how the run ended
+    written_once : (result other : Result Status CliFault) → IsSome lines.before → IsWritten texts retries out lines kept result → IsWritten texts retries out lines kept other → result ≡ other
+    written_once result other tells p q =
+        p.ended
+        ∙ one_report p.ran.0.plan.pit q.ran.0.plan.pit (commits_of p.ran.0.history) (commits_of q.ran.0.history) p.ran.1 q.ran.1
+        (same_text lines.before lines.after (outputs_of p.ran).report (outputs_of q.ran).report tells p.report q.report) ∙ sym q.ended
 
-  once_either : (result other : Result Status CliFault) → IsSome lines.before → IsToldOrRefused result → IsToldOrRefused other → result ≡ other
-  once_either result other tells (inl p) (inl q) = told_once texts retries out lines kept result other tells p q
-  once_either result other tells (inl p) (inr q) = absurd (told_apart result q.0 p q.2)
-  once_either result other tells (inr p) (inl q) = absurd (told_apart other p.0 q p.2)
-  once_either result other tells (inr p) (inr q) =
-      p.1 ∙ ap (λ (f : CliFault). Err f) (one_refusal some_start start_apart one_start texts p.0 q.0 p.2 q.2) ∙ sym q.1
+    -- ---- by the texts
 
-  pub once : (result other : Result Status CliFault) → IsSome lines.before → IsDecisive result → IsDecisive other → IsPlanned texts retries out lines kept result
-      → IsPlanned texts retries out lines kept other → result ≡ other
-  once result other tells p q planned also = once_either result other tells (of_outcome result p planned) (of_outcome other q also)
+    of_refuses : (fault : CliFault) → fault_status fault ≡ 2 → Failure fault → AreRefused texts fault
+    of_refuses fault two (early p left) = (p, two)
+    of_refuses fault two (in_run setup judged p left) = absurd (never_two (sym (run_three setup fault p) ∙ two))
+    of_refuses fault two (late setup ran judged run p) = absurd (never_two (sym (late_three ran fault p) ∙ two))
+
+    pub refuses : (fault : CliFault) → fault_status fault ≡ 2 → (plan_run texts retries out lines kept).Fails tt fault → AreRefused texts fault
+    refuses fault two p = of_refuses fault two (failure fault p)
+
+    module _ (some_start : IsSomeStart) (start_apart : IsStartApart) (one_start : IsOneStart) where
+      early_three : (fault : CliFault) → MayRun texts → (plan_judged texts).Fails tt fault → IsEarly fault → fault_status fault ≡ 3
+      early_three fault may p (inl two) = absurd (never_refused some_start start_apart one_start texts fault may (p, two))
+      early_three fault may p (inr is) = ap fault_status is
+
+      of_wanting : (fault : CliFault) → MayRun texts → Failure fault → fault_status fault ≡ 3
+      of_wanting fault may (early p left) = early_three fault may p (plan_early texts fault p)
+      of_wanting fault may (in_run setup judged p left) = run_three setup fault p
+      of_wanting fault may (late setup ran judged run p) = late_three ran fault p
+
+      pub wanting_only : (fault : CliFault) → MayRun texts → (plan_run texts retries out lines kept).Fails tt fault → fault_status fault ≡ 3
+      wanting_only fault may p = of_wanting fault may (failure fault p)
+
+      module _ (fault : CliFault) (are : AreRefused texts fault) where
+        no_run : (setup : Setup) → (plan_judged texts).Gives tt setup → ⊥
+        no_run setup judged = never_refused some_start start_apart one_start texts fault (setup, judged) are
+
+        answer_of : (other : CliFault) → (plan_judged texts).Fails tt other → IsEarly other → (err_of other ≡ err_of fault) ⊎ (err_of other ≡ err_of cli.NoMemory)
+        answer_of other p (inl two) = inl (ap err_of (one_refusal some_start start_apart one_start texts other fault (p, two) are))
+        answer_of other p (inr is) = inr (ap err_of is)
+
+        of_refused : (other : CliFault) → Failure other → IsUnwritten out lines kept × ((err_of other ≡ err_of fault) ⊎ (err_of other ≡ err_of cli.NoMemory))
+        of_refused other (early p left) = (left, answer_of other p (plan_early texts other p))
+        of_refused other (in_run setup judged p left) = absurd (no_run setup judged)
+        of_refused other (late setup ran judged run p) = absurd (no_run setup judged)
+
+        pub refused_so : (result : Result Status CliFault) → IsResultOf (plan_run texts retries out lines kept) tt result
+            → IsUnwritten out lines kept × ((result ≡ Err fault) ⊎ (result ≡ Err cli.NoMemory))
+        refused_so (Ok status) (setup, judged, rest) = absurd (no_run setup judged)
+        refused_so (Err other) p = of_refused other (failure other p)
+
+      -- ---- an outcome
+
+      abbrev IsWrittenOrRefused : Result Status CliFault → Type 0
+      IsWrittenOrRefused result = IsWritten texts retries out lines kept result ⊎ ((fault : CliFault) × (result ≡ Err fault) × AreRefused texts fault)
+
+      of_outcome : (result : Result Status CliFault) → IsDecisive result → IsResultOf (plan_run texts retries out lines kept) tt result → IsWrittenOrRefused result
+      of_outcome (Ok status) is p = inl (given_written status p)
+      of_outcome (Err fault) (inl is) p =
+          inl (subst (λ (f : CliFault). IsWritten texts retries out lines kept (Err f)) (sym is)
+          (stopped_written (subst (λ (f : CliFault). (plan_run texts retries out lines kept).Fails tt f) is p)))
+      of_outcome (Err fault) (inr is) p = inr (fault, refl, refuses fault is p)
+
+      written_apart : (result : Result Status CliFault) (fault : CliFault) → IsWritten texts retries out lines kept result → AreRefused texts fault → ⊥
+      written_apart result fault is are = never_refused some_start start_apart one_start texts fault (is.setup, is.judged) are
+
+      once_either : (result other : Result Status CliFault) → IsSome lines.before → IsWrittenOrRefused result → IsWrittenOrRefused other → result ≡ other
+      once_either result other tells (inl p) (inl q) = written_once result other tells p q
+      once_either result other tells (inl p) (inr q) = absurd (written_apart result q.0 p q.2)
+      once_either result other tells (inr p) (inl q) = absurd (written_apart other p.0 q p.2)
+      once_either result other tells (inr p) (inr q) =
+          p.1 ∙ ap (λ (f : CliFault). Err f) (one_refusal some_start start_apart one_start texts p.0 q.0 p.2 q.2) ∙ sym q.1
+
+      pub once : (result other : Result Status CliFault) → IsSome lines.before → IsDecisive result → IsDecisive other → IsResultOf (plan_run texts retries out lines kept) tt result
+          → IsResultOf (plan_run texts retries out lines kept) tt other → result ≡ other
+      once result other tells p q planned also = once_either result other tells (of_outcome result p planned) (of_outcome other q also)

@@ -16,31 +16,31 @@ use Rattle.pit_job.specs.declared.outcome.RunEnd.{RunEnd}
 use Rattle.pit_job.specs.declared.outcome.RunEnd.TheVariants as end
 use Rattle.pit_run.specs.Reports.{RunState}
 use Rattle.pit_cli.specs.ReportText.{numbered_text, refused_text, outcome_text, job_text, jobs_text, stopped_text, run_end_text, run_text, runs_text}
-use Rattle.pit_step.specs.LineTexts.{value_text, field_text, micro_text, load_text, short_text, shorts_text}
+use Rattle.pit_step.specs.LineTexts.{value_text, field_text, micro_text, load_words, short_text, shorts_text}
 use Rattle.pit_step.specs.declared.status.Status.{Status}
 use Rattle.pit_step.specs.declared.status.Status.TheVariants.{Fine, Failed}
 use Rattle.pit_step.specs.declared.fault.CliFault.{CliFault}
 use Rattle.pit_step.specs.declared.fault.CliFault.TheVariants.{Stopped}
-use Rattle.pit_cli.specs.Telling.{is_whole, all_whole, status_by, ended_of, report_text}
+use Rattle.pit_cli.specs.Output.{is_whole, all_whole, status_by, ended_of, report_text}
 
 abbrev Ending : Type 0
 Ending = Result Status CliFault
 
 -- ---- a reader of reports
 
--- a line begins; the word before a planner's number, and that number; what is told of it; the rest of the line
+-- a line begins; the word before a planner's number, and that number; what is said of it; the rest of the line
 data Place : Type 0 where
   begins : Place
   word : Place
   number : Place
-  told : Place
+  said : Place
   rest : Place
 
 abbrev after : Place → ℕ → Place
 after begins c = if c == 112 then word else rest
 after word c = if c == 32 then number else word
-after number c = if c == 32 then told else number
-after told c = rest
+after number c = if c == 32 then said else number
+after said c = rest
 after rest c = if c == 10 then begins else rest
 
 abbrev worse : Ending → Ending
@@ -52,7 +52,7 @@ abbrev noted : Place → ℕ → Ending → Ending
 noted begins c ending = if c == 115 then worse ending else ending
 noted word c ending = ending
 noted number c ending = ending
-noted told c ending = if c == 106 then ending else Err Stopped
+noted said c ending = if c == 106 then ending else Err Stopped
 noted rest c ending = ending
 
 abbrev read : Place → Ending → List ℕ → Ending
@@ -122,7 +122,7 @@ number_high : (text : List ℕ) → AreHigh text → Reads number number same te
 number_high [] high = λ ending more. refl
 number_high (c ∷ text) high =
     λ ending more.
-    ap (λ (b : Bool). read (if b then told else number) ending (text ++ more)) (ne_eqb c 32 (λ is. omega (arith, is, high.0))) ∙ number_high text high.1 ending more
+    ap (λ (b : Bool). read (if b then said else number) ending (text ++ more)) (ne_eqb c 32 (λ is. omega (arith, is, high.0))) ∙ number_high text high.1 ending more
 
 rest_high : (text : List ℕ) → AreHigh text → Reads rest rest same text
 rest_high [] high = λ ending more. refl
@@ -142,6 +142,17 @@ passes_number : (word_text : List ℕ) (n : ℕ) → Passes word_text → Passes
 unfolding numbered_text
 passes_number word_text n p = passes_then word_text (decimal n) p (rest_high (decimal n) (high_decimal n))
 
+passes_field : (n : ℕ) → Passes (field_text n 32)
+passes_field n = passes_then (decimal n) (32 ∷ []) (rest_high (decimal n) (high_decimal n)) (λ e m. refl)
+
+passes_load : (resource period : ℕ) (load limit : ℤ) → Passes (load_words resource period load limit)
+unfolding load_words
+passes_load resource period load limit =
+    passes_then (field_text resource 32) (field_text period 32 ++ (micro_text load 32 ++ fixed_text 6 limit)) (passes_field resource)
+    (passes_then (field_text period 32) (micro_text load 32 ++ fixed_text 6 limit) (passes_field period)
+    (passes_then (micro_text load 32) (fixed_text 6 limit) (passes_then (fixed_text 6 load) (32 ∷ []) (rest_high (fixed_text 6 load) (high_fixed 6 load)) (λ e m. refl))
+    (rest_high (fixed_text 6 limit) (high_fixed 6 limit))))
+
 passes_refusal : (why : Refusal) → Passes (refused_text why)
 passes_refusal (refusal.Ahead start commits) =
     passes_then (numbered_text (codes "ahead ") start) (numbered_text (codes " ") commits) (passes_number (codes "ahead ") start (λ e m. refl)) (passes_number (codes " ") commits (λ e m. refl))
@@ -149,15 +160,10 @@ passes_refusal (refusal.Moved block version) =
     passes_then (numbered_text (codes "moved ") block) (numbered_text (codes " ") version) (passes_number (codes "moved ") block (λ e m. refl)) (passes_number (codes " ") version (λ e m. refl))
 passes_refusal (refusal.Misread block) = passes_number (codes "misread ") block (λ e m. refl)
 passes_refusal (refusal.Precedence block before) =
-    passes_then (numbered_text (codes "precedence ") block) (numbered_text (codes " ") before) (passes_number (codes "precedence ") block (λ e m. refl))
-    (passes_number (codes " ") before (λ e m. refl))
+    passes_then (codes "precedence ") (field_text block 32 ++ decimal before) (λ e m. refl)
+    (passes_then (field_text block 32) (decimal before) (passes_field block) (rest_high (decimal before) (high_decimal before)))
 passes_refusal (refusal.Over resource period load limit) =
-    passes_then (numbered_text (codes "over ") resource) (numbered_text (codes " ") period ++ (codes " " ++ (fixed_text 6 load ++ (codes " " ++ fixed_text 6 limit))))
-    (passes_number (codes "over ") resource (λ e m. refl))
-    (passes_then (numbered_text (codes " ") period) (codes " " ++ (fixed_text 6 load ++ (codes " " ++ fixed_text 6 limit))) (passes_number (codes " ") period (λ e m. refl))
-    (passes_then (codes " ") (fixed_text 6 load ++ (codes " " ++ fixed_text 6 limit)) (λ e m. refl)
-    (passes_then (fixed_text 6 load) (codes " " ++ fixed_text 6 limit) (rest_high (fixed_text 6 load) (high_fixed 6 load))
-    (passes_then (codes " ") (fixed_text 6 limit) (λ e m. refl) (rest_high (fixed_text 6 limit) (high_fixed 6 limit))))))
+    passes_then (codes "over ") (load_words resource period load limit) (λ e m. refl) (passes_load resource period load limit)
 
 passes_outcome : (what : Outcome) → Passes (outcome_text what)
 passes_outcome (outcome.Committed n tries) =
@@ -234,15 +240,9 @@ reads_value z =
     reads_then begins rest begins same same (codes "value ") (value_text z) (λ e m. refl)
     (reads_then rest rest begins same same (fixed_text 18 z) (10 ∷ []) (rest_high (fixed_text 18 z) (high_fixed 18 z)) (λ e m. refl))
 
-reads_load : (resource period : ℕ) (load limit : ℤ) → Reads rest begins same (load_text resource period load limit)
+reads_load : (resource period : ℕ) (load limit : ℤ) → Reads rest begins same (load_words resource period load limit ++ 10 ∷ [])
 reads_load resource period load limit =
-    reads_then rest rest begins same same (field_text resource 32) (field_text period 32 ++ (micro_text load 32 ++ micro_text limit 10))
-    (passes_then (decimal resource) (32 ∷ []) (rest_high (decimal resource) (high_decimal resource)) (λ e m. refl))
-    (reads_then rest rest begins same same (field_text period 32) (micro_text load 32 ++ micro_text limit 10)
-    (passes_then (decimal period) (32 ∷ []) (rest_high (decimal period) (high_decimal period)) (λ e m. refl))
-    (reads_then rest rest begins same same (micro_text load 32) (micro_text limit 10)
-    (passes_then (fixed_text 6 load) (32 ∷ []) (rest_high (fixed_text 6 load) (high_fixed 6 load)) (λ e m. refl))
-    (reads_then rest rest begins same same (fixed_text 6 limit) (10 ∷ []) (rest_high (fixed_text 6 limit) (high_fixed 6 limit)) (λ e m. refl))))
+    reads_then rest rest begins same same (load_words resource period load limit) (10 ∷ []) (passes_load resource period load limit) (λ e m. refl)
 
 abbrev by_shorts : List Short → Ending → Ending
 by_shorts [] ending = ending
@@ -253,7 +253,7 @@ unfolding shorts_text
 reads_shorts [] = λ e m. refl
 reads_shorts (short ∷ shorts) =
     reads_then begins begins begins worse (by_shorts shorts) (short_text short) (flat_map short_text shorts)
-    (reads_then begins rest begins worse same (codes "short ") (load_text short.resource short.period short.load short.limit) (λ e m. refl)
+    (reads_then begins rest begins worse same (codes "short ") (load_words short.resource short.period short.load short.limit ++ 10 ∷ []) (λ e m. refl)
     (reads_load short.resource short.period short.load short.limit)) (reads_shorts shorts)
 
 -- ---- the end of the report

@@ -1,19 +1,19 @@
 -- What texts stand for, or where memory is wanted for it.
-use Rattle.std.proofs.Common.{◌≡◌, ◌⊎◌, inl, inr, ℕ, List, Option, Some, Result, Ok, Err, IsErr, IsErrAnd, MatchResult, ap, sym, subst}
-use Rattle.std.proofs.lemmas.Bool.{false≢true}
+use Rattle.std.proofs.Common.{◌≡◌, ◌⊎◌, inl, inr, ℕ, List, [], Option, Some, Result, MatchResult, sym, subst}
 use Rattle.std.proofs.lemmas.Result.{MatchResult-weaker}
 use Rattle.pit_model.specs.Pit.{Pit}
 use Rattle.pit_text.specs.Cutting.{cut_of, end_line}
-use Rattle.pit_text.specs.Stands.{StopsAt, FailsWhole}
-use Rattle.pit_script.specs.Jobs.{script_line, script_end}
+use Rattle.pit_text.specs.Stands.{FailsWhole}
+use Rattle.pit_script.specs.Jobs.{Job, script_line, script_end}
+use Rattle.pit_script.specs.Scripts.{StandsForJobs, WantsMemoryAt, IsScriptError}
 use Rattle.pit_script.specs.declared.error.ScriptCause.{ScriptCause}
 use Rattle.pit_script.specs.declared.error.ScriptCause.TheVariants.{NoMemory as WantsMemory}
 use Rattle.pit_script.specs.declared.error.ScriptError.{ScriptError}
-use Rattle.pit_script.proofs.CallerLemmas.{no_script_wants}
+use Rattle.pit_script.proofs.CallerLemmas.{no_script_wants, no_line_stands}
 use Rattle.pit_step.specs.declared.fault.CliFault.{CliFault}
 use Rattle.pit_step.specs.declared.fault.CliFault.TheVariants.{NoMemory}
 use Rattle.pit_step.specs.Inputs.{IsPlaced, IsPlacesStop, IsPlacesFault}
-use Rattle.pit_cli.specs.Texts.{ArePlacesOf, IsPlacedFault, IsScriptStop}
+use Rattle.pit_cli.specs.Texts.{ArePlacesOf, IsPlacedFault, IsScriptOf, IsScriptStop}
 
 places-stop : (given : Pit) (bytes : List ℕ) (pit : Pit) → IsPlaced given bytes pit → IsPlacesStop given bytes
 unfolding IsPlacesStop
@@ -31,18 +31,17 @@ stop_alone : (Stops : Type 0) (Fails : ScriptCause → Type 0) (cause : ScriptCa
 stop_alone Stops Fails cause is never (inl stops) = stops.1
 stop_alone Stops Fails cause is never (inr fails) = absurd (never (subst Fails is fails))
 
--- a script's reader wants memory
-pub script-wants : (pit : Pit) (bytes : List ℕ) (error : ScriptError) → error.cause ≡ WantsMemory
-    → ((error.cause ≡ WantsMemory) × StopsAt (script_line pit) (cut_of bytes) error.line) ⊎ FailsWhole (script_line pit) script_end (cut_of bytes) (end_line bytes) error.line error.cause
-    → IsScriptStop pit bytes
-script-wants pit bytes error is answered =
-    inl (
-      error.line,
-      stop_alone (StopsAt (script_line pit) (cut_of bytes) error.line) (FailsWhole (script_line pit) script_end (cut_of bytes) (end_line bytes) error.line) error.cause is
-          (no_script_wants pit (cut_of bytes) (end_line bytes) error.line) answered,
-    )
+-- a script's reader gives jobs
+pub script-stands : (pit : Pit) (bytes : List ℕ) (jobs : List Job) → StandsForJobs pit bytes jobs → IsScriptOf pit bytes jobs
+script-stands pit bytes jobs is = record { facts = is.0; stands = is.1; says = is.2 }
 
--- a fault that a `?` hands on
-pub is-err : {B E : Type 0} (result : Result B E) (fault : E) → IsErr result → IsErrAnd result (λ (e : E). e ≡ fault) → result ≡ Err fault
-is-err (Ok x) fault is same = absurd (false≢true is)
-is-err (Err e) fault is same = ap Err same
+at_line : (pit : Pit) (bytes : List ℕ) (line : ℕ) → WantsMemoryAt pit bytes line → IsScriptStop pit bytes
+at_line pit bytes line (inl stops) = inl (line, stops)
+at_line pit bytes line (inr none) = inr ([], script-stands pit bytes [] (no_line_stands pit bytes none.0))
+
+-- it wants memory
+pub script-wants : (pit : Pit) (bytes : List ℕ) (error : ScriptError) → error.cause ≡ WantsMemory → IsScriptError pit bytes error → IsScriptStop pit bytes
+script-wants pit bytes error is answered =
+    at_line pit bytes error.line
+    (stop_alone (WantsMemoryAt pit bytes error.line) (FailsWhole (script_line pit) script_end (cut_of bytes) (end_line bytes) error.line) error.cause is
+    (no_script_wants pit (cut_of bytes) (end_line bytes) error.line) answered)

@@ -1,8 +1,9 @@
 pub mod Texts
 pub mod Planning
 pub mod ReportText
-pub mod Telling
+pub mod Output
 pub mod Outcomes
+pub mod Inside
 pub use Rattle.pit_step.specs.Steps
 pub use Rattle.pit_step.specs.Devices
 pub use Rattle.pit_step.specs.Inputs

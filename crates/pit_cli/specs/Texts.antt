@@ -1,5 +1,5 @@
 -- The texts of the inputs of `plan`: what they stand for, and their first fault.
-use Rattle.std.specs.Prelude.{◌≡◌, ◌⊎◌, ℕ, ◌+◌, List, [], ◌∷◌, Option, Some, None}
+use Rattle.std.specs.Prelude.{◌≡◌, ◌⊎◌, ℕ, List, [], Option, Some, None}
 use Rattle.pit_model.specs.Pit.{Pit}
 use Rattle.pit_text.specs.Cutting.{cut_of, end_line}
 use Rattle.pit_text.specs.Stands.{StopsAt, StandsWhole, FailsWhole}
@@ -8,6 +8,7 @@ use Rattle.pit_script.specs.declared.error.ScriptError.{ScriptError}
 use Rattle.pit_step.specs.declared.input.Input.TheVariants.{Start}
 use Rattle.pit_step.specs.declared.fault.CliFault.{CliFault}
 use Rattle.pit_step.specs.declared.fault.CliFault.TheVariants.{NoMemory, Script}
+use Rattle.pit_step.specs.Steps.{Step, in_turn, beside, judge_step, may_step, run_step, each}
 use Rattle.pit_step.specs.Inputs.{StandsAs, IsModel, IsModelFault, IsOrder, IsOrderFault, IsPlaced, IsPlacesFault, IsSolutionOf, IsSolutionFault}
 
 pub record Texts : Type 0 where
@@ -28,21 +29,12 @@ abbrev pub IsPlacedFault : Pit → Option (List ℕ) → CliFault → Type 0
 IsPlacedFault given None fault = fault ≡ NoMemory
 IsPlacedFault given (Some bytes) fault = IsPlacesFault given bytes fault
 
--- a model, precedences and places stand for a pit
-pub record IsPitOf (model precedence : List ℕ) (blocks : Option (List ℕ)) (pit : Pit) : Type 0 where
-  pub bare : Pit
-  pub model_stands : IsModel model bare
-  pub ordered : Pit
-  pub order_stands : IsOrder bare precedence ordered
-  pub places_stand : ArePlacesOf ordered blocks pit
-
--- the first fault of a model, precedences and places
-pub data IsPitFault (model precedence : List ℕ) (blocks : Option (List ℕ)) (fault : CliFault) : Type 0 where
-  of_model : IsModelFault model fault → IsPitFault model precedence blocks fault
-  of_order : (bare : Pit) → IsModel model bare → IsOrderFault bare precedence fault
-      → IsPitFault model precedence blocks fault
-  of_places : (bare ordered : Pit) → IsModel model bare → IsOrder bare precedence ordered → IsPlacedFault ordered blocks fault
-      → IsPitFault model precedence blocks fault
+-- the pit of a model, of precedences, and of places where they are given
+abbrev pub pit_judged : List ℕ → List ℕ → Option (List ℕ) → Step CliFault (Unit {0}) Pit
+pit_judged model precedence blocks =
+    in_turn (judge_step (λ _. IsModel model) (λ _. IsModelFault model))
+    (in_turn (judge_step (λ bare. IsOrder bare precedence) (λ bare. IsOrderFault bare precedence))
+    (judge_step (λ ordered. ArePlacesOf ordered blocks) (λ ordered. IsPlacedFault ordered blocks)))
 
 -- ---- the start: a solution of the pit, or no block is mined
 
@@ -72,31 +64,30 @@ IsScriptFault pit number bytes (Script n error) = (n ≡ number) × IsBadScript 
 IsScriptFault pit number bytes NoMemory = IsScriptStop pit bytes
 IsScriptFault pit number bytes other = ⊥
 
--- each text stands for the jobs of a script
-abbrev pub AreScriptsOf : Pit → List (List ℕ) → List (List Job) → Type 0
-AreScriptsOf pit [] [] = Unit {0}
-AreScriptsOf pit [] (jobs ∷ scripts) = ⊥
-AreScriptsOf pit (bytes ∷ texts) [] = ⊥
-AreScriptsOf pit (bytes ∷ texts) (jobs ∷ scripts) = IsScriptOf pit bytes jobs × AreScriptsOf pit texts scripts
+abbrev pub script_judged : Pit → ℕ → List ℕ → Step CliFault (Unit {0}) (List Job)
+script_judged pit number bytes = judge_step (λ _. IsScriptOf pit bytes) (λ _. IsScriptFault pit number bytes)
 
--- the first fault of texts, of which the first has this number
-abbrev pub IsScriptsFault : Pit → ℕ → List (List ℕ) → CliFault → Type 0
-IsScriptsFault pit number [] fault = ⊥
-IsScriptsFault pit number (bytes ∷ texts) fault =
-    IsScriptFault pit number bytes fault ⊎ ((jobs : List Job) × IsScriptOf pit bytes jobs × IsScriptsFault pit (number + 1) texts fault)
+-- the scripts, numbered from 1; before that, memory may be wanted for the heights of the pit's blocks
+abbrev pub scripts_judged : List (List ℕ) → Pit → Step CliFault (Unit {0}) (List (List Job))
+scripts_judged texts pit = in_turn (may_step NoMemory) (each (script_judged pit) 1 texts)
 
 -- ---- all of them
 
-pub record AreTextsOf (texts : Texts) (pit : Pit) (start : List (ℕ × ℕ)) (scripts : List (List Job)) : Type 0 where
-  pub pit_stands : IsPitOf texts.model texts.precedence texts.blocks pit
-  pub start_stands : IsStartOf pit texts.start start
-  pub scripts_stand : AreScriptsOf pit texts.scripts scripts
+-- what the texts stand for: a pit with a start, and scripts
+abbrev pub Setup : Type 0
+Setup = (Pit × List (ℕ × ℕ)) × List (List Job)
 
--- the first fault; and memory may be wanted for the heights of a pit's blocks
-pub data IsTextsFault (texts : Texts) (fault : CliFault) : Type 0 where
-  of_pit : IsPitFault texts.model texts.precedence texts.blocks fault → IsTextsFault texts fault
-  of_start : (pit : Pit) → IsPitOf texts.model texts.precedence texts.blocks pit → IsStartFault pit texts.start fault → IsTextsFault texts fault
-  of_benches : (pit : Pit) (start : List (ℕ × ℕ)) → IsPitOf texts.model texts.precedence texts.blocks pit → IsStartOf pit texts.start start → fault ≡ NoMemory
-      → IsTextsFault texts fault
-  of_scripts : (pit : Pit) (start : List (ℕ × ℕ)) → IsPitOf texts.model texts.precedence texts.blocks pit → IsStartOf pit texts.start start
-      → IsScriptsFault pit 1 texts.scripts fault → IsTextsFault texts fault
+abbrev pub pit_in : Setup → Pit
+pit_in setup = setup.0.0
+
+abbrev pub start_in : Setup → List (ℕ × ℕ)
+start_in setup = setup.0.1
+
+abbrev pub scripts_in : Setup → List (List Job)
+scripts_in setup = setup.1
+
+abbrev pub texts_judged : Texts → Step CliFault (Unit {0}) Setup
+texts_judged texts =
+    in_turn (pit_judged texts.model texts.precedence texts.blocks)
+    (in_turn (beside (judge_step (λ pit. IsStartOf pit texts.start) (λ pit. IsStartFault pit texts.start)))
+    (beside (run_step (λ given. scripts_judged texts.scripts given.0) (Unit {0}))))

@@ -2,25 +2,25 @@
 //!
 //! The texts are parsed in order. A desk is opened on the start, and a workspace on the desk, with a planner for each script. What is proved of their
 //! run is what `pit_run` says, after the opening history of that start; or the first fault is answered: of the texts, of the pit's limits, of the
-//! start, or of the number of planners. What is written is the solution that the closed history leaves, what is told of the runs, and the history
-//! where it is asked for. As `one_outcome` says, whether the texts are refused, and for which fault, is theirs alone, and the answer tells what was
+//! start, or of the number of planners. What is written is the solution that the closed history leaves, the report of the runs, and the history
+//! where it is asked for. As `one_outcome` says, whether the texts are refused, and for which fault, is theirs alone, and the answer says what was
 //! written.
 #![tactic(auto)]
 
 mod engine;
 mod outcome;
 mod plan_input;
-mod planning;
 mod report;
 mod report_text;
+mod running;
 mod texts;
 
 pub use engine::plan;
 pub use outcome::{one_closed_history, one_outcome};
 pub use pit_step::{
-    CliFault, INPUT_BYTES_MAX, Input, Micro, ReadError, Status, bytes_of, read_all,
+    BreachLine, CliFault, INPUT_BYTES_MAX, Input, ReadError, Status, bytes_of, read_all,
 };
 pub use pit_view::{check, replay, value};
 pub use plan_input::PlanInput;
-pub use planning::planned_run;
 pub use report::write_report;
+pub use running::run_scripts;

@@ -1,18 +1,19 @@
 //! The report of a run, and how `plan` ends.
-ghost use Rattle.std.specs.Prelude.{◌≡◌, ◌<◌, IfOk, length};
-ghost use Rattle.pit_plan.specs.Schedule.{held_period};
-ghost use Rattle.pit_plan.specs.Shortfalls.{shortfalls_of};
+ghost use Rattle.std.specs.Prelude.{◌≡◌, ◌++◌, IfOk, OnOk, codes};
+ghost use Rattle.std.specs.Io.KnownBytes.{Appends};
 ghost use Rattle.pit_desk.specs.History.{commits_of};
 ghost use Rattle.pit_step.specs.Devices.{writing_of};
+ghost use Rattle.pit_step.specs.LineTexts.{value_text, shorts_text};
 ghost use Rattle.pit_step.specs.Steps.{IsResultOf};
-ghost use Rattle.pit_cli.specs.Telling.{is_whole, all_whole, status_by, ended_of, report_text, report_step};
+ghost use Rattle.pit_cli.specs.ReportText.{runs_text};
+ghost use Rattle.pit_cli.specs.Output.{is_whole, all_whole, status_by, ended_of, report_text, report_step, ran_end};
 
-use crate::report_text::run_lines;
+use crate::report_text::write_runs;
 use pit_job::RunEnd;
-use pit_num::{NoMemory, Sink, write_text};
+use pit_num::{NoMemory, Sink, WriteFault, write_text};
 use pit_plan::Short;
 use pit_run::{PlannerRun, Report};
-use pit_step::{CliFault, Status, with_value};
+use pit_step::{CliFault, Status, empty_text, gathered, write_value_lines};
 use std::alloc::Allocator;
 
 /// Writes the report of a run, at once: a line for each job and for each planner that stopped, by rising planner and job, the value, and the
@@ -41,14 +42,27 @@ pub(crate) fn reported<A: Allocator + Copy + Drop, B: Allocator + Copy + Drop>(
     report: &Report<A>,
 ) -> Result<(Vec<u8, B>, Result<Status, CliFault>), NoMemory>
     ensures text { IfOk result (λ lines. lines.0.items ≡ report_text report.now.closed.plan.pit (commits_of report.now.closed.history) report.now.runs.items) }
-    ensures some { IfOk result (λ lines. 0 < length lines.0.items) }
-    ensures ended { IfOk result (λ lines. lines.1 ≡ ended_of report.now.runs.items (shortfalls_of report.now.closed.plan.pit (held_period (commits_of report.now.closed.history)))) }
+    ensures ended { IfOk result (λ lines. lines.1 ≡ ran_end (report.now.closed, report.now.runs.items)) }
 {
     let plan = report.closed.desk().plan();
     let shorts = plan.shortfalls()?;
-    let lines = run_lines(alloc, &report.runs)?;
-    let text = with_value(lines, plan.value(), &shorts)?;
-    Ok((text, ended(&report.runs, &shorts)))
+    let mut text = empty_text(alloc);
+    let written = write_lines(&mut text, &report.runs, plan.value(), &shorts);
+    let lines = gathered(text, written)?;
+    Ok((lines, ended(&report.runs, &shorts)))
+}
+
+/// The lines of the runs, the value, and the shortfalls.
+fn write_lines<A: Allocator + Drop, W: Sink>(
+    w: &mut W,
+    runs: &[PlannerRun<A>],
+    value: i128,
+    shorts: &[Short],
+) -> Result<(), WriteFault>
+    ensures { OnOk result (Appends (W.contents w.old) (W.contents w.new) (runs_text runs.now ++ (codes "value " ++ (value_text value ++ shorts_text shorts.now)))) }
+{
+    write_runs(w, runs)?;
+    write_value_lines(w, value, shorts)
 }
 
 fn ended<A: Allocator + Drop>(runs: &[PlannerRun<A>], shorts: &[Short]) -> Result<Status, CliFault>

@@ -1,30 +1,18 @@
-ghost use Rattle.std.specs.Prelude.{◌≡◌, ◌++◌, IfOk, OnOk, codes, decimal};
+ghost use Rattle.std.specs.Prelude.{◌++◌, OnOk, codes};
 ghost use Rattle.std.specs.Io.KnownBytes.{Appends};
-ghost use Rattle.pit_num.specs.Printed.{fixed_text};
 ghost use Rattle.pit_cli.specs.ReportText.{numbered_text, refused_text, outcome_text, job_text, jobs_text, run_end_text, stopped_text, run_text, runs_text};
 
 use itoa::Buffer;
 use pit_desk::Refusal;
 use pit_job::{Outcome, RunEnd};
-use pit_num::{NoMemory, Out, Sink, WriteFault, write_micro, write_text};
+use pit_num::{Sink, WriteFault, write_text};
+use pit_plan::Breach;
 use pit_run::PlannerRun;
+use pit_step::write_breach_words;
 use std::alloc::Allocator;
 
-/// A line for each outcome, by rising planner and job, and one for each planner whose run isn't whole. Takes the memory of the lines.
-pub fn run_lines<A: Allocator + Drop, B: Allocator + Copy + Drop>(
-    alloc: B,
-    runs: &[PlannerRun<A>],
-) -> Result<Vec<u8, B>, NoMemory>
-    ensures { IfOk result (λ text. text.items ≡ runs_text runs.now) }
-{
-    let mut text = Out::new(Vec::new(alloc));
-    match write_runs(&mut text, runs) {
-        Ok(()) => Ok(text.into_inner()),
-        Err(_) => Err(NoMemory),
-    }
-}
-
-fn write_runs<A: Allocator + Drop, W: Sink>(
+/// A line for each outcome, by rising planner and job, and one for each planner whose run isn't whole.
+pub(crate) fn write_runs<A: Allocator + Drop, W: Sink>(
     w: &mut W,
     runs: &[PlannerRun<A>],
 ) -> Result<(), WriteFault>
@@ -87,17 +75,23 @@ fn write_refusal<W: Sink>(w: &mut W, refusal: Refusal) -> Result<(), WriteFault>
         Refusal::Ahead { start, commits } => write_two(w, b"ahead ", start, commits),
         Refusal::Moved { block, version } => write_two(w, b"moved ", block, version),
         Refusal::Misread { block } => write_numbered(w, b"misread ", u64::from(block)),
-        Refusal::Precedence { block, before } => write_two(w, b"precedence ", block, before),
+        Refusal::Precedence { block, before } => {
+            write_breach_words(w, Breach::Precedence { block, before })
+        }
         Refusal::Over {
             resource,
             period,
             load,
             limit,
-        } => {
-            write_two(w, b"over ", resource, period)?;
-            write_amount(w, load)?;
-            write_amount(w, i128::from(limit))
-        }
+        } => write_breach_words(
+            w,
+            Breach::Over {
+                resource,
+                period,
+                load,
+                limit,
+            },
+        ),
     }
 }
 
@@ -143,12 +137,4 @@ fn write_numbered<W: Sink>(w: &mut W, word: &[u8], n: u64) -> Result<(), WriteFa
     write_text(w, word)?;
     let mut buffer = Buffer::new();
     write_text(w, buffer.format(n).as_bytes())
-}
-
-/// A space, and a number of millionths.
-fn write_amount<W: Sink>(w: &mut W, z: i128) -> Result<(), WriteFault>
-    ensures { OnOk result (Appends (W.contents w.old) (W.contents w.new) (codes " " ++ fixed_text 6 z)) }
-{
-    write_text(w, b" ")?;
-    write_micro(w, z)
 }

@@ -1,9 +1,8 @@
 //! From the texts of the inputs to what they stand for.
 ghost use Rattle.std.specs.Prelude.{◌≡◌, ◌++◌, ◌∷◌, [], All, IfOk, IfErr, OnOk, MatchResult, map, option_map};
-ghost use Rattle.pit_script.specs.Benches.{AreBenchesOf};
-ghost use Rattle.pit_script.specs.Ranges.{AreJobsIn};
+ghost use Rattle.pit_step.specs.Steps.{IsResultOf, each};
 ghost use Rattle.pit_step.specs.Inputs.{IsModel, IsModelFault, IsOrder, IsOrderFault, IsScheduleOf};
-ghost use Rattle.pit_cli.specs.Texts.{ArePlacesOf, IsPlacedFault, IsPitOf, IsPitFault, IsStartOf, IsStartFault, IsScriptOf, IsScriptFault, AreScriptsOf, IsScriptsFault, AreTextsOf, IsTextsFault};
+ghost use Rattle.pit_cli.specs.Texts.{ArePlacesOf, IsPlacedFault, IsStartOf, IsStartFault, IsScriptOf, IsScriptFault, pit_judged, script_judged, scripts_judged, texts_judged};
 
 use crate::plan_input::PlanInput;
 use pit_model::{Builder, Instance};
@@ -16,7 +15,7 @@ use std::alloc::Allocator;
 pub struct Inputs<A: Allocator + Copy + Drop> {
     pub pit: Instance<A>,
     pub start: Vec<(u32, u32), A>,
-    pub benches: Benches<A>,
+    /// On this pit, in the order of their planners.
     pub scripts: Vec<Script<A>, A>,
 }
 
@@ -25,11 +24,11 @@ pub fn parsed<A: Allocator + Copy + Drop>(
     alloc: A,
     input: PlanInput<A>,
 ) -> Result<Inputs<A>, CliFault>
-    ensures ok { IfOk result (λ inputs. AreTextsOf input inputs.pit inputs.start.items inputs.scripts.items) }
+    ensures result { MatchResult result
+        (λ inputs. (texts_judged input).Gives tt ((inputs.pit, inputs.start.items), map (λ script. script.jobs) inputs.scripts.items))
+        ((texts_judged input).Fails tt) }
     ensures fits { IfOk result (λ inputs. IsScheduleOf inputs.pit inputs.start.items) }
-    ensures benches { IfOk result (λ inputs. AreBenchesOf inputs.pit inputs.benches) }
-    ensures in_range { IfOk result (λ inputs. All (AreJobsIn inputs.pit) inputs.scripts.items) }
-    ensures err { IfErr result (IsTextsFault input) }
+    ensures pits { IfOk result (λ inputs. All (λ script. script.pit ≡ inputs.pit) inputs.scripts.items) }
 {
     let PlanInput {
         model,
@@ -46,14 +45,13 @@ pub fn parsed<A: Allocator + Copy + Drop>(
         Ok(start) => start,
         Err(fault) => return Err(fault),
     };
-    let Ok(benches) = Benches::of(alloc, &pit) else {
-        return Err(CliFault::NoMemory);
+    let scripts = match scripts_of(alloc, &scripts, &pit) {
+        Ok(scripts) => scripts,
+        Err(fault) => return Err(fault),
     };
-    let scripts = scripts_of(alloc, &scripts, &pit, &benches)?;
     Ok(Inputs {
         pit,
         start,
-        benches,
         scripts,
     })
 }
@@ -65,8 +63,7 @@ fn pit_of<A: Allocator + Copy + Drop>(
     precedence: Vec<u8, A>,
     blocks: Option<Vec<u8, A>>,
 ) -> Result<Instance<A>, CliFault>
-    ensures { let places = option_map (λ bytes. bytes.items) blocks in
-        MatchResult result (IsPitOf model.items precedence.items places) (IsPitFault model.items precedence.items places) }
+    ensures { IsResultOf (pit_judged model.items precedence.items (option_map (λ bytes. bytes.items) blocks)) tt result }
 {
     let bare = bare_pit(alloc, model)?;
     let given = ordered_pit(alloc, precedence, bare)?;
@@ -119,21 +116,35 @@ fn start_of<A: Allocator + Copy + Drop>(
     }
 }
 
-/// The scripts of texts. The first fault is answered.
+/// The scripts of texts, on one pit. The first fault is answered.
 fn scripts_of<A: Allocator + Copy + Drop>(
     alloc: A,
     texts: &[Vec<u8, A>],
     pit: &Instance<A>,
+) -> Result<Vec<Script<A>, A>, CliFault>
+    ensures result { let judged = scripts_judged (map (λ bytes. bytes.items) texts.now) pit.now in
+        MatchResult result (λ scripts. judged.Gives tt (map (λ script. script.jobs) scripts.items)) (judged.Fails tt) }
+    ensures pits { IfOk result (λ scripts. All (λ script. script.pit ≡ pit.now) scripts.items) }
+{
+    let Ok(benches) = Benches::of(alloc, pit) else {
+        return Err(CliFault::NoMemory);
+    };
+    each_script(alloc, texts, &benches)
+}
+
+/// The same, on the benches of a pit.
+fn each_script<A: Allocator + Copy + Drop>(
+    alloc: A,
+    texts: &[Vec<u8, A>],
     benches: &Benches<A>,
 ) -> Result<Vec<Script<A>, A>, CliFault>
-    requires { AreBenchesOf pit.now benches.now }
-    ensures result { let all = map (λ bytes. bytes.items) texts.now in
-        MatchResult result (λ scripts. AreScriptsOf pit.now all scripts.items) (IsScriptsFault pit.now 1 all) }
-    ensures in_range { IfOk result (λ scripts. All (AreJobsIn pit.now) scripts.items) }
+    ensures result { let judged = each (script_judged benches.now) 1 (map (λ bytes. bytes.items) texts.now) in
+        MatchResult result (λ scripts. judged.Gives tt (map (λ script. script.jobs) scripts.items)) (judged.Fails tt) }
+    ensures pits { IfOk result (λ scripts. All (λ script. script.pit ≡ benches.now) scripts.items) }
 {
     let mut scripts = Vec::new(alloc);
     for (i, text) in texts.iter().enumerate() {
-        let script = script_of(alloc, i as u64 + 1, text, pit, benches)?;
+        let script = script_of(alloc, i as u64 + 1, text, benches)?;
         push_script(&mut scripts, script)?;
     }
     Ok(scripts)
@@ -157,14 +168,12 @@ fn script_of<A: Allocator + Copy + Drop>(
     alloc: A,
     number: u64,
     text: &[u8],
-    pit: &Instance<A>,
     benches: &Benches<A>,
 ) -> Result<Script<A>, CliFault>
-    requires { AreBenchesOf pit.now benches.now }
-    ensures result { MatchResult result (IsScriptOf pit.now text.now) (IsScriptFault pit.now number text.now) }
-    ensures in_range { IfOk result (AreJobsIn pit.now) }
+    ensures result { MatchResult result (λ script. IsScriptOf benches.now text.now script.jobs) (IsScriptFault benches.now number text.now) }
+    ensures pit { IfOk result (λ script. script.pit ≡ benches.now) }
 {
-    match Script::parse(alloc, text, pit, benches) {
+    match Script::parse_on(alloc, text, benches) {
         Ok(script) => Ok(script),
         Err(error) if error.cause == ScriptCause::NoMemory => Err(CliFault::NoMemory),
         Err(error) => Err(CliFault::Script { number, error }),

@@ -92,6 +92,11 @@ pub ends-tries : (pit : Pit) (task : Job) (n : ℕ) (old new : TransactionState)
 ends-tries pit task n old new how p t log job has (es, grows, ends) =
     (es, grows-on old.planner new.planner p es log grows, tries-of pit task n how new.work es t job has ends)
 
+-- the same of a job by another name
+pub tries-same : (pit : Pit) (task other : Job) (n : ℕ) (old p : PlannerState) (t : Tried) → other ≡ task → ((es : List Answered) × Grows old es p × Tries pit task n es t)
+    → (es : List Answered) × Grows old es p × Tries pit other n es t
+tries-same pit task other n old p t same (es, grows, tries) = (es, grows, subst (λ (j : Job). Tries pit j n es t) (sym same) tries)
+
 pub grows-none : (old new : PlannerState) → SameLog old new → Grows old [] new
 grows-none old new same = record { number = same.number; items = same.items ∙ sym (append-nil old.items) }
 

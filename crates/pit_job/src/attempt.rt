@@ -1,11 +1,10 @@
 //! One try of a job.
-ghost use Rattle.std.specs.Prelude.{◌≡◌, List, All};
+ghost use Rattle.std.specs.Prelude.{◌≡◌, List};
 ghost use Rattle.pit_desk.specs.History.{Answered};
 ghost use Rattle.pit_desk.specs.declared.entry.Act.TheVariants.{Commit as commit_act, Withdraw as withdraw_act};
-ghost use Rattle.pit_script.specs.Benches.{AreBenchesOf};
-ghost use Rattle.pit_script.specs.Ranges.{IsStepIn};
 ghost use Rattle.pit_job.specs.Inside.Doing.{IsFresh};
 ghost use Rattle.pit_job.specs.Outcomes.{Grows};
+ghost use Rattle.pit_job.specs.Inside.Runs.{IsJobNumber, job_numbered};
 ghost use Rattle.pit_job.specs.Inside.Outcomes.{Tries, EndsBy, tried_of as tried_by};
 
 use crate::doing::{StepStop, do_steps};
@@ -13,12 +12,12 @@ use crate::gate::Gate;
 use crate::outcome::{JobStop, Tried};
 use pit_board::Session;
 use pit_desk::{EntryReply, Refusal, Reply, Stop};
-use pit_script::{Benches, JobEnd, Step};
+use pit_script::{JobEnd, Script};
 use pit_share::{Planner, Transaction};
 use std::alloc::Allocator;
 use std::sync::Wait;
 
-/// Does a job in a transaction of its own.
+/// Does the job with a number in a transaction of its own.
 pub(crate) fn attempt<
     'a,
     S: Session,
@@ -28,23 +27,19 @@ pub(crate) fn attempt<
     W: Wait,
     G: Gate,
 >(
-    planner: Planner<'a, S, R, A>,
     rt: &W,
-    gate: &G,
-    benches: &Benches<B>,
-    periods: u32,
+    planner: Planner<'a, S, R, A>,
+    script: &Script<B>,
     n: u32,
-    steps: &[Step],
-    end: JobEnd,
+    gate: &G,
 ) -> (Planner<'a, S, R, A>, Tried)
-    requires benches { AreBenchesOf S.instance benches.now }
-    requires periods { periods ≡ S.instance.periods }
-    requires in_range { All (IsStepIn S.instance) steps.now }
-    ensures { (es : List Answered) × Grows planner.entry es result.0 × Tries S.instance (record { steps = steps.now; end = end }) n es result.1 }
+    requires pit { script.now.pit ≡ S.instance }
+    requires job { IsJobNumber script.now.jobs n }
+    ensures { (es : List Answered) × Grows planner.entry es result.0 × Tries S.instance (job_numbered script.now.jobs n) n es result.1 }
 {
     let number = planner.number();
     match planner.begin(n) {
-        Ok(t) => done(t, rt, gate, benches, periods, number, n, steps, end),
+        Ok(t) => done(rt, t, script, number, n, gate),
         Err((planner, _)) => (planner, Tried::Stopped(JobStop::NoMemory)),
     }
 }
@@ -59,38 +54,35 @@ fn done<
     W: Wait,
     G: Gate,
 >(
-    t: Transaction<'a, S, R, A>,
     rt: &W,
-    gate: &G,
-    benches: &Benches<B>,
-    periods: u32,
+    t: Transaction<'a, S, R, A>,
+    script: &Script<B>,
     number: u32,
     n: u32,
-    steps: &[Step],
-    end: JobEnd,
+    gate: &G,
 ) -> (Planner<'a, S, R, A>, Tried)
-    requires benches { AreBenchesOf S.instance benches.now }
-    requires periods { periods ≡ S.instance.periods }
-    requires in_range { All (IsStepIn S.instance) steps.now }
+    requires pit { script.now.pit ≡ S.instance }
+    requires job { IsJobNumber script.now.jobs n }
     requires fresh { IsFresh n t }
-    ensures { (es : List Answered) × Grows t.entry.planner es result.0 × Tries S.instance (record { steps = steps.now; end = end }) n es result.1 }
+    ensures { (es : List Answered) × Grows t.entry.planner es result.0 × Tries S.instance (job_numbered script.now.jobs n) n es result.1 }
 {
     let mut t = t;
-    match do_steps(&mut t, benches, periods, steps) {
+    let (steps, end) = script.job(n - 1);
+    match do_steps(&mut t, script.benches(), steps) {
         Err(StepStop::Moved { block, version }) => (t.abandon(), Tried::Moved { block, version }),
         Err(StepStop::NoMemory) => (t.abandon(), Tried::Stopped(JobStop::NoMemory)),
         Err(StepStop::NoEntry) => (t.abandon(), Tried::Stopped(JobStop::NoEntry)),
-        Ok(false) => withdraw(t, rt),
+        Ok(false) => withdraw(rt, t),
         Ok(true) => match end {
-            JobEnd::Abort => withdraw(t, rt),
-            JobEnd::Commit => commit(t, rt, gate, number, n),
+            JobEnd::Abort => withdraw(rt, t),
+            JobEnd::Commit => commit(rt, t, number, n, gate),
         },
     }
 }
 
 fn withdraw<'a, S: Session, R: Wait + Drop, A: Allocator + Copy + Drop, W: Wait>(
-    t: Transaction<'a, S, R, A>,
     rt: &W,
+    t: Transaction<'a, S, R, A>,
 ) -> (Planner<'a, S, R, A>, Tried)
     ensures { (es : List Answered) × Grows t.entry.planner es result.0 × EndsBy withdraw_act t.entry.work es result.1 }
 {
@@ -101,11 +93,11 @@ fn withdraw<'a, S: Session, R: Wait + Drop, A: Allocator + Copy + Drop, W: Wait>
 }
 
 fn commit<'a, S: Session, R: Wait + Drop, A: Allocator + Copy + Drop, W: Wait, G: Gate>(
-    t: Transaction<'a, S, R, A>,
     rt: &W,
-    gate: &G,
+    t: Transaction<'a, S, R, A>,
     number: u32,
     n: u32,
+    gate: &G,
 ) -> (Planner<'a, S, R, A>, Tried)
     ensures { (es : List Answered) × Grows t.entry.planner es result.0 × EndsBy commit_act t.entry.work es result.1 }
 {

@@ -1,6 +1,5 @@
 //! The steps of a job, done in a transaction.
 ghost use Rattle.std.specs.Prelude.{◌≡◌, ◌<◌, IfOk, OnOk, All, Some, None};
-ghost use Rattle.pit_script.specs.Benches.{AreBenchesOf};
 ghost use Rattle.pit_script.specs.Ranges.{IsStepIn};
 ghost use Rattle.pit_job.specs.Inside.Doing.{SameLog, LooksUp, Puts, DoesStep, DoesSteps};
 
@@ -26,20 +25,14 @@ pub(crate) fn do_steps<
     R: Wait + Drop,
     A: Allocator + Copy + Drop,
     B: Allocator + Copy + Drop,
->(
-    t: &mut Transaction<'a, S, R, A>,
-    benches: &Benches<B>,
-    periods: u32,
-    steps: &[Step],
-) -> Result<bool, StepStop>
-    requires benches { AreBenchesOf S.instance benches.now }
-    requires periods { periods ≡ S.instance.periods }
+>(t: &mut Transaction<'a, S, R, A>, benches: &Benches<B>, steps: &[Step]) -> Result<bool, StepStop>
+    requires pit { benches.now ≡ S.instance }
     requires in_range { All (IsStepIn S.instance) steps.now }
     ensures ok { IfOk result (λ goes. DoesSteps S.instance t.old steps.now goes t.new) }
     ensures log { SameLog t.old.planner t.new.planner }
 {
     for step in steps {
-        if !do_step(t, benches, periods, step)? {
+        if !do_step(t, benches, step)? {
             return Ok(false);
         }
     }
@@ -50,11 +43,9 @@ pub(crate) fn do_steps<
 fn do_step<'a, S: Session, R: Wait + Drop, A: Allocator + Copy + Drop, B: Allocator + Copy + Drop>(
     t: &mut Transaction<'a, S, R, A>,
     benches: &Benches<B>,
-    periods: u32,
     step: &Step,
 ) -> Result<bool, StepStop>
-    requires benches { AreBenchesOf S.instance benches.now }
-    requires periods { periods ≡ S.instance.periods }
+    requires pit { benches.now ≡ S.instance }
     requires in_range { IsStepIn S.instance step.now }
     ensures ok { IfOk result (λ goes. DoesStep S.instance t.old step.now goes t.new) }
     ensures log { SameLog t.old.planner t.new.planner }
@@ -63,7 +54,9 @@ fn do_step<'a, S: Session, R: Wait + Drop, A: Allocator + Copy + Drop, B: Alloca
         Step::Read { block } => read(t, block),
         Step::Put { block, period } => put(t, block, period),
         Step::Clear { block } => clear(t, block),
-        Step::Shift { block, is_back, by } => shift(t, periods, block, is_back, by),
+        Step::Shift { block, is_back, by } => {
+            shift(t, benches.pit().periods(), block, is_back, by)
+        }
         Step::Bench { height, period } => bench(t, benches, height, period),
         Step::Revise {
             resource,
@@ -134,7 +127,7 @@ fn bench<'a, S: Session, R: Wait + Drop, A: Allocator + Copy + Drop, B: Allocato
     height: i64,
     period: u32,
 ) -> Result<bool, StepStop>
-    requires { AreBenchesOf S.instance benches.now }
+    requires { benches.now ≡ S.instance }
     ensures ok { IfOk result (λ goes. DoesStep S.instance t.old (Step.Bench height period) goes t.new) }
     ensures log { SameLog t.old.planner t.new.planner }
 {

@@ -1,11 +1,9 @@
 //! A planner's jobs, one after the other.
-ghost use Rattle.std.specs.Prelude.{◌≡◌, ◌<◌, ◌≤◌, ◌++◌, ◌∷◌, [], List, length, All, vec_len, vec_capacity};
+ghost use Rattle.std.specs.Prelude.{◌≡◌, ◌<◌, ◌≤◌, ◌++◌, ◌∷◌, [], List, vec_len, vec_capacity};
 ghost use Rattle.pit_desk.specs.History.{Answered};
-ghost use Rattle.pit_script.specs.Benches.{AreBenchesOf};
-ghost use Rattle.pit_script.specs.Ranges.{IsStepIn, AreJobsIn};
 ghost use Rattle.pit_job.specs.Outcomes.{Grows};
 ghost use Rattle.pit_job.specs.Runs.{RanFrom};
-ghost use Rattle.pit_job.specs.Inside.Runs.{RanJob, end_of as end_by};
+ghost use Rattle.pit_job.specs.Inside.Runs.{IsJobNumber, job_numbered, RanJob, end_of as end_by};
 ghost use Rattle.pit_job.specs.declared.planner_run.TheConstants.{RETRIES_MAX};
 
 use crate::attempt::attempt;
@@ -13,7 +11,7 @@ use crate::gate::Gate;
 use crate::outcome::{JobStop, Outcome, RunEnd, Tried, outcome_of};
 use pit_board::Session;
 use pit_desk::Refusal;
-use pit_script::{Benches, JobEnd, Script, Step};
+use pit_script::Script;
 use pit_share::Planner;
 use std::alloc::Allocator;
 use std::sync::Wait;
@@ -28,24 +26,19 @@ pub fn run_script<
     R: Wait + Drop,
     A: Allocator + Copy + Drop,
     B: Allocator + Copy + Drop,
-    C: Allocator + Copy + Drop,
     W: Wait,
     G: Gate,
 >(
+    rt: &W,
     alloc: A,
     planner: Planner<'a, S, R, A>,
-    rt: &W,
-    gate: &G,
-    benches: &Benches<B>,
-    periods: u32,
-    script: &Script<C>,
+    script: &Script<B>,
     retries: u32,
+    gate: &G,
 ) -> (Planner<'a, S, R, A>, Vec<Outcome, A>, RunEnd)
-    requires benches { AreBenchesOf S.instance benches.now }
-    requires periods { periods ≡ S.instance.periods }
+    requires pit { script.now.pit ≡ S.instance }
     requires few { retries ≤ RETRIES_MAX }
-    requires in_range { AreJobsIn S.instance script.now }
-    ensures { (es : List Answered) × Grows planner.entry es result.0 × RanFrom S.instance retries 1 script.now es result.1.items result.2 }
+    ensures { (es : List Answered) × Grows planner.entry es result.0 × RanFrom S.instance retries 1 script.now.jobs es result.1.items result.2 }
 {
     let mut outcomes = Vec::new(alloc);
     let mut now = planner;
@@ -54,8 +47,7 @@ pub fn run_script<
         let Ok(()) = outcomes.reserve(1) else {
             return (now, outcomes, RunEnd::NoMemory { job: n });
         };
-        let (steps, end) = script.job(i);
-        let (next, answer) = run_job(now, rt, gate, benches, periods, n, steps, end, retries);
+        let (next, answer) = run_job(rt, now, script, n, retries, gate);
         now = next;
         match answer {
             Err(stop) => return (now, outcomes, end_of(stop, n)),
@@ -65,7 +57,7 @@ pub fn run_script<
     (now, outcomes, RunEnd::Whole)
 }
 
-/// Tries a job until it is answered, and not by Moved, at most once more than there are retries.
+/// Tries the job with a number until it is answered, and not by Moved, at most once more than there are retries.
 fn run_job<
     'a,
     S: Session,
@@ -75,25 +67,21 @@ fn run_job<
     W: Wait,
     G: Gate,
 >(
-    planner: Planner<'a, S, R, A>,
     rt: &W,
-    gate: &G,
-    benches: &Benches<B>,
-    periods: u32,
+    planner: Planner<'a, S, R, A>,
+    script: &Script<B>,
     n: u32,
-    steps: &[Step],
-    end: JobEnd,
     retries: u32,
+    gate: &G,
 ) -> (Planner<'a, S, R, A>, Result<Outcome, JobStop>)
-    requires benches { AreBenchesOf S.instance benches.now }
-    requires periods { periods ≡ S.instance.periods }
+    requires pit { script.now.pit ≡ S.instance }
+    requires job { IsJobNumber script.now.jobs n }
     requires few { retries ≤ RETRIES_MAX }
-    requires in_range { All (IsStepIn S.instance) steps.now }
-    ensures { (es : List Answered) × Grows planner.entry es result.0 × RanJob S.instance (record { steps = steps.now; end = end }) retries n es result.1 }
+    ensures { (es : List Answered) × Grows planner.entry es result.0 × RanJob S.instance (job_numbered script.now.jobs n) retries n es result.1 }
 {
     let mut now = planner;
     for before in 0..retries {
-        let (next, tried) = attempt(now, rt, gate, benches, periods, n, steps, end);
+        let (next, tried) = attempt(rt, now, script, n, gate);
         now = next;
         match tried {
             Tried::Moved { .. } => {}
@@ -101,7 +89,7 @@ fn run_job<
             Tried::Stopped(stop) => return (now, Err(stop)),
         }
     }
-    let (last, tried) = attempt(now, rt, gate, benches, periods, n, steps, end);
+    let (last, tried) = attempt(rt, now, script, n, gate);
     match tried {
         Tried::Moved { block, version } => (
             last,

@@ -7,6 +7,7 @@ pub use Rattle.pit_script.specs.Benches
 pub use Rattle.pit_script.specs.Lines
 pub use Rattle.pit_script.specs.Jobs
 pub use Rattle.pit_script.specs.Ranges
+pub use Rattle.pit_script.specs.Scripts
 pub use Rattle.pit_job.specs.Shifts
 pub use Rattle.pit_job.specs.Effect
 pub use Rattle.pit_job.specs.Outcomes

@@ -8,6 +8,7 @@ pub mod laws;
 mod planner_run;
 mod report;
 mod running;
+mod shared;
 mod threads;
 
 pub use pit_job::{Gate, Open, Outcome, RETRIES_MAX, RunEnd, laws as job_laws, run_script};

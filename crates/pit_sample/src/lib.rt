@@ -1,4 +1,4 @@
-//! For tests: the small pit as facts and as texts, a large one, numbers that look random, and devices that fail.
+//! For tests: the small pit as facts and as texts, a large one, numbers that look random and pits that are drawn by them, and devices that fail.
 //!
 //! The small pit, Tiny, has four blocks, two periods, one resource and a rate of 0.1. Block 1 comes after block 0, and block 2 after
 //! both; at most 4 may be loaded in a period, and at least 1 in period 1. The same facts stand here as calls of a builder and as texts.
@@ -7,8 +7,10 @@
 mod broken;
 mod fact;
 mod large;
+mod limits;
 mod narrow;
 mod offset;
+mod random;
 mod series;
 mod size;
 mod tiny;
@@ -16,8 +18,10 @@ mod tiny;
 pub use broken::Broken;
 pub use fact::{Fact, built, tell};
 pub use large::{LARGE_SIZE, large_facts, large_schedule};
+pub use limits::{limit_in, lower_in};
 pub use narrow::Narrow;
 pub use offset::{OFFSET, OFFSET_SIZE};
+pub use random::random_facts;
 pub use series::Series;
 pub use size::Size;
 pub use tiny::{

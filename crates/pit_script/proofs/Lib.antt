@@ -2,6 +2,7 @@ pub mod ByHeight
 pub mod CallerLemmas
 pub mod Drafts
 pub mod Fields
+pub mod FirstLine
 pub mod Kept
 pub mod Placed
 pub mod Progressing

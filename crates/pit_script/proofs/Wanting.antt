@@ -9,7 +9,7 @@ use Rattle.pit_text.specs.Numbers.{is_ascii, or_bad}
 use Rattle.pit_text.specs.Stands.{◌>>=◌, FailsWhole}
 use Rattle.pit_script.specs.Benches.{has_bench}
 use Rattle.pit_script.specs.Jobs.{progress_of, script_line, script_end}
-use Rattle.pit_script.specs.Lines.{no_field, one_field, two_fields, three_fields, in_job, below, begin_line, end_line_of, read_line, clear_line, put_line, shift_line, bench_line, revise_line, line_of_word, line_fact}
+use Rattle.pit_script.specs.Lines.{no_field, one_field, two_fields, three_fields, in_job, below, begin_line, end_line_of, read_step, clear_step, put_step, shift_step, bench_step, revise_step, line_of_word, ranged_fact, known_bench, line_fact}
 use Rattle.pit_script.specs.Numbers.{read_as, shift_of}
 use Rattle.pit_script.specs.Words.{word_of, or_unknown, word_in}
 use Rattle.pit_script.specs.declared.error.ScriptCause.{ScriptCause}
@@ -18,6 +18,7 @@ use Rattle.pit_script.specs.declared.fact.ScriptFact.{ScriptFact}
 use Rattle.pit_script.specs.declared.fact.ScriptFact.TheVariants as says
 use Rattle.pit_script.specs.declared.step.JobEnd.{JobEnd}
 use Rattle.pit_script.specs.declared.step.JobEnd.TheVariants as ending
+use Rattle.pit_script.specs.declared.step.Step.TheVariants as step
 use Rattle.pit_script.specs.declared.step.TheConstants.{JOBS_MAX}
 use Rattle.pit_script.specs.declared.word.Word.{Word}
 use Rattle.pit_script.specs.declared.word.Word.TheVariants as word
@@ -119,55 +120,69 @@ own_end : (how : JobEnd) (is_open : Bool) (fields : List (List ℕ)) → IsOwn (
 unfolding end_line_of
 own_end how is_open fields = own_none _ fields (own_in_job is_open _ (own_ok (says.Ends how)))
 
-own_read_line : (blocks : ℕ) (is_open : Bool) (fields : List (List ℕ)) → IsOwn (read_line blocks is_open fields)
-unfolding read_line
-own_read_line blocks is_open fields =
+own_read_step : (blocks : ℕ) (is_open : Bool) (fields : List (List ℕ)) → IsOwn (read_step blocks is_open fields)
+unfolding read_step
+own_read_step blocks is_open fields =
     own_one _ fields (λ b. own_in_job is_open _ (own_then _ _ (own_read whole_of b) (λ block. own_then _ _ (own_below blocks block BlockRange own_block) (λ n. own_ok _))))
 
-own_clear_line : (blocks : ℕ) (is_open : Bool) (fields : List (List ℕ)) → IsOwn (clear_line blocks is_open fields)
-unfolding clear_line
-own_clear_line blocks is_open fields =
+own_clear_step : (blocks : ℕ) (is_open : Bool) (fields : List (List ℕ)) → IsOwn (clear_step blocks is_open fields)
+unfolding clear_step
+own_clear_step blocks is_open fields =
     own_one _ fields (λ b. own_in_job is_open _ (own_then _ _ (own_read whole_of b) (λ block. own_then _ _ (own_below blocks block BlockRange own_block) (λ n. own_ok _))))
 
-own_put_line : (blocks periods : ℕ) (is_open : Bool) (fields : List (List ℕ)) → IsOwn (put_line blocks periods is_open fields)
-unfolding put_line
-own_put_line blocks periods is_open fields =
+own_put_step : (blocks periods : ℕ) (is_open : Bool) (fields : List (List ℕ)) → IsOwn (put_step blocks periods is_open fields)
+unfolding put_step
+own_put_step blocks periods is_open fields =
     own_two _ fields (λ b t. own_in_job is_open _ (own_then _ _ (own_read whole_of b) (λ block. own_then _ _ (own_read whole_of t) (λ period.
     own_then _ _ (own_below blocks block BlockRange own_block) (λ n. own_then _ _ (own_below periods period PeriodRange own_period) (λ m. own_ok _))))))
 
-own_shift_line : (blocks : ℕ) (is_open : Bool) (fields : List (List ℕ)) → IsOwn (shift_line blocks is_open fields)
-unfolding shift_line
-own_shift_line blocks is_open fields =
+own_shift_step : (blocks : ℕ) (is_open : Bool) (fields : List (List ℕ)) → IsOwn (shift_step blocks is_open fields)
+unfolding shift_step
+own_shift_step blocks is_open fields =
     own_two _ fields (λ b d. own_in_job is_open _ (own_then _ _ (own_read whole_of b) (λ block. own_then _ _ (own_read shift_of d) (λ shift.
     own_then _ _ (own_below blocks block BlockRange own_block) (λ n. own_ok _)))))
 
-own_bench_line : (pit : Pit) (is_open : Bool) (fields : List (List ℕ)) → IsOwn (bench_line pit is_open fields)
-unfolding bench_line
-own_bench_line pit is_open fields =
+own_bench_step : (periods : ℕ) (is_open : Bool) (fields : List (List ℕ)) → IsOwn (bench_step periods is_open fields)
+unfolding bench_step
+own_bench_step periods is_open fields =
     own_two _ fields (λ z t. own_in_job is_open _ (own_then _ _ (own_read micro_of z) (λ height. own_then _ _ (own_read whole_of t) (λ period.
-    own_then _ _ (own_below pit.periods period PeriodRange own_period) (λ m. own_if (has_bench pit height) _ _ (own_ok _) own_bench)))))
+    own_then _ _ (own_below periods period PeriodRange own_period) (λ m. own_ok _)))))
 
-own_revise_line : (resources periods : ℕ) (is_open : Bool) (fields : List (List ℕ)) → IsOwn (revise_line resources periods is_open fields)
-unfolding revise_line
-own_revise_line resources periods is_open fields =
+own_revise_step : (resources periods : ℕ) (is_open : Bool) (fields : List (List ℕ)) → IsOwn (revise_step resources periods is_open fields)
+unfolding revise_step
+own_revise_step resources periods is_open fields =
     own_three _ fields (λ r t v. own_in_job is_open _ (own_then _ _ (own_read whole_of r) (λ resource. own_then _ _ (own_read whole_of t) (λ period. own_then _ _ (own_read upper_bound_of v) (λ upper.
     own_then _ _ (own_below resources resource ResourceRange own_resource) (λ n. own_then _ _ (own_below periods period PeriodRange own_period) (λ m. own_ok _)))))))
 
 own_line_of_word : (pit : Pit) (is_open : Bool) (jobs : ℕ) (w : Word) (fields : List (List ℕ)) → IsOwn (line_of_word pit is_open jobs w fields)
 own_line_of_word pit is_open jobs word.Begin fields = own_begin is_open jobs fields
-own_line_of_word pit is_open jobs word.Read fields = own_read_line pit.blocks is_open fields
-own_line_of_word pit is_open jobs word.Put fields = own_put_line pit.blocks pit.periods is_open fields
-own_line_of_word pit is_open jobs word.Clear fields = own_clear_line pit.blocks is_open fields
-own_line_of_word pit is_open jobs word.Shift fields = own_shift_line pit.blocks is_open fields
-own_line_of_word pit is_open jobs word.Bench fields = own_bench_line pit is_open fields
-own_line_of_word pit is_open jobs word.Revise fields = own_revise_line pit.resources pit.periods is_open fields
+own_line_of_word pit is_open jobs word.Read fields = own_read_step pit.blocks is_open fields
+own_line_of_word pit is_open jobs word.Put fields = own_put_step pit.blocks pit.periods is_open fields
+own_line_of_word pit is_open jobs word.Clear fields = own_clear_step pit.blocks is_open fields
+own_line_of_word pit is_open jobs word.Shift fields = own_shift_step pit.blocks is_open fields
+own_line_of_word pit is_open jobs word.Bench fields = own_bench_step pit.periods is_open fields
+own_line_of_word pit is_open jobs word.Revise fields = own_revise_step pit.resources pit.periods is_open fields
 own_line_of_word pit is_open jobs word.Commit fields = own_end ending.Commit is_open fields
 own_line_of_word pit is_open jobs word.Abort fields = own_end ending.Abort is_open fields
 
+own_ranged : (pit : Pit) (is_open : Bool) (jobs : ℕ) (fields : List (List ℕ)) → IsOwn (ranged_fact pit is_open jobs fields)
+unfolding ranged_fact
+own_ranged pit is_open jobs [] = own_word
+own_ranged pit is_open jobs (first ∷ fields) = own_then _ _ (own_word_in first) (λ w. own_line_of_word pit is_open jobs w fields)
+
+own_known : (pit : Pit) (fact : ScriptFact) → IsOwn (known_bench pit fact)
+own_known pit says.Begin = own_ok _
+own_known pit (says.Does (step.Read block)) = own_ok _
+own_known pit (says.Does (step.Put block period)) = own_ok _
+own_known pit (says.Does (step.Clear block)) = own_ok _
+own_known pit (says.Does (step.Shift block is_back by)) = own_ok _
+own_known pit (says.Does (step.Bench height period)) = own_if (has_bench pit height) _ _ (own_ok _) own_bench
+own_known pit (says.Does (step.Revise resource period upper)) = own_ok _
+own_known pit (says.Ends end) = own_ok _
+
 own_line : (pit : Pit) (is_open : Bool) (jobs : ℕ) (fields : List (List ℕ)) → IsOwn (line_fact pit is_open jobs fields)
 unfolding line_fact
-own_line pit is_open jobs [] = own_word
-own_line pit is_open jobs (first ∷ fields) = own_then _ _ (own_word_in first) (λ w. own_line_of_word pit is_open jobs w fields)
+own_line pit is_open jobs fields = own_then _ _ (own_ranged pit is_open jobs fields) (own_known pit)
 
 -- ---- so a script's first fault isn't one
 

@@ -4,4 +4,5 @@ pub mod Benches
 pub mod Lines
 pub mod Jobs
 pub mod Ranges
+pub mod Scripts
 pub mod Inside

@@ -1,5 +1,5 @@
 -- What one line of a script says.
-use Rattle.std.specs.Prelude.{ℕ, ℤ, Bool, nat_le, if◌then◌else◌, List, [], ◌∷◌, Result, Ok, Err}
+use Rattle.std.specs.Prelude.{ℕ, Bool, nat_le, if◌then◌else◌, List, [], ◌∷◌, Result, Ok, Err}
 use Rattle.pit_num.specs.Decimal.{whole_of, micro_of}
 use Rattle.pit_model.specs.Pit.{Pit}
 use Rattle.pit_text.specs.Bounds.{upper_bound_of}
@@ -63,50 +63,58 @@ begin_line is_open jobs fields =
 unfoldable pub end_line_of : JobEnd → Bool → List (List ℕ) → Result ScriptFact ScriptCause
 end_line_of end is_open fields = no_field (in_job is_open (Ok (says.Ends end))) fields
 
-unfoldable pub read_line : ℕ → Bool → List (List ℕ) → Result ScriptFact ScriptCause
-read_line blocks is_open fields = one_field (λ b. in_job is_open (
+unfoldable pub read_step : ℕ → Bool → List (List ℕ) → Result ScriptFact ScriptCause
+read_step blocks is_open fields = one_field (λ b. in_job is_open (
     read_as whole_of b >>= (λ block. below blocks block BlockRange >>= (λ block. does (step.Read block))))) fields
 
-unfoldable pub clear_line : ℕ → Bool → List (List ℕ) → Result ScriptFact ScriptCause
-clear_line blocks is_open fields = one_field (λ b. in_job is_open (
+unfoldable pub clear_step : ℕ → Bool → List (List ℕ) → Result ScriptFact ScriptCause
+clear_step blocks is_open fields = one_field (λ b. in_job is_open (
     read_as whole_of b >>= (λ block. below blocks block BlockRange >>= (λ block. does (step.Clear block))))) fields
 
-unfoldable pub put_line : ℕ → ℕ → Bool → List (List ℕ) → Result ScriptFact ScriptCause
-put_line blocks periods is_open fields = two_fields (λ b t. in_job is_open (
+unfoldable pub put_step : ℕ → ℕ → Bool → List (List ℕ) → Result ScriptFact ScriptCause
+put_step blocks periods is_open fields = two_fields (λ b t. in_job is_open (
     read_as whole_of b >>= (λ block. read_as whole_of t >>= (λ period.
     below blocks block BlockRange >>= (λ block. below periods period PeriodRange >>= (λ period. does (step.Put block period))))))) fields
 
-unfoldable pub shift_line : ℕ → Bool → List (List ℕ) → Result ScriptFact ScriptCause
-shift_line blocks is_open fields = two_fields (λ b d. in_job is_open (
+unfoldable pub shift_step : ℕ → Bool → List (List ℕ) → Result ScriptFact ScriptCause
+shift_step blocks is_open fields = two_fields (λ b d. in_job is_open (
     read_as whole_of b >>= (λ block. read_as shift_of d >>= (λ shift.
     below blocks block BlockRange >>= (λ block. does (step.Shift block shift.0 shift.1)))))) fields
 
-abbrev pub bench_in : Pit → ℤ → ℕ → Result ScriptFact ScriptCause
-bench_in pit height period = if has_bench pit height then does (step.Bench height period) else Err NoBench
-
-unfoldable pub bench_line : Pit → Bool → List (List ℕ) → Result ScriptFact ScriptCause
-bench_line pit is_open fields = two_fields (λ z t. in_job is_open (
+unfoldable pub bench_step : ℕ → Bool → List (List ℕ) → Result ScriptFact ScriptCause
+bench_step periods is_open fields = two_fields (λ z t. in_job is_open (
     read_as micro_of z >>= (λ height. read_as whole_of t >>= (λ period.
-    below pit.periods period PeriodRange >>= (λ period. bench_in pit height period))))) fields
+    below periods period PeriodRange >>= (λ period. does (step.Bench height period)))))) fields
 
-unfoldable pub revise_line : ℕ → ℕ → Bool → List (List ℕ) → Result ScriptFact ScriptCause
-revise_line resources periods is_open fields = three_fields (λ r t v. in_job is_open (
+unfoldable pub revise_step : ℕ → ℕ → Bool → List (List ℕ) → Result ScriptFact ScriptCause
+revise_step resources periods is_open fields = three_fields (λ r t v. in_job is_open (
     read_as whole_of r >>= (λ resource. read_as whole_of t >>= (λ period. read_as upper_bound_of v >>= (λ upper.
     below resources resource ResourceRange >>= (λ resource. below periods period PeriodRange >>= (λ period. does (step.Revise resource period upper)))))))) fields
 
 -- a line that begins with this word
 abbrev pub line_of_word : Pit → Bool → ℕ → Word → List (List ℕ) → Result ScriptFact ScriptCause
 line_of_word pit is_open jobs word.Begin fields = begin_line is_open jobs fields
-line_of_word pit is_open jobs word.Read fields = read_line pit.blocks is_open fields
-line_of_word pit is_open jobs word.Put fields = put_line pit.blocks pit.periods is_open fields
-line_of_word pit is_open jobs word.Clear fields = clear_line pit.blocks is_open fields
-line_of_word pit is_open jobs word.Shift fields = shift_line pit.blocks is_open fields
-line_of_word pit is_open jobs word.Bench fields = bench_line pit is_open fields
-line_of_word pit is_open jobs word.Revise fields = revise_line pit.resources pit.periods is_open fields
+line_of_word pit is_open jobs word.Read fields = read_step pit.blocks is_open fields
+line_of_word pit is_open jobs word.Put fields = put_step pit.blocks pit.periods is_open fields
+line_of_word pit is_open jobs word.Clear fields = clear_step pit.blocks is_open fields
+line_of_word pit is_open jobs word.Shift fields = shift_step pit.blocks is_open fields
+line_of_word pit is_open jobs word.Bench fields = bench_step pit.periods is_open fields
+line_of_word pit is_open jobs word.Revise fields = revise_step pit.resources pit.periods is_open fields
 line_of_word pit is_open jobs word.Commit fields = end_line_of ending.Commit is_open fields
 line_of_word pit is_open jobs word.Abort fields = end_line_of ending.Abort is_open fields
 
--- what a line says, where so many jobs have ended, and one is open or none
+-- what a line says by itself, where so many jobs have ended, and one is open or none
+unfoldable pub ranged_fact : Pit → Bool → ℕ → List (List ℕ) → Result ScriptFact ScriptCause
+ranged_fact pit is_open jobs [] = Err UnknownWord
+ranged_fact pit is_open jobs (first ∷ fields) = word_in first >>= (λ word. line_of_word pit is_open jobs word fields)
+
+-- a bench that it names has a block
+abbrev pub known_bench : Pit → ScriptFact → Result ScriptFact ScriptCause
+known_bench pit says.Begin = Ok says.Begin
+known_bench pit (says.Does (step.Bench height period)) = if has_bench pit height then does (step.Bench height period) else Err NoBench
+known_bench pit (says.Does other) = does other
+known_bench pit (says.Ends end) = Ok (says.Ends end)
+
+-- what a line says
 unfoldable pub line_fact : Pit → Bool → ℕ → List (List ℕ) → Result ScriptFact ScriptCause
-line_fact pit is_open jobs [] = Err UnknownWord
-line_fact pit is_open jobs (first ∷ fields) = word_in first >>= (λ word. line_of_word pit is_open jobs word fields)
+line_fact pit is_open jobs fields = ranged_fact pit is_open jobs fields >>= known_bench pit

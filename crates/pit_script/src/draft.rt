@@ -1,7 +1,9 @@
 ghost use Rattle.std.specs.Prelude.{◌≡◌, OnOk, OnErr, is_some, length};
 ghost use Rattle.pit_script.specs.Jobs.{no_job, with_fact};
+ghost use Rattle.pit_script.specs.Ranges.{AreJobsIn};
 ghost use Rattle.pit_script.specs.Inside.Lines.{MayStand};
 
+use super::benches::Benches;
 use super::fact::ScriptFact;
 use super::script::Script;
 use super::step::{JobEnd, Step};
@@ -79,10 +81,11 @@ impl<A: Allocator + Copy + Drop> Draft<A> {
         }
     }
 
-    /// The script of the jobs that have ended.
-    pub(crate) fn into_script(self) -> Script<A>
-        ensures { result ≡ self.jobs }
+    /// The script of the jobs that have ended, over the benches of their pit.
+    pub(crate) fn into_script(self, benches: Benches<A>) -> Script<A>
+        requires { AreJobsIn benches self.jobs }
+        ensures { result ≡ record { pit = benches; jobs = self.jobs } }
     {
-        Script::of(self.steps, self.ends)
+        Script::of(benches, self.steps, self.ends)
     }
 }

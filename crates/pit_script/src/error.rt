@@ -36,11 +36,12 @@ pub enum ScriptCause {
     NoMemory,
 }
 
-/// The first faulty line of a script, counted from 1, and what is wrong with it. Where memory ran out, a line up to which nothing is wrong.
+/// The first faulty line of a script, counted from 1, and what is wrong with it. Where memory ran out, a line up to which nothing is wrong, or else
+/// the end of a text that has no line.
 #[derive(Clone, Copy, Debug, PartialEq, Eq, Error)]
 #[error("line {line}: {cause}")]
 pub struct ScriptError {
-    /// For a job that isn't ended: the line of `EOF`, or else one past the last line.
+    /// At the end of a text: the line of `EOF`, or else one past the last line.
     pub line: u64,
     pub cause: ScriptCause,
 }

@@ -1,7 +1,8 @@
 //! Scripts: the texts that say what one planner does, job after job.
 //!
 //! A script is cut into lines and fields as every text is. It stands for its jobs, each a list of steps and how the job ends, or has its
-//! first fault; the parser answers exactly that, or want of memory, where the lines so far have no fault.
+//! first fault; the parser answers exactly that, or want of memory, where the lines so far have no fault. A script keeps the pit that it is for, and
+//! the pit's benches, so each of its jobs is in the ranges of that pit.
 #![tactic(auto)]
 
 mod benches;

@@ -1,9 +1,8 @@
-ghost use Rattle.std.specs.Prelude.{◌≡◌, ◌<◌, ℕ, true, IfOk};
+ghost use Rattle.std.specs.Prelude.{◌≡◌, ◌<◌, ℕ, IfOk};
 ghost use Rattle.pit_model.specs.Pit.{Pit};
 ghost use Rattle.pit_text.specs.Left.{fields_left};
-ghost use Rattle.pit_script.specs.Benches.{AreBenchesOf};
 ghost use Rattle.pit_script.specs.Inside.Ranges.{IsFactIn};
-ghost use Rattle.pit_script.specs.Lines.{line_fact, line_of_word, bench_line, bench_in, revise_line, begin_line, end_line_of, read_line, clear_line, put_line, shift_line, below};
+ghost use Rattle.pit_script.specs.Lines.{line_fact, ranged_fact, known_bench, line_of_word, bench_step, revise_step, begin_line, end_line_of, read_step, clear_step, put_step, shift_step, below};
 ghost use Rattle.pit_script.specs.Inside.Lines.{MayStand};
 
 use super::benches::Benches;
@@ -18,15 +17,29 @@ use std::alloc::Allocator;
 
 /// What a line says, where so many jobs have ended, and one is open or none.
 #[tactic(auto, unfolding(crate::specs::Lines::line_fact))]
-pub(crate) fn line_fact<A: Allocator + Copy + Drop, B: Allocator + Copy + Drop>(
+pub(crate) fn line_fact<A: Allocator + Copy + Drop>(
+    fields: Fields<'_>,
+    is_open: bool,
+    jobs: u32,
+    benches: &Benches<A>,
+) -> Result<ScriptFact, ScriptCause>
+    ensures value { result ≡ line_fact benches.now is_open jobs (fields_left fields.entry) }
+    ensures stands { IfOk result (MayStand is_open jobs) }
+    ensures in_range { IfOk result (IsFactIn benches.now) }
+{
+    let fact = ranged_fact(fields, is_open, jobs, benches.pit())?;
+    known_bench(fact, benches)
+}
+
+/// What a line says by itself: whether a bench that it names has a block isn't asked.
+#[tactic(auto, unfolding(crate::specs::Lines::ranged_fact))]
+pub(crate) fn ranged_fact<A: Allocator + Copy + Drop>(
     mut fields: Fields<'_>,
     is_open: bool,
     jobs: u32,
     pit: &Instance<A>,
-    benches: &Benches<B>,
 ) -> Result<ScriptFact, ScriptCause>
-    requires { AreBenchesOf pit.now benches.now }
-    ensures value { result ≡ line_fact pit.now is_open jobs (fields_left fields.entry) }
+    ensures value { result ≡ ranged_fact pit.now is_open jobs (fields_left fields.entry) }
     ensures stands { IfOk result (MayStand is_open jobs) }
     ensures in_range { IfOk result (IsFactIn pit.now) }
 {
@@ -34,47 +47,59 @@ pub(crate) fn line_fact<A: Allocator + Copy + Drop, B: Allocator + Copy + Drop>(
         return Err(ScriptCause::UnknownWord);
     };
     let word = word_in(first)?;
-    line_of_word(word, fields, is_open, jobs, pit, benches)
+    line_of_word(word, fields, is_open, jobs, pit)
+}
+
+/// The same, where a bench that it names has a block.
+fn known_bench<A: Allocator + Copy + Drop>(
+    fact: ScriptFact,
+    benches: &Benches<A>,
+) -> Result<ScriptFact, ScriptCause>
+    ensures value { result ≡ known_bench benches.now fact }
+    ensures same { IfOk result (λ known. known ≡ fact) }
+{
+    if let ScriptFact::Does(Step::Bench { height, .. }) = fact {
+        if !benches.has(height) {
+            return Err(ScriptCause::NoBench);
+        }
+    }
+    Ok(fact)
 }
 
 /// What a line says that begins with a word, by its fields behind it.
-fn line_of_word<A: Allocator + Copy + Drop, B: Allocator + Copy + Drop>(
+fn line_of_word<A: Allocator + Copy + Drop>(
     word: Word,
     fields: Fields<'_>,
     is_open: bool,
     jobs: u32,
     pit: &Instance<A>,
-    benches: &Benches<B>,
 ) -> Result<ScriptFact, ScriptCause>
-    requires { AreBenchesOf pit.now benches.now }
     ensures value { result ≡ line_of_word pit.now is_open jobs word (fields_left fields.entry) }
     ensures stands { IfOk result (MayStand is_open jobs) }
     ensures in_range { IfOk result (IsFactIn pit.now) }
 {
     match word {
         Word::Begin => begin_line(fields, is_open, jobs),
-        Word::Read => read_line(fields, is_open, pit.blocks()),
-        Word::Put => put_line(fields, is_open, pit.blocks(), pit.periods()),
-        Word::Clear => clear_line(fields, is_open, pit.blocks()),
-        Word::Shift => shift_line(fields, is_open, pit.blocks()),
-        Word::Bench => bench_line(fields, is_open, pit, benches),
-        Word::Revise => revise_line(fields, is_open, pit.resources(), pit.periods()),
+        Word::Read => read_step(fields, is_open, pit.blocks()),
+        Word::Put => put_step(fields, is_open, pit.blocks(), pit.periods()),
+        Word::Clear => clear_step(fields, is_open, pit.blocks()),
+        Word::Shift => shift_step(fields, is_open, pit.blocks()),
+        Word::Bench => bench_step(fields, is_open, pit.periods()),
+        Word::Revise => revise_step(fields, is_open, pit.resources(), pit.periods()),
         Word::Commit => end_line_of(fields, is_open, JobEnd::Commit),
         Word::Abort => end_line_of(fields, is_open, JobEnd::Abort),
     }
 }
 
-#[tactic(auto, unfolding(crate::specs::Lines::bench_line))]
-fn bench_line<A: Allocator + Copy + Drop, B: Allocator + Copy + Drop>(
+#[tactic(auto, unfolding(crate::specs::Lines::bench_step))]
+fn bench_step(
     mut fields: Fields<'_>,
     is_open: bool,
-    pit: &Instance<A>,
-    benches: &Benches<B>,
+    periods: u32,
 ) -> Result<ScriptFact, ScriptCause>
-    requires { AreBenchesOf pit.now benches.now }
-    ensures value { result ≡ bench_line pit.now is_open (fields_left fields.entry) }
+    ensures value { result ≡ bench_step periods is_open (fields_left fields.entry) }
     ensures stands { (jobs : ℕ) → IfOk result (MayStand is_open jobs) }
-    ensures in_range { IfOk result (IsFactIn pit.now) }
+    ensures in_range { (pit : Pit) → pit.periods ≡ periods → IfOk result (IsFactIn pit) }
 {
     let (Some(z), Some(t), None) = (fields.next(), fields.next(), fields.next()) else {
         return Err(ScriptCause::FieldCount);
@@ -84,37 +109,18 @@ fn bench_line<A: Allocator + Copy + Drop, B: Allocator + Copy + Drop>(
     }
     let height = decimal(z)?;
     let period = whole(t)?;
-    let period = below(pit.periods(), period, ScriptCause::PeriodRange)?;
-    bench_in(pit, benches, height, period)
-}
-
-/// A bench of the pit, where it has that one.
-fn bench_in<A: Allocator + Copy + Drop, B: Allocator + Copy + Drop>(
-    pit: &Instance<A>,
-    benches: &Benches<B>,
-    height: i64,
-    period: u32,
-) -> Result<ScriptFact, ScriptCause>
-    requires benches { AreBenchesOf pit.now benches.now }
-    requires in_time { period < pit.now.periods }
-    ensures value { result ≡ bench_in pit.now height period }
-    ensures stands { (jobs : ℕ) → IfOk result (MayStand true jobs) }
-    ensures in_range { IfOk result (IsFactIn pit.now) }
-{
-    if !benches.has(height) {
-        return Err(ScriptCause::NoBench);
-    }
+    let period = below(periods, period, ScriptCause::PeriodRange)?;
     Ok(ScriptFact::Does(Step::Bench { height, period }))
 }
 
-#[tactic(auto, unfolding(crate::specs::Lines::revise_line))]
-fn revise_line(
+#[tactic(auto, unfolding(crate::specs::Lines::revise_step))]
+fn revise_step(
     mut fields: Fields<'_>,
     is_open: bool,
     resources: u32,
     periods: u32,
 ) -> Result<ScriptFact, ScriptCause>
-    ensures value { result ≡ revise_line resources periods is_open (fields_left fields.entry) }
+    ensures value { result ≡ revise_step resources periods is_open (fields_left fields.entry) }
     ensures stands { (jobs : ℕ) → IfOk result (MayStand is_open jobs) }
     ensures in_range { (pit : Pit) → pit.resources ≡ resources → pit.periods ≡ periods → IfOk result (IsFactIn pit) }
 {
@@ -178,9 +184,9 @@ fn end_line_of(
     Ok(ScriptFact::Ends(end))
 }
 
-#[tactic(auto, unfolding(crate::specs::Lines::read_line))]
-fn read_line(mut fields: Fields<'_>, is_open: bool, blocks: u32) -> Result<ScriptFact, ScriptCause>
-    ensures value { result ≡ read_line blocks is_open (fields_left fields.entry) }
+#[tactic(auto, unfolding(crate::specs::Lines::read_step))]
+fn read_step(mut fields: Fields<'_>, is_open: bool, blocks: u32) -> Result<ScriptFact, ScriptCause>
+    ensures value { result ≡ read_step blocks is_open (fields_left fields.entry) }
     ensures stands { (jobs : ℕ) → IfOk result (MayStand is_open jobs) }
     ensures in_range { (pit : Pit) → pit.blocks ≡ blocks → IfOk result (IsFactIn pit) }
 {
@@ -194,9 +200,9 @@ fn read_line(mut fields: Fields<'_>, is_open: bool, blocks: u32) -> Result<Scrip
     Ok(ScriptFact::Does(Step::Read { block }))
 }
 
-#[tactic(auto, unfolding(crate::specs::Lines::clear_line))]
-fn clear_line(mut fields: Fields<'_>, is_open: bool, blocks: u32) -> Result<ScriptFact, ScriptCause>
-    ensures value { result ≡ clear_line blocks is_open (fields_left fields.entry) }
+#[tactic(auto, unfolding(crate::specs::Lines::clear_step))]
+fn clear_step(mut fields: Fields<'_>, is_open: bool, blocks: u32) -> Result<ScriptFact, ScriptCause>
+    ensures value { result ≡ clear_step blocks is_open (fields_left fields.entry) }
     ensures stands { (jobs : ℕ) → IfOk result (MayStand is_open jobs) }
     ensures in_range { (pit : Pit) → pit.blocks ≡ blocks → IfOk result (IsFactIn pit) }
 {
@@ -210,14 +216,14 @@ fn clear_line(mut fields: Fields<'_>, is_open: bool, blocks: u32) -> Result<Scri
     Ok(ScriptFact::Does(Step::Clear { block }))
 }
 
-#[tactic(auto, unfolding(crate::specs::Lines::put_line))]
-fn put_line(
+#[tactic(auto, unfolding(crate::specs::Lines::put_step))]
+fn put_step(
     mut fields: Fields<'_>,
     is_open: bool,
     blocks: u32,
     periods: u32,
 ) -> Result<ScriptFact, ScriptCause>
-    ensures value { result ≡ put_line blocks periods is_open (fields_left fields.entry) }
+    ensures value { result ≡ put_step blocks periods is_open (fields_left fields.entry) }
     ensures stands { (jobs : ℕ) → IfOk result (MayStand is_open jobs) }
     ensures in_range { (pit : Pit) → pit.blocks ≡ blocks → pit.periods ≡ periods → IfOk result (IsFactIn pit) }
 {
@@ -234,9 +240,9 @@ fn put_line(
     Ok(ScriptFact::Does(Step::Put { block, period }))
 }
 
-#[tactic(auto, unfolding(crate::specs::Lines::shift_line))]
-fn shift_line(mut fields: Fields<'_>, is_open: bool, blocks: u32) -> Result<ScriptFact, ScriptCause>
-    ensures value { result ≡ shift_line blocks is_open (fields_left fields.entry) }
+#[tactic(auto, unfolding(crate::specs::Lines::shift_step))]
+fn shift_step(mut fields: Fields<'_>, is_open: bool, blocks: u32) -> Result<ScriptFact, ScriptCause>
+    ensures value { result ≡ shift_step blocks is_open (fields_left fields.entry) }
     ensures stands { (jobs : ℕ) → IfOk result (MayStand is_open jobs) }
     ensures in_range { (pit : Pit) → pit.blocks ≡ blocks → IfOk result (IsFactIn pit) }
 {

@@ -1,12 +1,12 @@
-ghost use Rattle.std.specs.Prelude.{◌≡◌, ◌≤◌, ◌<◌, ℕ, List, length, is_some, IfOk, MatchResult, ◌⊎◌, Ok};
+ghost use Rattle.std.specs.Prelude.{◌≡◌, ◌≤◌, ◌<◌, List, All, length, IfOk, MatchResult, ◌⊎◌, Ok};
 ghost use Rattle.pit_text.specs.Cutting.{cut_of, end_line};
 ghost use Rattle.pit_text.specs.Left.{fields_left};
-ghost use Rattle.pit_text.specs.Stands.{StandsFor, StandsWhole, StopsAt, FailsFirst, FailsWhole};
+ghost use Rattle.pit_text.specs.Stands.{StandsFor, StopsAt, FailsFirst, FailsWhole};
 ghost use Rattle.pit_text.specs.Inside.Stands.{IsCauseOf};
-ghost use Rattle.pit_script.specs.Jobs.{Job, job_at, jobs_of, progress_of, fact_in, with_fact, script_line, script_end};
-ghost use Rattle.pit_script.specs.Benches.{AreBenchesOf};
+ghost use Rattle.pit_script.specs.Jobs.{job_at, no_job, progress_of, fact_in, with_fact, script_line, script_end};
 ghost use Rattle.pit_script.specs.Inside.Kept.{jobs_in, AreJobEnds, start_from};
-ghost use Rattle.pit_script.specs.Ranges.{AreJobsIn};
+ghost use Rattle.pit_script.specs.Ranges.{IsStepIn, AreJobsIn};
+ghost use Rattle.pit_script.specs.Scripts.{StandsForJobs, WantsMemoryAt, IsScriptError};
 ghost use Rattle.pit_script.specs.Inside.Ranges.{IsFactIn, IsProgressIn};
 ghost use Rattle.pit_script.specs.declared.fact.ScriptFact.{ScriptFact as Fact};
 ghost use Rattle.pit_script.specs.declared.step.TheConstants.{JOBS_MAX as Most};
@@ -14,84 +14,98 @@ ghost use Rattle.pit_script.specs.declared.step.TheConstants.{JOBS_MAX as Most};
 use super::benches::Benches;
 use super::draft::Draft;
 use super::error::{ScriptCause, ScriptError};
-use super::line::line_fact;
+use super::line::{line_fact, ranged_fact};
 use super::step::{JobEnd, Step};
 use pit_model::Instance;
+use pit_num::NoMemory;
 use pit_text::{Fields, Lines};
 use std::alloc::Allocator;
 use std::marker::Model;
 
-/// The jobs of one planner, in order.
+/// The jobs of one planner, in order, over the benches of the pit that they are for.
 #[derive(Drop)]
 pub struct Script<A: Allocator + Drop> {
+    benches: Benches<A>,
     steps: Vec<Step, A>,
     /// Of each job where its steps end, and how it ends.
     ends: Vec<(usize, JobEnd), A>,
 }
 
 impl<A: Allocator + Drop> Model for Script<A> {
-    ghost use Rattle.std.specs.Prelude.{List, length, ◌≤◌};
-    ghost use Rattle.pit_script.specs.Jobs.{Job};
+    ghost use Rattle.std.specs.Prelude.{length, ◌≤◌};
     ghost use Rattle.pit_script.specs.Inside.Kept.{jobs_in, AreJobEnds};
+    ghost use Rattle.pit_script.specs.Ranges.{AreJobsIn};
+    ghost use Rattle.pit_script.specs.Scripts.{ScriptState};
     ghost use Rattle.pit_script.specs.declared.step.TheConstants.{JOBS_MAX as Most};
 
-    ghost Value = { List Job };
+    ghost Value = { ScriptState };
 
-    ghost view = { λ s. jobs_in s.steps.items 0 s.ends.items };
+    ghost view = { λ s. record { pit = s.benches; jobs = jobs_in s.steps.items 0 s.ends.items } };
 
-    ghost invariant = { λ s. AreJobEnds 0 (length s.steps.items) s.ends.items × (length s.ends.items ≤ Most) };
+    ghost invariant = { λ s. AreJobEnds 0 (length s.steps.items) s.ends.items × (length s.ends.items ≤ Most)
+        × AreJobsIn s.benches (jobs_in s.steps.items 0 s.ends.items) };
 }
 
 impl<A: Allocator + Copy + Drop> Script<A> {
-    /// Reads a script over a pit. Memory is taken for its steps and its jobs; want of it is answered only of a line that has no fault, as those before
-    /// it have none.
-    pub fn parse<B: Allocator + Copy + Drop, C: Allocator + Copy + Drop>(
-        alloc: A,
-        text: &[u8],
-        pit: &Instance<B>,
-        benches: &Benches<C>,
-    ) -> Result<Script<A>, ScriptError>
-        requires { AreBenchesOf pit.now benches.now }
-        ensures in_range { IfOk result (AreJobsIn pit.now) }
-        ensures result { let judge = script_line pit.now in MatchResult result
-            (λ script. (facts : List Fact) × StandsWhole judge script_end (cut_of text.now) facts × (script ≡ jobs_of facts))
-            (λ fault. ((fault.cause ≡ ScriptCause.NoMemory) × StopsAt judge (cut_of text.now) fault.line)
-            ⊎ FailsWhole judge script_end (cut_of text.now) (end_line text.now) fault.line fault.cause) }
+    /// Reads a script over a pit, of which the script keeps a share, with benches of its own. Memory is taken for these, and for its steps and its
+    /// jobs. Want of it is answered only of a line that has no fault, as those before it have none, or of the end of a text that has no line.
+    pub fn parse(alloc: A, text: &[u8], pit: &Instance<A>) -> Result<Script<A>, ScriptError>
+        ensures pit { IfOk result (λ script. script.pit ≡ pit.now) }
+        ensures result { MatchResult result (λ script. StandsForJobs pit.now text.now script.jobs) (IsScriptError pit.now text.now) }
     {
-        let (draft, end) = read_lines(alloc, text, pit, benches)?;
-        if draft.is_open() {
-            return Err(ScriptError {
-                line: end,
-                cause: ScriptCause::Unended,
-            });
-        }
-        Ok(draft.into_script())
+        read_with(alloc, text, pit, Benches::of(alloc, pit))
     }
 
-    /// The steps of a job, in order, and how it ends.
-    #[tactic(auto, using(crate::proofs::Kept::counts))]
-    pub fn job(&self, i: u32) -> (&[Step], JobEnd)
-        requires { i < length self.now }
-        ensures { job_at self.now i ≡ record { steps = result.0.now; end = result.1 } }
+    /// Reads a script over benches, of which the script keeps a share: so one pit's serve many scripts. Memory is taken for its steps and its jobs
+    /// alone; want of it is answered as `parse` answers it.
+    pub fn parse_on(alloc: A, text: &[u8], benches: &Benches<A>) -> Result<Script<A>, ScriptError>
+        ensures pit { IfOk result (λ script. script.pit ≡ benches.now) }
+        ensures result { MatchResult result (λ script. StandsForJobs benches.now text.now script.jobs) (IsScriptError benches.now text.now) }
     {
-        part_at(self.steps.as_slice(), self.ends.as_slice(), i as usize)
+        read_with(alloc, text, benches.pit(), benches.again())
     }
 
-    pub(crate) fn of(steps: Vec<Step, A>, ends: Vec<(usize, JobEnd), A>) -> Script<A>
+    pub(crate) fn of(
+        benches: Benches<A>,
+        steps: Vec<Step, A>,
+        ends: Vec<(usize, JobEnd), A>,
+    ) -> Script<A>
         requires ends { AreJobEnds 0 (length steps.items) ends.items }
         requires few { length ends.items ≤ Most }
-        ensures { result ≡ jobs_in steps.items 0 ends.items }
+        requires in_range { AreJobsIn benches (jobs_in steps.items 0 ends.items) }
+        ensures { result ≡ record { pit = benches; jobs = jobs_in steps.items 0 ends.items } }
     {
-        Script { steps, ends }
+        Script {
+            benches,
+            steps,
+            ends,
+        }
+    }
+
+    /// The benches of its pit. Takes no memory.
+    pub fn benches(&self) -> &Benches<A>
+        ensures { result.now ≡ self.now.pit }
+    {
+        &self.benches
     }
 
     /// The number of jobs, at most `JOBS_MAX`.
     #[tactic(auto, using(crate::proofs::Kept::counts))]
     pub fn jobs(&self) -> u32
-        ensures count { result ≡ length self.now }
+        ensures count { result ≡ length self.now.jobs }
         ensures few { result ≤ Most }
     {
         self.ends.len() as u32
+    }
+
+    /// The steps of a job, in order, and how it ends. Each block, period and resource of a step is one of the pit.
+    #[tactic(auto, using(crate::proofs::Kept::counts))]
+    pub fn job(&self, i: u32) -> (&[Step], JobEnd)
+        requires { i < length self.now.jobs }
+        ensures job { job_at self.now.jobs i ≡ record { steps = result.0.now; end = result.1 } }
+        ensures in_range { All (IsStepIn self.now.pit) result.0.now }
+    {
+        part_at(self.steps.as_slice(), self.ends.as_slice(), i as usize)
     }
 }
 
@@ -114,23 +128,85 @@ fn start_of(ends: &[(usize, JobEnd)], i: usize) -> usize
     if i == 0 { 0 } else { ends[i - 1].0 }
 }
 
-/// What the lines leave, and the number of the end line.
-fn read_lines<A: Allocator + Copy + Drop, B: Allocator + Copy + Drop, C: Allocator + Copy + Drop>(
+/// Reads a script over benches, where they weren't refused.
+fn read_with<A: Allocator + Copy + Drop>(
     alloc: A,
     text: &[u8],
-    pit: &Instance<B>,
-    benches: &Benches<C>,
+    pit: &Instance<A>,
+    benches: Result<Benches<A>, NoMemory>,
+) -> Result<Script<A>, ScriptError>
+    requires { IfOk benches (λ benches. benches ≡ pit.now) }
+    ensures pit { IfOk result (λ script. script.pit ≡ pit.now) }
+    ensures result { MatchResult result (λ script. StandsForJobs pit.now text.now script.jobs) (IsScriptError pit.now text.now) }
+{
+    match benches {
+        Ok(benches) => read(alloc, text, benches),
+        Err(_) => Err(first_fault(text, pit)),
+    }
+}
+
+/// Reads a script over benches.
+fn read<A: Allocator + Copy + Drop>(
+    alloc: A,
+    text: &[u8],
+    benches: Benches<A>,
+) -> Result<Script<A>, ScriptError>
+    ensures pit { IfOk result (λ script. script.pit ≡ benches) }
+    ensures result { MatchResult result (λ script. StandsForJobs benches text.now script.jobs) (IsScriptError benches text.now) }
+{
+    let (draft, end) = read_lines(alloc, text, &benches)?;
+    if draft.is_open() {
+        return Err(ScriptError {
+            line: end,
+            cause: ScriptCause::Unended,
+        });
+    }
+    Ok(draft.into_script(benches))
+}
+
+/// What is answered where the benches are refused. No line asks for a bench before a job is open, so the first line is judged without them.
+fn first_fault<A: Allocator + Copy + Drop>(text: &[u8], pit: &Instance<A>) -> ScriptError
+    ensures { ((result.cause ≡ ScriptCause.NoMemory) × WantsMemoryAt pit.now text.now result.line)
+        ⊎ FailsFirst (script_line pit.now) (cut_of text.now) result.line result.cause }
+{
+    let mut lines = Lines::new(text);
+    let Some(line) = lines.next() else {
+        return ScriptError {
+            line: lines.end_line(),
+            cause: ScriptCause::NoMemory,
+        };
+    };
+    ScriptError {
+        line: line.number,
+        cause: first_cause(line.fields, pit),
+    }
+}
+
+/// What is answered of a first line: what is wrong with it, or else want of memory.
+fn first_cause<A: Allocator + Copy + Drop>(fields: Fields<'_>, pit: &Instance<A>) -> ScriptCause
+    ensures { IsCauseOf ScriptCause.NoMemory (fact_in pit.now no_job (fields_left fields.entry)) result }
+{
+    match ranged_fact(fields, false, 0, pit) {
+        Ok(_) => ScriptCause::NoMemory,
+        Err(cause) => cause,
+    }
+}
+
+/// What the lines leave, and the number of the end line.
+fn read_lines<A: Allocator + Copy + Drop>(
+    alloc: A,
+    text: &[u8],
+    benches: &Benches<A>,
 ) -> Result<(Draft<A>, u64), ScriptError>
-    requires { AreBenchesOf pit.now benches.now }
-    ensures in_range { IfOk result (λ read. IsProgressIn pit.now read.0) }
-    ensures result { let judge = script_line pit.now in MatchResult result
+    ensures in_range { IfOk result (λ read. IsProgressIn benches.now read.0) }
+    ensures result { let judge = script_line benches.now in MatchResult result
         (λ read. (facts : List Fact) × StandsFor judge (cut_of text.now) facts × (read.0 ≡ progress_of facts) × (read.1 ≡ end_line text.now))
         (λ fault. ((fault.cause ≡ ScriptCause.NoMemory) × StopsAt judge (cut_of text.now) fault.line) ⊎ FailsFirst judge (cut_of text.now) fault.line fault.cause) }
 {
     let mut draft = Draft::new(alloc);
     let mut lines = Lines::new(text);
     while let Some(line) = lines.next() {
-        if let Err(cause) = read_line(&mut draft, line.fields, pit, benches) {
+        if let Err(cause) = add_line(&mut draft, line.fields, benches) {
             return Err(ScriptError {
                 line: line.number,
                 cause,
@@ -140,18 +216,16 @@ fn read_lines<A: Allocator + Copy + Drop, B: Allocator + Copy + Drop, C: Allocat
     Ok((draft, lines.end_line()))
 }
 
-fn read_line<A: Allocator + Copy + Drop, B: Allocator + Copy + Drop, C: Allocator + Copy + Drop>(
+fn add_line<A: Allocator + Copy + Drop>(
     draft: &mut Draft<A>,
     fields: Fields<'_>,
-    pit: &Instance<B>,
-    benches: &Benches<C>,
+    benches: &Benches<A>,
 ) -> Result<(), ScriptCause>
-    requires { AreBenchesOf pit.now benches.now }
     ensures { MatchResult result
-        (λ _. (fact : Fact) × IsFactIn pit.now fact × (fact_in pit.now draft.old (fields_left fields.entry) ≡ Ok fact) × (draft.new ≡ with_fact draft.old fact))
-        (λ cause. IsCauseOf ScriptCause.NoMemory (fact_in pit.now draft.old (fields_left fields.entry)) cause) }
+        (λ _. (fact : Fact) × IsFactIn benches.now fact × (fact_in benches.now draft.old (fields_left fields.entry) ≡ Ok fact) × (draft.new ≡ with_fact draft.old fact))
+        (λ cause. IsCauseOf ScriptCause.NoMemory (fact_in benches.now draft.old (fields_left fields.entry)) cause) }
 {
-    let fact = line_fact(fields, draft.is_open(), draft.jobs(), pit, benches)?;
+    let fact = line_fact(fields, draft.is_open(), draft.jobs(), benches)?;
     let Ok(()) = draft.add(fact) else {
         return Err(ScriptCause::NoMemory);
     };

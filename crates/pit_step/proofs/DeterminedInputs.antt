@@ -10,38 +10,37 @@ use Rattle.pit_text.specs.Solution.{solution_line, period_in, schedule_of}
 use Rattle.pit_text.proofs.CallerLemmas.{one_result, one_whole_result}
 use Rattle.pit_step.specs.declared.input.Input.{Input}
 use Rattle.pit_step.specs.declared.input.Input.TheVariants.{Model, Precedence, Blocks}
-use Rattle.pit_step.specs.declared.fault.CliFault.TheVariants.{NoMemory}
 use Rattle.pit_step.specs.Devices.{Reading}
 use Rattle.pit_step.specs.Inputs.{IsModel, IsModelStop, IsModelFault, IsOrder, IsOrderStop, IsOrderFault, IsPlaced, IsPlacesStop, IsPlacesFault, IsSolutionOf, IsSolutionStop, IsSolutionFault, model_step, order_step, ordered_pit_step}
 use Rattle.pit_step.proofs.Determined.{IsDetermined, in_turn-determined}
-use Rattle.pit_step.proofs.DeterminedSteps.{IsOneText, one_text, input-determined}
+use Rattle.pit_step.proofs.DeterminedSteps.{IsSeen, IsDecidedText, text-decided, input-determined}
 
-pub model_text : (bytes : List ℕ) → IsOneText (IsModel bytes) (IsModelFault bytes)
+pub model_text : (bytes : List ℕ) → IsDecidedText (IsModel bytes) (IsModelFault bytes)
 model_text bytes =
-    one_text Model (StandsWhole model_line model_end (cut_of bytes)) (FailsWhole model_line model_end (cut_of bytes) (end_line bytes)) (IsModelStop bytes) pit_of
+    text-decided Model (StandsWhole model_line model_end (cut_of bytes)) (FailsWhole model_line model_end (cut_of bytes) (end_line bytes)) (IsModelStop bytes) pit_of
     (one_whole_result model_line model_end (cut_of bytes) (end_line bytes))
 
-pub order_text : (given : Pit) (bytes : List ℕ) → IsOneText (IsOrder given bytes) (IsOrderFault given bytes)
+pub order_text : (given : Pit) (bytes : List ℕ) → IsDecidedText (IsOrder given bytes) (IsOrderFault given bytes)
 order_text given bytes =
-    one_text Precedence (StandsFor (precedence_line given) (cut_of bytes)) (FailsFirst (precedence_line given) (cut_of bytes)) (IsOrderStop given bytes) (pit_with_preds given)
+    text-decided Precedence (StandsFor (precedence_line given) (cut_of bytes)) (FailsFirst (precedence_line given) (cut_of bytes)) (IsOrderStop given bytes) (pit_with_preds given)
     (one_result (precedence_line given) (cut_of bytes))
 
-pub places_text : (given : Pit) (bytes : List ℕ) → IsOneText (IsPlaced given bytes) (IsPlacesFault given bytes)
+pub places_text : (given : Pit) (bytes : List ℕ) → IsDecidedText (IsPlaced given bytes) (IsPlacesFault given bytes)
 places_text given bytes =
-    one_text Blocks (StandsFor (block_line given) (cut_of bytes)) (FailsFirst (block_line given) (cut_of bytes)) (IsPlacesStop given bytes) (pit_with_places given)
+    text-decided Blocks (StandsFor (block_line given) (cut_of bytes)) (FailsFirst (block_line given) (cut_of bytes)) (IsPlacesStop given bytes) (pit_with_places given)
     (one_result (block_line given) (cut_of bytes))
 
-pub solution_text : (file : Input) (pit : Pit) (bytes : List ℕ) → IsOneText (IsSolutionOf pit bytes) (IsSolutionFault file pit bytes)
+pub solution_text : (file : Input) (pit : Pit) (bytes : List ℕ) → IsDecidedText (IsSolutionOf pit bytes) (IsSolutionFault file pit bytes)
 solution_text file pit bytes =
-    one_text file (StandsFor (solution_line pit.blocks pit.periods) (cut_of bytes)) (FailsFirst (solution_line pit.blocks pit.periods) (cut_of bytes)) (IsSolutionStop pit bytes)
+    text-decided file (StandsFor (solution_line pit.blocks pit.periods) (cut_of bytes)) (FailsFirst (solution_line pit.blocks pit.periods) (cut_of bytes)) (IsSolutionStop pit bytes)
     (λ facts. schedule_of pit.blocks (period_in facts)) (one_result (solution_line pit.blocks pit.periods) (cut_of bytes))
 
-pub model-determined : (model : Reading) → IsSome model.before → IsDetermined NoMemory (model_step model) tt
-model-determined model told = input-determined Model model (λ _. IsModel) (λ _. IsModelFault) tt told model_text
+pub model-determined : (model : Reading) → IsSome model.before → IsDetermined IsSeen (model_step model) tt
+model-determined model told = input-determined Model model (λ _. IsModel) (λ _. IsModelFault) tt told (λ bytes. (model_text bytes).once)
 
-order-determined : (precedence : Reading) (given : Pit) → IsSome precedence.before → IsDetermined NoMemory (order_step precedence) given
-order-determined precedence given told = input-determined Precedence precedence IsOrder IsOrderFault given told (order_text given)
+order-determined : (precedence : Reading) (given : Pit) → IsSome precedence.before → IsDetermined IsSeen (order_step precedence) given
+order-determined precedence given told = input-determined Precedence precedence IsOrder IsOrderFault given told (λ bytes. (order_text given bytes).once)
 
-pub ordered_pit-determined : (model precedence : Reading) → IsSome model.before → IsSome precedence.before → IsDetermined NoMemory (ordered_pit_step model precedence) tt
+pub ordered_pit-determined : (model precedence : Reading) → IsSome model.before → IsSome precedence.before → IsDetermined IsSeen (ordered_pit_step model precedence) tt
 ordered_pit-determined model precedence told also =
-    in_turn-determined NoMemory (model_step model) (order_step precedence) tt (model-determined model told) (λ given. order-determined precedence given also)
+    in_turn-determined IsSeen (model_step model) (order_step precedence) tt (model-determined model told) (λ given. order-determined precedence given also)

@@ -10,8 +10,26 @@ use Rattle.pit_step.specs.declared.input.Input.{Input}
 use Rattle.pit_step.specs.declared.fault.CliFault.{CliFault}
 use Rattle.pit_step.specs.declared.fault.CliFault.TheVariants.{Text, TooLong, CannotRead, NoMemory}
 use Rattle.pit_step.specs.Devices.{Reading, Writing, IsWhole, IsTooLong, IsInputFault, IsTextFault, input_step, write_step}
+use Rattle.pit_step.specs.Steps.{judge_step}
 use Rattle.pit_step.specs.Inputs.{StandsAs}
-use Rattle.pit_step.proofs.Determined.{IsDetermined, IsShown, IsNeverBoth}
+use Rattle.pit_step.specs.Statuses.{fault_status}
+use Rattle.pit_step.proofs.Determined.{IsDetermined, IsDecided, IsShown, IsNeverBoth}
+
+-- ---- faults
+
+-- it isn't want of memory, which no device shows
+abbrev pub IsSeen : CliFault → Type 0
+IsSeen fault = fault ≢ NoMemory
+
+-- it is of the inputs
+abbrev pub IsOfInputs : CliFault → Type 0
+IsOfInputs fault = fault_status fault ≡ 2
+
+pub never_two : ◌≡◌ {A = ℕ} 3 2 → ⊥
+never_two is = omega (arith, is)
+
+pub inputs-seen : (fault : CliFault) → IsOfInputs fault → IsSeen fault
+inputs-seen fault due is = never_two (sym (ap fault_status is) ∙ due)
 
 -- ---- the text of an input
 
@@ -49,6 +67,34 @@ one_text {F} {B} file Stands Fails IsStop value_of one = record {
   apart = λ value fault some p q.
       let bad = text_fault file (λ (error : TextError). Fails error.line error.cause) IsStop fault some q in one.apart p.facts bad.0.line bad.0.cause p.stands bad.2;
   faults = one_fault file Stands Fails IsStop one;
+}
+
+-- it stands for a value or has a fault of the inputs, and only one
+pub record IsDecidedText {B : Type 0} (Stands : B → Type 0) (IsFault : CliFault → Type 0) : Type 0 where
+  pub some : ((value : B) × Stands value) ⊎ ((fault : CliFault) × IsOfInputs fault × IsFault fault)
+  pub once : IsOneText Stands IsFault
+
+module _ {F B : Type 0} (file : Input) (Stands : List F → Type 0) (Fails : ℕ → Cause → Type 0) (IsStop : Type 0) (value_of : List F → B) (one : HasOneResult Stands Fails) where
+  abbrev TextFault : CliFault → Type 0
+  TextFault = IsTextFault file (λ (error : TextError). Fails error.line error.cause) IsStop
+
+  some_text : ((facts : List F) × Stands facts) ⊎ ((place : ℕ) × (cause : Cause) × Fails place cause)
+      → ((value : B) × StandsAs Stands value_of value) ⊎ ((fault : CliFault) × IsOfInputs fault × TextFault fault)
+  some_text (inl found) = inl (value_of found.0, record { facts = found.0; stands = found.1; says = refl })
+  some_text (inr bad) = inr (Text file (record { line = bad.0; cause = bad.1 }), refl, (refl, bad.2))
+
+  pub text-decided : IsDecidedText (StandsAs Stands value_of) TextFault
+  text-decided = record { some = some_text one.some; once = one_text file Stands Fails IsStop value_of one }
+
+pub judge-decided : {A B : Type 0} (Gives : A → B → Type 0) (Fails : A → CliFault → Type 0) (given : A) → IsDecidedText (Gives given) (Fails given)
+    → IsDecided IsOfInputs (judge_step Gives Fails) given
+judge-decided Gives Fails given text = record {
+  some = text.some;
+  once = record {
+    values = text.once.values;
+    apart = λ value fault due p q. text.once.apart value fault (inputs-seen fault due) p q;
+    faults = λ fault other due also p q. text.once.faults fault other (inputs-seen fault due) (inputs-seen other also) p q;
+  };
 }
 
 -- ---- the bytes of an input
@@ -115,7 +161,7 @@ module _ {A B : Type 0} (file : Input) (source : Reading) (Stands : A → List �
   input_faults told one fault other some also (inr p) (inr q) =
       (one q.0).faults fault other some also (subst (λ (bytes : List ℕ). IsFault given bytes fault) (whole_once source p.0 q.0 told p.1 q.1) p.2) q.2
 
-  pub input-determined : IsSome source.before → ((bytes : List ℕ) → IsOneText (Stands given bytes) (IsFault given bytes)) → IsDetermined NoMemory (input_step file source Stands IsFault) given
+  pub input-determined : IsSome source.before → ((bytes : List ℕ) → IsOneText (Stands given bytes) (IsFault given bytes)) → IsDetermined IsSeen (input_step file source Stands IsFault) given
   input-determined told one = record {
     values = λ value other p q.
         (one q.0).values value other (subst (λ (bytes : List ℕ). Stands given bytes value) (whole_once source p.0 q.0 told p.1 q.1) p.2) q.2;
@@ -134,10 +180,10 @@ grown (Some xs) (Some ys) text told some p q =
     omega arith
 
 module _ {A B : Type 0} (out : Writing) (text_of : A → List ℕ) (value_of : A → B) (given : A) where
-  pub write-determined : IsDetermined NoMemory (write_step out text_of value_of) given
+  pub write-determined : IsDetermined IsSeen (write_step out text_of value_of) given
   write-determined = record {
     values = λ value other p q. p.0 ∙ sym q.0;
-    apart = λ value fault some p q. true≢false (sym q.2 ∙ p.2);
+    apart = λ value fault some p q. true≢false (sym q.2 ∙ p.2 q.3);
     faults = λ fault other some also p q. p.0 ∙ sym q.0;
   }
 
@@ -145,4 +191,4 @@ module _ {A B : Type 0} (out : Writing) (text_of : A → List ℕ) (value_of : A
   write-shown told some = λ value p untouched. grown out.before out.after (text_of given) told some p.1 untouched
 
   pub write-never_both : IsNeverBoth (write_step out text_of value_of) given
-  write-never_both = λ value fault p q. true≢false (sym q.2 ∙ p.2)
+  write-never_both = λ value fault p q. true≢false (sym q.2 ∙ p.2 q.3)

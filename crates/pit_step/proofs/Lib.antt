@@ -2,6 +2,7 @@ pub mod Known
 pub mod HandedOn
 pub mod Shorts
 pub mod Determined
+pub mod Each
 pub mod DeterminedSteps
 pub mod DeterminedInputs
 pub mod Stops

@@ -100,11 +100,11 @@ IsPlacesFault given bytes = IsTextFault Blocks (IsBadPlaces given bytes) (IsPlac
 abbrev pub IsSolutionFault : Input → Pit → List ℕ → CliFault → Type 0
 IsSolutionFault file pit bytes = IsTextFault file (IsBadSolution pit bytes) (IsSolutionStop pit bytes)
 
--- of a history, which has this first fault, or memory is wanted at a line before which none has one
-abbrev pub IsHistoryFault : List ℕ → CliFault → Type 0
-IsHistoryFault bytes (fault.History error) = HasFirstFault bytes error.line error.cause
-IsHistoryFault bytes fault.NoMemory = (place : ℕ) × StopsAtLine bytes place
-IsHistoryFault bytes other = ⊥
+-- of a history, the file that is named, which has this first fault, or memory is wanted at a line before which none has one
+abbrev pub IsHistoryFault : Input → List ℕ → CliFault → Type 0
+IsHistoryFault file bytes (fault.Lines f error) = (f ≡ file) × HasFirstFault bytes error.line error.cause
+IsHistoryFault file bytes fault.NoMemory = (place : ℕ) × StopsAtLine bytes place
+IsHistoryFault file bytes other = ⊥
 
 -- ---- the steps
 
@@ -118,7 +118,7 @@ abbrev pub solution_step : Reading → Step CliFault Pit (List (ℕ × ℕ))
 solution_step solution = input_step Solution solution IsSolutionOf (IsSolutionFault Solution)
 
 abbrev pub history_step : Reading → Step CliFault (Unit {0}) (List Answered)
-history_step history = input_step History history (λ _. StandsForHistory) (λ _. IsHistoryFault)
+history_step history = input_step History history (λ _. StandsForHistory) (λ _. IsHistoryFault History)
 
 -- the model, and then the precedences
 abbrev pub ordered_pit_step : Reading → Reading → Step CliFault (Unit {0}) Pit

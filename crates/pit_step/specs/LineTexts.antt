@@ -18,20 +18,22 @@ field_text n end = decimal n ++ end ∷ []
 abbrev pub micro_text : ℤ → ℕ → List ℕ
 micro_text z end = fixed_text 6 z ++ end ∷ []
 
--- `R T LOAD LIMIT`, and a line feed
-abbrev pub load_text : ℕ → ℕ → ℤ → ℤ → List ℕ
-load_text resource period load limit = field_text resource 32 ++ (field_text period 32 ++ (micro_text load 32 ++ micro_text limit 10))
+-- `R T LOAD LIMIT`
+unfoldable pub load_words : ℕ → ℕ → ℤ → ℤ → List ℕ
+load_words resource period load limit = field_text resource 32 ++ (field_text period 32 ++ (micro_text load 32 ++ fixed_text 6 limit))
 
-abbrev pub precedence_text : ℕ → ℕ → List ℕ
-precedence_text block before = field_text block 32 ++ field_text before 10
+-- `precedence B A` or `over R T LOAD LIMIT`
+abbrev pub breach_words : Breach → List ℕ
+breach_words (Precedence block before) = codes "precedence " ++ (field_text block 32 ++ decimal before)
+breach_words (Over resource period load limit) = codes "over " ++ load_words resource period load limit
 
+-- the line of a breach, where there is one
 abbrev pub breach_text : Option Breach → List ℕ
 breach_text None = []
-breach_text (Some (Precedence block before)) = codes "precedence " ++ precedence_text block before
-breach_text (Some (Over resource period load limit)) = codes "over " ++ load_text resource period load limit
+breach_text (Some breach) = breach_words breach ++ 10 ∷ []
 
 abbrev pub short_text : Short → List ℕ
-short_text short = codes "short " ++ load_text short.resource short.period short.load short.limit
+short_text short = codes "short " ++ (load_words short.resource short.period short.load short.limit ++ 10 ∷ [])
 
 unfoldable pub shorts_text : List Short → List ℕ
 shorts_text shorts = flat_map short_text shorts

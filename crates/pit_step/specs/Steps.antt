@@ -1,5 +1,5 @@
 -- The steps of a run, one behind the other, and the run's first fault.
-use Rattle.std.specs.Prelude.{◌≡◌, ◌≢◌, ◌⊎◌, Result, MatchResult}
+use Rattle.std.specs.Prelude.{◌≡◌, ◌≢◌, ◌⊎◌, ℕ, ◌+◌, List, [], ◌∷◌, Result, MatchResult, ⊤}
 
 -- A step uses devices. As these show it, it gives a value of what it was given, or has a fault, or has left them alone.
 pub record Step (F A B : Type 0) : Type 1 where
@@ -17,9 +17,49 @@ in_turn {F} {A} {B} {C} first next = record {
   IsUntouched = first.IsUntouched × next.IsUntouched;
 }
 
+-- a step that hands on what it was given beside what it gives
+abbrev pub beside : {F A B : Type 0} → Step F A B → Step F A (A × B)
+beside step = record {
+  Gives = λ given both. (both.0 ≡ given) × step.Gives given both.1;
+  Fails = step.Fails;
+  IsUntouched = step.IsUntouched;
+}
+
+-- what is given decides which run it is; where there is none, its devices are left alone so
+abbrev pub run_step : {F A B : Type 0} → (A → Step F (Unit {0}) B) → Type 0 → Step F A B
+run_step run IsUntouched = record {
+  Gives = λ given. (run given).Gives tt;
+  Fails = λ given. (run given).Fails tt;
+  IsUntouched = IsUntouched;
+}
+
 -- a judgement, which uses no device
 abbrev pub judge_step : {F A B : Type 0} → (A → B → Type 0) → (A → F → Type 0) → Step F A B
 judge_step Gives Fails = record { Gives = Gives; Fails = Fails; IsUntouched = Unit {0} }
+
+-- what is given is handed on where it passes
+abbrev pub pass_step : {F A : Type 0} → (A → Type 0) → (A → F → Type 0) → Step F A A
+pass_step Passes Fails = judge_step (λ given value. (value ≡ given) × Passes given) Fails
+
+-- this fault may come, whatever is given
+abbrev pub may_step : {F A : Type 0} → F → Step F A A
+may_step fault = pass_step (λ given. ⊤) (λ given other. other ≡ fault)
+
+-- no item; or the value of an item before those of the others
+abbrev pub AreFollowed : {B : Type 0} → (B → Type 0) → (List B → Type 0) → List B → Type 0
+AreFollowed IsFirst AreOthers [] = ⊥
+AreFollowed IsFirst AreOthers (value ∷ others) = IsFirst value × AreOthers others
+
+-- The same for each of a list in turn, numbered from this one on. The first fault is that of the first item that has one.
+abbrev pub each : {F A B : Type 0} → (ℕ → A → Step F (Unit {0}) B) → ℕ → List A → Step F (Unit {0}) (List B)
+each step number [] = record { Gives = λ given values. values ≡ []; Fails = λ given fault. ⊥; IsUntouched = Unit {0} }
+each {F} {A} {B} step number (item ∷ items) = record {
+  Gives = λ given. AreFollowed ((step number item).Gives tt) ((each step (number + 1) items).Gives tt);
+  Fails = λ given fault.
+      ((step number item).Fails tt fault × (each step (number + 1) items).IsUntouched)
+      ⊎ ((value : B) × (step number item).Gives tt value × (each step (number + 1) items).Fails tt fault);
+  IsUntouched = (step number item).IsUntouched × (each step (number + 1) items).IsUntouched;
+}
 
 -- the result is a value that the step gives, or a fault that it has
 abbrev pub IsResultOf : {F A B : Type 0} → Step F A B → A → Result B F → Type 0

@@ -1,4 +1,3 @@
-ghost use Rattle.std.specs.Prelude.{◌<◌, length};
 ghost use Rattle.pit_step.specs.Steps.{IsResultOf};
 ghost use Rattle.pit_step.specs.Devices.{writing_of, write_step};
 
@@ -8,7 +7,6 @@ use pit_num::{Sink, write_text};
 
 /// Writes a text that was gathered, and answers the status that goes with it.
 pub fn write_answer<W: Sink>(out: &mut W, text: &[u8], status: Status) -> Result<Status, CliFault>
-    requires { 0 < length text.now }
     ensures { let written = writing_of (W.contents out.old) (W.contents out.new) (W.has_failed out.new) in
         IsResultOf (write_step written (λ (given : Unit {0}). text.now) (λ given. status)) tt result }
 {

@@ -1,7 +1,7 @@
 ghost use Rattle.std.specs.Prelude.{◌≡◌, ◌≤◌};
 
+use super::breach_line::BreachLine;
 use super::input::Input;
-use super::micro::Micro;
 use pit_lines::LinesError;
 use pit_script::ScriptError;
 use pit_text::TextError;
@@ -22,9 +22,12 @@ pub enum CliFault {
         number: u64,
         error: ScriptError,
     },
-    /// The first fault of a history's text.
-    #[error("pit: history {0}")]
-    History(LinesError),
+    /// The first fault of the text of a history.
+    #[error("pit: {file} {error}")]
+    Lines {
+        file: Input,
+        error: LinesError,
+    },
     /// More than `INPUT_BYTES_MAX` bytes came.
     #[error("pit: {0}: too long")]
     TooLong(Input),
@@ -35,19 +38,8 @@ pub enum CliFault {
         period: u32,
     },
     /// The first breach of the start.
-    #[error("pit: start: precedence {block} {before}")]
-    StartPrecedence {
-        block: u32,
-        before: u32,
-    },
-    /// The first breach of a start that breaks no precedence.
-    #[error("pit: start: over {resource} {period} {load} {limit}")]
-    StartOver {
-        resource: u32,
-        period: u32,
-        load: Micro,
-        limit: Micro,
-    },
+    #[error("pit: start: {0}")]
+    Start(BreachLine),
     /// There are not 1 to 64 scripts.
     #[error("pit: planner count")]
     PlannerCount,

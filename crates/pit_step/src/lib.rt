@@ -7,24 +7,26 @@
 #![tactic(auto)]
 
 mod answer;
+mod breach_line;
 mod fault;
 mod input;
 mod lines;
-mod micro;
+mod text;
 mod parsed;
 mod read;
 mod status;
 mod value_text;
 
 pub use answer::write_answer;
+pub use breach_line::BreachLine;
 pub use fault::CliFault;
 pub use input::Input;
-pub use lines::{write_breach, write_shorts};
-pub use micro::Micro;
+pub use lines::{write_breach, write_breach_words, write_shorts};
+pub use text::{Text, empty_text, gathered};
 pub use parsed::{
     builder_of, built, bytes_of, history_of, ordered, placed, read_builder, read_history,
     read_ordered_pit, read_schedule, schedule_of,
 };
 pub use read::{INPUT_BYTES_MAX, ReadError, read_all};
 pub use status::Status;
-pub use value_text::{with_value, write_line};
+pub use value_text::{write_line, write_value_lines};

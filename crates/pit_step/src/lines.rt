@@ -1,8 +1,7 @@
 //! The lines of breaches and shortfalls.
-ghost use Rattle.std.specs.Prelude.{◌≡◌, ◌++◌, OnOk, codes, decimal};
+ghost use Rattle.std.specs.Prelude.{◌≡◌, ◌++◌, ◌∷◌, [], OnOk, codes, decimal};
 ghost use Rattle.std.specs.Io.KnownBytes.{Appends};
-ghost use Rattle.pit_num.specs.Printed.{fixed_text};
-ghost use Rattle.pit_step.specs.LineTexts.{load_text, precedence_text, breach_text, short_text, shorts_text};
+ghost use Rattle.pit_step.specs.LineTexts.{load_words, breach_words, breach_text, short_text, shorts_text, micro_text, field_text};
 
 use pit_num::{Sink, WriteFault, write_micro, write_text, write_whole};
 use pit_plan::{Breach, Short};
@@ -11,25 +10,34 @@ use pit_plan::{Breach, Short};
 pub fn write_breach<W: Sink>(w: &mut W, breach: Option<Breach>) -> Result<(), WriteFault>
     ensures { OnOk result (Appends (W.contents w.old) (W.contents w.new) (breach_text breach)) }
 {
+    let Some(breach) = breach else {
+        return write_text(w, b"");
+    };
+    write_breach_words(w, breach)?;
+    write_text(w, b"\n")
+}
+
+/// `precedence B A`, or `over R T LOAD LIMIT` with load and limit in units.
+pub fn write_breach_words<W: Sink>(w: &mut W, breach: Breach) -> Result<(), WriteFault>
+    ensures { OnOk result (Appends (W.contents w.old) (W.contents w.new) (breach_words breach)) }
+{
     match breach {
-        None => write_text(w, b""),
-        Some(Breach::Precedence { block, before }) => write_precedence(w, block, before),
-        Some(
-            Breach::Over {
-                resource,
-                period,
-                load,
-                limit,
-            },
-        ) => write_over(w, resource, period, load, limit),
+        Breach::Precedence { block, before } => write_precedence(w, block, before),
+        Breach::Over {
+            resource,
+            period,
+            load,
+            limit,
+        } => write_over(w, resource, period, load, limit),
     }
 }
 
 fn write_precedence<W: Sink>(w: &mut W, block: u32, before: u32) -> Result<(), WriteFault>
-    ensures { OnOk result (Appends (W.contents w.old) (W.contents w.new) (codes "precedence " ++ precedence_text block before)) }
+    ensures { OnOk result (Appends (W.contents w.old) (W.contents w.new) (codes "precedence " ++ (field_text block 32 ++ decimal before))) }
 {
     write_text(w, b"precedence ")?;
-    write_pair(w, block, before)
+    write_field(w, block)?;
+    write_whole(w, before)
 }
 
 fn write_over<W: Sink>(
@@ -39,7 +47,7 @@ fn write_over<W: Sink>(
     load: i128,
     limit: i64,
 ) -> Result<(), WriteFault>
-    ensures { OnOk result (Appends (W.contents w.old) (W.contents w.new) (codes "over " ++ load_text resource period load limit)) }
+    ensures { OnOk result (Appends (W.contents w.old) (W.contents w.new) (codes "over " ++ load_words resource period load limit)) }
 {
     write_text(w, b"over ")?;
     write_load(w, resource, period, load, i128::from(limit))
@@ -65,16 +73,12 @@ fn write_short<W: Sink>(w: &mut W, short: Short) -> Result<(), WriteFault>
         short.period,
         short.load,
         i128::from(short.limit),
-    )
+    )?;
+    write_text(w, b"\n")
 }
 
-fn write_pair<W: Sink>(w: &mut W, block: u32, before: u32) -> Result<(), WriteFault>
-    ensures { OnOk result (Appends (W.contents w.old) (W.contents w.new) (precedence_text block before)) }
-{
-    write_field(w, block, b" ")?;
-    write_field(w, before, b"\n")
-}
-
+/// `R T LOAD LIMIT`, where load and limit are given in millionths, and printed in units.
+#[tactic(auto, unfolding(crate::specs::LineTexts::load_words))]
 fn write_load<W: Sink>(
     w: &mut W,
     resource: u32,
@@ -82,26 +86,26 @@ fn write_load<W: Sink>(
     load: i128,
     limit: i128,
 ) -> Result<(), WriteFault>
-    ensures { OnOk result (Appends (W.contents w.old) (W.contents w.new) (load_text resource period load limit)) }
+    ensures { OnOk result (Appends (W.contents w.old) (W.contents w.new) (load_words resource period load limit)) }
 {
-    write_field(w, resource, b" ")?;
-    write_field(w, period, b" ")?;
-    write_amount(w, load, b" ")?;
-    write_amount(w, limit, b"\n")
+    write_field(w, resource)?;
+    write_field(w, period)?;
+    write_amount(w, load)?;
+    write_micro(w, limit)
 }
 
-/// A whole number, and the byte behind it.
-fn write_field<W: Sink>(w: &mut W, n: u32, end: &[u8; 1]) -> Result<(), WriteFault>
-    ensures { OnOk result (Appends (W.contents w.old) (W.contents w.new) (decimal n ++ end.now)) }
+/// A whole number, and a space.
+fn write_field<W: Sink>(w: &mut W, n: u32) -> Result<(), WriteFault>
+    ensures { OnOk result (Appends (W.contents w.old) (W.contents w.new) (field_text n 32)) }
 {
     write_whole(w, n)?;
-    write_text(w, end)
+    write_text(w, b" ")
 }
 
-/// A number of millionths, and the byte behind it.
-fn write_amount<W: Sink>(w: &mut W, z: i128, end: &[u8; 1]) -> Result<(), WriteFault>
-    ensures { OnOk result (Appends (W.contents w.old) (W.contents w.new) (fixed_text 6 z ++ end.now)) }
+/// A number of millionths, and a space.
+fn write_amount<W: Sink>(w: &mut W, z: i128) -> Result<(), WriteFault>
+    ensures { OnOk result (Appends (W.contents w.old) (W.contents w.new) (micro_text z 32)) }
 {
     write_micro(w, z)?;
-    write_text(w, end)
+    write_text(w, b" ")
 }

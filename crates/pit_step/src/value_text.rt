@@ -1,29 +1,18 @@
 //! The lines of values.
-ghost use Rattle.std.specs.Prelude.{◌≡◌, ◌++◌, OnOk, IfOk, codes};
+ghost use Rattle.std.specs.Prelude.{◌≡◌, ◌++◌, OnOk, codes};
 ghost use Rattle.std.specs.Io.KnownBytes.{Appends};
 ghost use Rattle.pit_step.specs.LineTexts.{value_text, shorts_text};
 
 use super::lines::write_shorts;
-use pit_num::{NoMemory, Out, Sink, WriteFault, write_text, write_value};
+use pit_num::{Sink, WriteFault, write_text, write_value};
 use pit_plan::Short;
-use std::alloc::Allocator;
 
-/// A text with the lines of a value and of shortfalls behind it.
-pub fn with_value<A: Allocator + Drop>(
-    text: Vec<u8, A>,
+/// The line `value V`, and the lines of shortfalls.
+pub fn write_value_lines<W: Sink>(
+    w: &mut W,
     value: i128,
     shorts: &[Short],
-) -> Result<Vec<u8, A>, NoMemory>
-    ensures { IfOk result (λ all. all.items ≡ text.items ++ (codes "value " ++ (value_text value ++ shorts_text shorts.now))) }
-{
-    let mut all = Out::new(text);
-    match write_lines(&mut all, value, shorts) {
-        Ok(()) => Ok(all.into_inner()),
-        Err(_) => Err(NoMemory),
-    }
-}
-
-fn write_lines<W: Sink>(w: &mut W, value: i128, shorts: &[Short]) -> Result<(), WriteFault>
+) -> Result<(), WriteFault>
     ensures { OnOk result (Appends (W.contents w.old) (W.contents w.new) (codes "value " ++ (value_text value ++ shorts_text shorts.now))) }
 {
     write_text(w, b"value ")?;

@@ -1,28 +1,37 @@
 //! The lines of `check`.
-ghost use Rattle.std.specs.Prelude.{◌≡◌, if◌then◌else◌, OnOk, IfOk};
+ghost use Rattle.std.specs.Prelude.{◌≡◌, OnOk};
 ghost use Rattle.std.specs.Io.KnownBytes.{Appends};
-ghost use Rattle.pit_step.specs.declared.status.Status.TheVariants.{Fine, Failed};
-ghost use Rattle.pit_view.specs.CheckText.{is_fine as fine_of, fine_text, check_text, check_status};
+ghost use Rattle.pit_view.specs.CheckText.{is_fine as fine_of, fine_text, check_text, check_status as status_by};
 
 use pit_num::{Sink, WriteFault, write_text};
 use pit_plan::{Breach, Short};
 use pit_step::{Status, write_breach, write_line, write_shorts};
 
-/// The value, the first breach where there is one, the shortfalls, and `fine` where there is neither. Answers the status that goes with them.
+/// The value, the first breach where there is one, the shortfalls, and `fine` where there is neither.
 pub(crate) fn write_check<W: Sink>(
     w: &mut W,
     value: i128,
     breach: Option<Breach>,
     shorts: &[Short],
-) -> Result<Status, WriteFault>
-    ensures text { OnOk result (Appends (W.contents w.old) (W.contents w.new) (check_text value breach shorts.now)) }
-    ensures status { IfOk result (λ status. status ≡ check_status breach shorts.now) }
+) -> Result<(), WriteFault>
+    ensures { OnOk result (Appends (W.contents w.old) (W.contents w.new) (check_text value breach shorts.now)) }
 {
     write_text(w, b"value ")?;
     write_line(w, value)?;
     write_breach(w, breach)?;
     write_shorts(w, shorts)?;
     write_fine(w, is_fine(breach, shorts))
+}
+
+/// The status that goes with these lines.
+pub(crate) fn check_status(breach: Option<Breach>, shorts: &[Short]) -> Status
+    ensures { result ≡ status_by breach shorts.now }
+{
+    if is_fine(breach, shorts) {
+        Status::Fine
+    } else {
+        Status::Failed
+    }
 }
 
 /// Whether nothing is broken and nothing falls short.
@@ -35,14 +44,11 @@ fn is_fine(breach: Option<Breach>, shorts: &[Short]) -> bool
     }
 }
 
-fn write_fine<W: Sink>(w: &mut W, is_fine: bool) -> Result<Status, WriteFault>
-    ensures text { OnOk result (Appends (W.contents w.old) (W.contents w.new) (fine_text is_fine)) }
-    ensures status { IfOk result (λ status. status ≡ (if is_fine then Fine else Failed)) }
+fn write_fine<W: Sink>(w: &mut W, is_fine: bool) -> Result<(), WriteFault>
+    ensures { OnOk result (Appends (W.contents w.old) (W.contents w.new) (fine_text is_fine)) }
 {
     if is_fine {
-        write_text(w, b"fine\n")?;
-        return Ok(Status::Fine);
+        return write_text(w, b"fine\n");
     }
-    write_text(w, b"")?;
-    Ok(Status::Failed)
+    write_text(w, b"")
 }

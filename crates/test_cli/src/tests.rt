@@ -117,8 +117,8 @@ fn planned_in<R: Threads + Wait + Abort + Sync>(
     let mut history = device_if(alloc, rooms.history);
     let input = input_of(rt, alloc, given);
     let answer = plan(
-        alloc,
         rt,
+        alloc,
         input,
         3,
         &mut solution,

@@ -3,6 +3,7 @@ mod cut;
 mod faults;
 mod forms;
 mod memory;
+mod nesting;
 mod rows;
 mod words;
 mod worked;

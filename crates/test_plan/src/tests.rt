@@ -4,6 +4,7 @@ ghost use Rattle.pit_model.specs.Fitting.{Fits, RevisionsFit, revisions_of};
 ghost use Rattle.std.specs.Map.{lookup};
 ghost use Rattle.pit_plan.specs.Breaches.{IsGoodNow};
 
+mod lists;
 mod memory;
 mod worked;
 

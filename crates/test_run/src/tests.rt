@@ -1,8 +1,6 @@
 //! Runs of scripts on the small pit.
 ghost use Rattle.std.specs.Prelude.{◌≡◌, ◌≤◌, ◌<◌, All, length};
 ghost use Rattle.pit_job.specs.declared.planner_run.TheConstants.{RETRIES_MAX};
-ghost use Rattle.pit_script.specs.Benches.{AreBenchesOf};
-ghost use Rattle.pit_script.specs.Ranges.{AreJobsIn};
 ghost use Rattle.pit_share.specs.Opening.{AreSeats};
 ghost use Rattle.pit_share.specs.declared.blank.TheConstants.{PLANNERS_MAX};
 
@@ -20,7 +18,7 @@ use pit_plan_sample::Reading;
 use pit_refuse::{Count, Refusing};
 use pit_run::{PlannerRun, Report, RunError, run};
 use pit_sample::{Fact, TINY, TINY_PLACES, TINY_SIZE, built};
-use pit_script::{Benches, Script};
+use pit_script::Script;
 use pit_share::{Blank, Seat, Workspace};
 use std::alloc::{Allocator, Global};
 use std::marker::Brand;
@@ -51,30 +49,15 @@ fn started_desk(rt: &impl Abort, alloc: Global) -> Desk<Global> {
     answer.ok().expect(rt, "a desk")
 }
 
-fn benches_of<A: Allocator + Copy + Drop>(
-    rt: &impl Abort,
-    alloc: A,
-    pit: &Instance<A>,
-) -> Benches<A>
-    ensures { AreBenchesOf pit.now result }
-{
-    match Benches::of(alloc, pit) {
-        Ok(benches) => benches,
-        Err(_) => panic!(rt; "memory"),
-    }
-}
-
 fn script_of<A: Allocator + Copy + Drop>(
     rt: &impl Abort,
     alloc: A,
     pit: &Instance<A>,
-    benches: &Benches<A>,
     text: &[u8],
 ) -> Script<A>
-    requires { AreBenchesOf pit.now benches.now }
-    ensures { AreJobsIn pit.now result }
+    ensures { result.pit ≡ pit.now }
 {
-    match Script::parse(alloc, text, pit, benches) {
+    match Script::parse(alloc, text, pit) {
         Ok(script) => script,
         Err(_) => panic!(rt; "a script"),
     }
@@ -84,16 +67,14 @@ fn scripts_of<A: Allocator + Copy + Drop>(
     rt: &impl Abort,
     alloc: A,
     pit: &Instance<A>,
-    benches: &Benches<A>,
     texts: &[&[u8]],
 ) -> Vec<Script<A>, A>
-    requires { AreBenchesOf pit.now benches.now }
-    ensures in_range { All (AreJobsIn pit.now) result.items }
+    ensures pit { All (λ script. script.pit ≡ pit.now) result.items }
     ensures count { length result.items ≡ length texts.now }
 {
     let mut scripts = Vec::new(alloc);
     for text in texts {
-        let script = script_of(rt, alloc, pit, benches, text);
+        let script = script_of(rt, alloc, pit, text);
         let Ok(()) = scripts.push(script) else {
             panic!(rt; "memory")
         };
@@ -179,9 +160,7 @@ fn play<
     requires few { retries ≤ RETRIES_MAX }
 {
     let pit = desk.plan().instance();
-    let periods = pit.periods();
-    let benches = benches_of(rt, alloc, pit);
-    let scripts = scripts_of(rt, alloc, pit, &benches, texts);
+    let scripts = scripts_of(rt, alloc, pit, texts);
     let (workspace, seats) = match Workspace::<S, O, _>::open(own, alloc, desk, planners, blank) {
         Ok(opened) => opened,
         Err(_) => panic!(rt; "no workspace"),
@@ -194,13 +173,10 @@ fn play<
         workspace,
         seats,
         scripts.as_slice(),
-        &benches,
-        periods,
         retries,
         gate,
     );
     drop(scripts);
-    drop(benches);
     (before, report)
 }
 
@@ -218,23 +194,17 @@ fn run_twice<
     workspace: Workspace<S, O, A>,
     seats: Vec<Seat<S, A>, A>,
     scripts: &[Script<A>],
-    benches: &Benches<A>,
-    periods: u32,
     retries: u32,
     gate: &G,
 ) -> Report<A>
-    requires benches { AreBenchesOf S.instance benches.now }
-    requires periods { periods ≡ S.instance.periods }
-    requires in_range { All (AreJobsIn S.instance) scripts.now }
+    requires pit { All (λ script. script.pit ≡ S.instance) scripts.now }
     requires seats { AreSeats S.planners seats.items }
     requires each { length scripts.now ≡ S.planners }
     requires planners { S.planners ≤ PLANNERS_MAX }
     requires few { retries ≤ RETRIES_MAX }
 {
     let before = heap.count();
-    match run(
-        alloc, rt, workspace, seats, scripts, benches, periods, retries, gate,
-    ) {
+    match run(rt, alloc, workspace, seats, scripts, retries, gate) {
         Ok(report) => {
             let has_refused = heap.count().has_refused_since(before);
             assert!(rt; has_stopped(report.runs.as_slice()) == has_refused);
@@ -242,9 +212,7 @@ fn run_twice<
         }
         Err(RunError::NoMemory { workspace, seats }) => {
             assert!(rt; heap.count().has_refused());
-            run_again(
-                rt, alloc, workspace, seats, scripts, benches, periods, retries, gate,
-            )
+            run_again(rt, alloc, workspace, seats, scripts, retries, gate)
         }
         Err(RunError::NotClosed { .. }) => panic!(rt; "not closed"),
     }
@@ -272,22 +240,16 @@ fn run_again<
     workspace: Workspace<S, O, A>,
     seats: Vec<Seat<S, A>, A>,
     scripts: &[Script<A>],
-    benches: &Benches<A>,
-    periods: u32,
     retries: u32,
     gate: &G,
 ) -> Report<A>
-    requires benches { AreBenchesOf S.instance benches.now }
-    requires periods { periods ≡ S.instance.periods }
-    requires in_range { All (AreJobsIn S.instance) scripts.now }
+    requires pit { All (λ script. script.pit ≡ S.instance) scripts.now }
     requires seats { AreSeats S.planners seats.items }
     requires each { length scripts.now ≡ S.planners }
     requires planners { S.planners ≤ PLANNERS_MAX }
     requires few { retries ≤ RETRIES_MAX }
 {
-    match run(
-        alloc, rt, workspace, seats, scripts, benches, periods, retries, gate,
-    ) {
+    match run(rt, alloc, workspace, seats, scripts, retries, gate) {
         Ok(report) => report,
         Err(_) => panic!(rt; "no memory twice"),
     }

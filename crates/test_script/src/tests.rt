@@ -5,7 +5,7 @@ mod memory;
 
 use pit_model::Instance;
 use pit_sample::{TINY_PLACES, TINY_SIZE, built};
-use pit_script::{Benches, Script, ScriptCause, ScriptError};
+use pit_script::{ScriptCause, ScriptError};
 use std::alloc::Global;
 use std::process::Abort;
 
@@ -18,12 +18,4 @@ fn tiny(rt: &impl Abort, alloc: Global) -> Instance<Global> {
     built(alloc, TINY_SIZE, TINY_PLACES)
         .ok()
         .expect(rt, "memory")
-}
-
-/// What a script over a pit is read as.
-fn read(alloc: Global, pit: &Instance<Global>, text: &[u8]) -> Result<Script<Global>, ScriptError> {
-    let Ok(benches) = Benches::of(alloc, pit) else {
-        return Err(fault(0, ScriptCause::NoMemory));
-    };
-    Script::parse(alloc, text, pit, &benches)
 }

@@ -1,5 +1,6 @@
 //! The readers against texts whose facts and faults were written down by hand.
 mod cuts;
+mod growth;
 mod memory;
 mod models;
 mod others;

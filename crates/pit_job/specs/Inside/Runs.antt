@@ -1,15 +1,22 @@
 -- What becomes of a planner's script, job by job.
-use Rattle.std.specs.Prelude.{ℕ, List, ◌++◌, drop, Result, Ok, Err}
+use Rattle.std.specs.Prelude.{ℕ, ◌-◌, ◌≤◌, List, ◌++◌, length, drop, Result, Ok, Err}
 use Rattle.pit_model.specs.Pit.{Pit}
 use Rattle.pit_desk.specs.History.{Answered}
 use Rattle.pit_job.specs.declared.outcome.JobStop.{JobStop}
 use Rattle.pit_job.specs.declared.outcome.JobStop.TheVariants as stop
-use Rattle.pit_script.specs.Jobs.{Job}
+use Rattle.pit_script.specs.Jobs.{Job, job_at}
 use Rattle.pit_job.specs.declared.outcome.Outcome.{Outcome}
 use Rattle.pit_job.specs.declared.outcome.RunEnd.{RunEnd}
 use Rattle.pit_job.specs.declared.outcome.RunEnd.TheVariants as end
 use Rattle.pit_job.specs.Outcomes.{Repeats}
 use Rattle.pit_job.specs.Runs.{Ran, RanFrom}
+
+-- a job of a script by its number, counted from 1
+abbrev pub IsJobNumber : List Job → ℕ → Type 0
+IsJobNumber jobs n = (1 ≤ n) × (n ≤ length jobs)
+
+abbrev pub job_numbered : List Job → ℕ → Job
+job_numbered jobs n = job_at jobs (n - 1)
 
 abbrev pub RanJob : Pit → Job → ℕ → ℕ → List Answered → Result Outcome JobStop → Type 0
 RanJob pit task retries n es (Ok o) = Ran pit task retries n es o

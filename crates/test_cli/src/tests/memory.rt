@@ -47,7 +47,7 @@ fn planned<'a, R: Threads + Wait + Abort + Sync>(
     let mut history = Some(Narrow::new(alloc, 100, ROOM));
     let input = input_of(rt, heap, GIVEN);
     let before = heap.count();
-    let answer = plan(heap, rt, input, 3, &mut solution, &mut report, &mut history);
+    let answer = plan(rt, heap, input, 3, &mut solution, &mut report, &mut history);
     let after = heap.count();
     let kept = match &history {
         Some(device) => device.held(),

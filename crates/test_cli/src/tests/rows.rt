@@ -21,7 +21,7 @@ commit
 /// The solution that they leave.
 const SOLUTION: &[u8] = b"0 0\n1 0\n3 1\n";
 
-/// And what is told of them.
+/// And their report.
 const REPORT: &[u8] = b"planner 1 job 1 committed 1 tries 1
 planner 1 job 2 refused over 0 0 5.000000 4.000000 tries 1
 planner 1 job 3 committed 2 tries 1
@@ -81,6 +81,54 @@ fn a_history(rt: HostRuntime) {
     let found = planned_in(&rt, rt.alloc(), ONE, rooms);
     assert_ended(&rt, &found, Ok(Status::Fine), SOLUTION, REPORT);
     assert!(rt; history_of(&found) == HISTORY);
+}
+
+/// A job that mines block 3 under a limit that it revises, and one that would revise it back.
+const REVISING: &[u8] = b"begin
+put 0 0
+put 1 0
+commit
+begin
+put 3 0
+revise 0 0 5
+commit
+begin
+revise 0 0 4
+commit
+";
+
+const REVISED_REPORT: &[u8] = b"planner 1 job 1 committed 1 tries 1
+planner 1 job 2 committed 2 tries 1
+planner 1 job 3 refused over 0 0 5.000000 4.000000 tries 1
+value 15.500000000000000000
+short 0 1 0.000000 1.000000
+";
+
+const REVISED_HISTORY: &[u8] = br#"{"format":2}
+{"act":"commit","job":1,"planner":1,"reads":[],"reply":{"committed":1},"revises":[],"start":0,"writes":[[0,0],[1,0]]}
+{"act":"commit","job":2,"planner":1,"reads":[],"reply":{"committed":2},"revises":[[0,0,"5000000"]],"start":1,"writes":[[3,0]]}
+{"act":"commit","job":3,"planner":1,"reads":[],"reply":{"over":[0,0,"5000000","4000000"]},"revises":[[0,0,"4000000"]],"start":2,"writes":[]}
+"#;
+
+#[test]
+fn limits_are_revised(rt: HostRuntime) {
+    let rooms = Rooms {
+        history: Some(ROOM),
+        ..ROOMS
+    };
+    let given = Given {
+        scripts: &[REVISING],
+        ..BARE
+    };
+    let found = planned_in(&rt, rt.alloc(), given, rooms);
+    assert_ended(
+        &rt,
+        &found,
+        Ok(Status::Failed),
+        b"0 0\n1 0\n3 0\n",
+        REVISED_REPORT,
+    );
+    assert!(rt; history_of(&found) == REVISED_HISTORY);
 }
 
 #[test]

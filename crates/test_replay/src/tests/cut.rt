@@ -3,7 +3,7 @@ use super::histories::{LOADING, LOADING_FRONTS, MEETING, MEETING_FRONTS};
 use super::is_replayed;
 use LinesCause::{NotFormat, NotJson};
 use pit_lines::{LinesCause, LinesError};
-use pit_step::{CliFault, Status};
+use pit_step::{CliFault, Input, Status};
 use std::alloc::Global;
 use std::process::Abort;
 
@@ -45,7 +45,10 @@ fn assert_part(rt: &impl Abort, alloc: Global, row: Row, part: &[u8]) {
     let is_right = match cause_of(part, text) {
         Some(cause) => {
             let line = (feeds(part) as u64).wrapping_add(1);
-            let fault = CliFault::History(LinesError { line, cause });
+            let fault = CliFault::Lines {
+                file: Input::History,
+                error: LinesError { line, cause },
+            };
             is_replayed(alloc, part, Err(fault), b"")
         }
         None => {

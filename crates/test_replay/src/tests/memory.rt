@@ -131,10 +131,13 @@ const OTHERS: &[Run<'static>] = &[
     },
     Run {
         history: CUT,
-        answer: Err(CliFault::History(LinesError {
-            line: 3,
-            cause: Shape,
-        })),
+        answer: Err(CliFault::Lines {
+            file: Input::History,
+            error: LinesError {
+                line: 3,
+                cause: Shape,
+            },
+        }),
         written: "",
         ..LEGAL
     },

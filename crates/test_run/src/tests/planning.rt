@@ -1,11 +1,12 @@
 //! Runs from a start, and what is answered where planners can't begin.
 use super::rows::THREE;
-use super::{assert_legal, benches_of, scripts_of, tiny};
-use pit_cli::planned_run;
+use super::{assert_legal, scripts_of, tiny};
+use pit_cli::run_scripts;
 use pit_model::Instance;
 use pit_run::Report;
 use pit_sample::{Fact, TINY, TINY_SIZE, built};
-use pit_step::{CliFault, Micro};
+use pit_plan::Breach;
+use pit_step::{BreachLine, CliFault};
 use std::alloc::Global;
 use std::process::Abort;
 use std::sync::Wait;
@@ -18,11 +19,9 @@ fn from_nothing<R: Threads + Wait + Abort + Sync>(
     pit: Instance<Global>,
     texts: &[&[u8]],
 ) -> Result<Report<Global>, CliFault> {
-    let benches = benches_of(rt, alloc, &pit);
-    let scripts = scripts_of(rt, alloc, &pit, &benches, texts);
-    let answer = planned_run(alloc, rt, pit, &[], scripts.as_slice(), &benches, 3);
+    let scripts = scripts_of(rt, alloc, &pit, texts);
+    let answer = run_scripts(rt, alloc, pit, &[], scripts.as_slice(), 3);
     drop(scripts);
-    drop(benches);
     answer
 }
 
@@ -109,12 +108,11 @@ fn an_early_start(rt: HostRuntime) {
     let pit = tiny(&rt, rt.alloc());
     assert!(rt; pit.blocks() > 2);
     assert!(rt; pit.periods() > 0);
-    let benches = benches_of(&rt, rt.alloc(), &pit);
-    let answer = planned_run(rt.alloc(), &rt, pit, &[(2, 0)], &[], &benches, 0);
-    let fault = CliFault::StartPrecedence {
+    let answer = run_scripts(&rt, rt.alloc(), pit, &[(2, 0)], &[], 0);
+    let fault = CliFault::Start(BreachLine(Breach::Precedence {
         block: 2,
         before: 0,
-    };
+    }));
     assert_refused(&rt, rt.alloc(), answer, fault, "pit: start: precedence 2 0");
 }
 
@@ -123,14 +121,13 @@ fn a_start_over_a_limit(rt: HostRuntime) {
     let pit = limited(&rt, rt.alloc(), 1_000_000);
     assert!(rt; pit.blocks() > 0);
     assert!(rt; pit.periods() > 0);
-    let benches = benches_of(&rt, rt.alloc(), &pit);
-    let answer = planned_run(rt.alloc(), &rt, pit, &[(0, 0)], &[], &benches, 0);
-    let fault = CliFault::StartOver {
+    let answer = run_scripts(&rt, rt.alloc(), pit, &[(0, 0)], &[], 0);
+    let fault = CliFault::Start(BreachLine(Breach::Over {
         resource: 0,
         period: 0,
-        load: Micro(2_000_000),
-        limit: Micro(1_000_000),
-    };
+        load: 2_000_000,
+        limit: 1_000_000,
+    }));
     let text = "pit: start: over 0 0 2.000000 1.000000";
     assert_refused(&rt, rt.alloc(), answer, fault, text);
 }
@@ -176,18 +173,23 @@ fn other_lines(rt: HostRuntime) {
     assert_text(&rt, rt.alloc(), CliFault::NoMemory, "pit: no memory", 3);
 }
 
-/// Loads and limits, in millionths, with their texts.
-const AMOUNTS: &[(i128, &str)] = &[
-    (0, "0.000000"),
-    (1, "0.000001"),
-    (-500_000, "-0.500000"),
-    (-12_000_001, "-12.000001"),
+/// Loads, in millionths, with the lines of their breaches.
+const LOADS: &[(i128, &str)] = &[
+    (0, "over 3 14 0.000000 -0.500000"),
+    (1, "over 3 14 0.000001 -0.500000"),
+    (-12_000_001, "over 3 14 -12.000001 -0.500000"),
 ];
 
 #[test]
-fn amounts(rt: HostRuntime) {
-    for (amount, text) in AMOUNTS {
-        let shown = format!(in rt.alloc(); "{}", Micro(*amount)).expect(&rt, "memory");
+fn loads(rt: HostRuntime) {
+    for (load, text) in LOADS {
+        let line = BreachLine(Breach::Over {
+            resource: 3,
+            period: 14,
+            load: *load,
+            limit: -500_000,
+        });
+        let shown = format!(in rt.alloc(); "{}", line).expect(&rt, "memory");
         assert!(rt; shown.as_str() == *text);
     }
 }

@@ -1,12 +1,12 @@
 //! Each refusal of a line, and the order of the checks.
-use super::{fault, read, tiny};
+use super::{fault, tiny};
 use ScriptCause::{
     BlockRange, FieldCount, JobCount, NoBench, NotAscii, Order, PeriodRange, ResourceRange,
     Unended, UnknownWord,
 };
 use pit_model::Instance;
 use pit_num::NumError;
-use pit_script::{JOBS_MAX, ScriptCause, ScriptError};
+use pit_script::{JOBS_MAX, Script, ScriptCause, ScriptError};
 use std::alloc::Global;
 use std::process::Abort;
 
@@ -91,7 +91,7 @@ fn are_found(rt: HostRuntime) {
 
 fn assert_found(rt: &impl Abort, alloc: Global, pit: &Instance<Global>) {
     for (text, line, cause) in FAULTS {
-        let answer = read(alloc, pit, text).err();
+        let answer = Script::parse(alloc, text, pit).err();
         assert_eq!(rt; answer, Some(fault(*line, *cause)));
     }
 }
@@ -115,7 +115,7 @@ fn read_jobs(
     jobs: u32,
 ) -> Result<u32, ScriptError> {
     let text = text_of(rt, alloc, jobs);
-    let script = read(alloc, pit, text.as_slice())?;
+    let script = Script::parse(alloc, text.as_slice(), pit)?;
     Ok(script.jobs())
 }
 
@@ -160,7 +160,7 @@ fn cut_behind_each_byte(rt: HostRuntime) {
 fn assert_cut(rt: &impl Abort, alloc: Global, pit: &Instance<Global>, text: &[u8]) {
     for end in 0..text.len() + 1 {
         let part = &text[..end];
-        match read(alloc, pit, part) {
+        match Script::parse(alloc, part, pit) {
             Ok(_) => assert!(rt; is_fine(part), "{end}"),
             Err(error) => {
                 assert!(rt; !is_fine(part), "{end}");

@@ -1,5 +1,5 @@
 //! Scripts that have no fault, and their jobs.
-use super::{read, tiny};
+use super::tiny;
 use pit_model::Instance;
 use pit_script::{Benches, JobEnd, Script, Step};
 use std::alloc::Global;
@@ -75,7 +75,9 @@ const JOBS: &[(&[Step], JobEnd)] = &[
 #[test]
 fn of_each_kind(rt: HostRuntime) {
     let pit = tiny(&rt, rt.alloc());
-    let script = read(rt.alloc(), &pit, SCRIPT).ok().expect(&rt, "no fault");
+    let script = Script::parse(rt.alloc(), SCRIPT, &pit)
+        .ok()
+        .expect(&rt, "no fault");
     assert_jobs(&rt, &script);
     drop(script);
     drop(pit);
@@ -102,7 +104,7 @@ fn none(rt: HostRuntime) {
 
 /// Whether a text is a script without jobs.
 fn is_empty(alloc: Global, pit: &Instance<Global>, text: &[u8]) -> bool {
-    let answer = read(alloc, pit, text);
+    let answer = Script::parse(alloc, text, pit);
     answer.is_ok_and(|script| script.jobs() == 0)
 }
 

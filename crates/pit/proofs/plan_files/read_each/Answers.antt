@@ -1,39 +1,41 @@
-use Rattle.std.proofs.Common.{◌+◌, List, None, ℕ, slice_index_or, map, take, ap, subst, sym, ◌∙◌}
+use Rattle.std.proofs.Common.{◌+◌, inr, List, None, ℕ, slice_index_or, map, take, ap, refl, subst, sym, ◌∙◌}
 use Rattle.std.proofs.lemmas.List.{get_or_default, map_push}
 use Rattle.pit_step.specs.declared.input.Input.TheVariants.{Model}
 use Rattle.pit_step.specs.Devices.{reading_of}
+use Rattle.pit_step.specs.Steps.{each}
 use Rattle.pit_step.proofs.CallerLemmas.{handed_on}
-use Rattle.pit.specs.PlanRun.{AreRead, IsRead}
-use Rattle.pit.proofs.PlanFiles.{read-first, read-more, rest-kept, told-at}
+use Rattle.pit.specs.PlanRun.{IsRead, read_step}
+use Rattle.pit.proofs.PlanFiles.{reads-stop, reads-more, rest-kept, holds-at}
 use Rattle.pit.proofs.plan_files.read_each.Goals as goal
 
 pub returns-in_err-bytes : goal.returns-in_err-bytes
-returns-in_err-bytes g c told tells =
+returns-in_err-bytes g c holds tells =
     let left = g.F.Read.remaining in
     let i = c.loop-i.i in
     handed_on c.from_residual.result c.in_err-bytes.field-0.0 _ _ c.from_residual.ensures.0 c.from_residual.ensures.1
-    (read-first told c.args.inputs.now i _ (map (λ bytes. bytes.items) c.loop-i.texts.items) c.in_err-bytes.field-0.0 c.loop-i-test.true
-    (get_or_default c.args.inputs.now i _ _ c.loop-i-test.true) (c.loop-i.invariant.1 told tells)
+    (inr (tt, (refl, tt),
+    reads-stop holds c.args.inputs.now i _ (map (λ bytes. bytes.items) c.loop-i.texts.items) c.in_err-bytes.field-0.0 c.loop-i-test.true
+    (get_or_default c.args.inputs.now i _ _ c.loop-i-test.true) (c.loop-i.invariant.1 holds tells)
     (record {
       reading = reading_of (left _) (left c.bytes_of.new.source.reader) c.bytes_of.new.source.has_failed;
-      before_is = told-at (λ file. left file.reader) told c.args.inputs.now c.args.files.now c.loop-i.files i c.loop-i-test.true c.requires c.loop-i.invariant.0 _ _ tells;
+      before_is = holds-at (λ file. left file.reader) holds c.args.inputs.now c.args.files.now c.loop-i.files i c.loop-i-test.true c.requires c.loop-i.invariant.0 _ _ tells;
       fails = c.in_err-bytes.ensures;
-    }))
+    })))
 
 pub loop-i-preserved : goal.loop-i-preserved
 loop-i-preserved g c = (
   rest-kept (λ file. g.F.Read.remaining file.reader) (λ _. None) c.args.inputs.now c.args.files.now c.loop-i.files c.loop-i.i c.loop-i-test.true c.requires c.loop-i.invariant.0 c.bytes_of.new.source,
-  λ told tells.
+  λ holds tells.
       let left = g.F.Read.remaining in
       let i = c.loop-i.i in
       let bytes = c.in_ok-bytes.bytes in
       let input = slice_index_or c.args.inputs.now i Model in
-      let read : IsRead told input bytes.items = record {
+      let read : IsRead holds input bytes.items = record {
         reading = reading_of (left _) (left c.bytes_of.new.source.reader) c.bytes_of.new.source.has_failed;
-        before_is = told-at (λ file. left file.reader) told c.args.inputs.now c.args.files.now c.loop-i.files i c.loop-i-test.true c.requires c.loop-i.invariant.0 _ Model tells;
+        before_is = holds-at (λ file. left file.reader) holds c.args.inputs.now c.args.files.now c.loop-i.files i c.loop-i-test.true c.requires c.loop-i.invariant.0 _ Model tells;
         whole = c.in_ok-bytes.ensures;
       } in
       let all = map (λ bytes. bytes.items) c.loop-i.texts.items in
-      subst (λ (ts : List (List ℕ)). AreRead told (take (i + 1) c.args.inputs.now) ts) (sym (ap (λ xs. map (λ bytes. bytes.items) xs) c.in_ok-push.ensures.ok ∙ map_push (λ bytes. bytes.items) c.loop-i.texts.items bytes))
-      (read-more told c.args.inputs.now i input all bytes.items c.loop-i-test.true (get_or_default c.args.inputs.now i Model input c.loop-i-test.true) (c.loop-i.invariant.1 told tells) read),
+      subst (λ (ts : List (List ℕ)). (each (λ (n : ℕ). read_step holds) 1 (take (i + 1) c.args.inputs.now)).Gives tt ts) (sym (ap (λ xs. map (λ bytes. bytes.items) xs) c.in_ok-push.ensures.ok ∙ map_push (λ bytes. bytes.items) c.loop-i.texts.items bytes))
+      (reads-more holds c.args.inputs.now i input all bytes.items c.loop-i-test.true (get_or_default c.args.inputs.now i Model input c.loop-i-test.true) (c.loop-i.invariant.1 holds tells) read),
 )

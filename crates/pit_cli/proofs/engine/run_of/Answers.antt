@@ -1,21 +1,21 @@
-use Rattle.std.proofs.Common.{List, ℕ, subst, sym}
-use Rattle.std.proofs.lemmas.Result.{IfErr-weaker}
-use Rattle.pit_script.specs.Jobs.{Job}
-use Rattle.pit_cli.specs.Texts.{AreTextsOf}
-use Rattle.pit_cli.specs.Telling.IsNoRun.{of_texts, of_plan}
-use Rattle.pit_step.proofs.CallerLemmas.{err_handed}
+use Rattle.std.proofs.Common.{List, ℕ, inl, map, subst, sym}
+use Rattle.std.proofs.lemmas.Result.{MatchResult-weaker}
+use Rattle.pit_cli.specs.Texts.{texts_judged}
+use Rattle.pit_cli.proofs.OpenDesk.{judged_gives, judged_fails}
 use Rattle.pit_cli.proofs.engine.run_of.Goals as goal
 
-pub returns-in_err-inputs-clause-err : goal.returns-in_err-inputs-clause-err
-returns-in_err-inputs-clause-err g c =
-    err_handed c.from_residual.result c.in_err-inputs.field-0.0 _ c.from_residual.ensures.0 c.from_residual.ensures.1 (of_texts c.in_err-inputs.ensures.err)
+pub returns-in-Err : goal.returns-in-Err
+returns-in-Err g c = inl (inl (c.in-Err.ensures.result, (tt, tt)), tt)
 
-pub returns-clause-err : goal.returns-clause-err
-returns-clause-err g c =
-    let pit = c.in_ok-inputs.inputs.pit in
+pub returns : goal.returns
+returns g c =
+    let texts = c.args.input in
+    let pit = c.in-Ok.inputs.pit in
     let start = c.deref.result.now in
     let scripts = c.deref-2.result.now in
-    let stand : AreTextsOf c.args.input pit start scripts =
-    subst (λ (xs : List (ℕ × ℕ)). AreTextsOf c.args.input pit xs scripts) (sym c.deref.ensures.value)
-    (subst (λ (ys : List (List Job)). AreTextsOf c.args.input pit c.in_ok-inputs.inputs.start.items ys) (sym c.deref-2.ensures.value) c.in_ok-inputs.ensures.ok) in
-    IfErr-weaker c.planned_run.result _ _ (λ fault is. of_plan pit start scripts stand is) c.planned_run.ensures.err
+    let stands =
+    subst (λ (xs : List (ℕ × ℕ)). (texts_judged texts).Gives tt ((pit, xs), map (λ script. script.jobs) scripts)) (sym c.deref.ensures.value)
+    (subst (λ ys. (texts_judged texts).Gives tt ((pit, c.in-Ok.inputs.start.items), map (λ script. script.jobs) ys)) (sym c.deref-2.ensures.value) c.in-Ok.ensures.result) in
+    MatchResult-weaker c.run_scripts.result c.run_scripts.ensures
+    (λ report gives. judged_gives texts c.args.retries ((pit, start), map (λ script. script.jobs) scripts) (report.closed, report.runs.items) stands gives)
+    (λ fault fails. judged_fails texts c.args.retries ((pit, start), map (λ script. script.jobs) scripts) fault stands fails)

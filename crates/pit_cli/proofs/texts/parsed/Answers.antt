@@ -1,23 +1,24 @@
-use Rattle.std.proofs.Common.{refl, subst, map}
-use Rattle.pit_cli.specs.Texts.{IsScriptsFault}
-use Rattle.pit_cli.specs.Texts.IsTextsFault.{of_pit, of_start, of_benches, of_scripts}
-use Rattle.pit_step.proofs.CallerLemmas.{err_handed}
+use Rattle.std.proofs.Common.{List, ℕ, inl, inr, map, refl, subst}
+use Rattle.pit_cli.specs.Texts.{scripts_judged}
 use Rattle.pit_cli.proofs.texts.parsed.Goals as goal
 
-pub returns-in-Err-clause-err : goal.returns-in-Err-clause-err
-returns-in-Err-clause-err g c = rw (← c.input.view_is) (of_pit c.in-Err.ensures)
+pub returns-in-Err-clause-result : goal.returns-in-Err-clause-result
+returns-in-Err-clause-result g c = rw (← c.input.view_is) (inl (c.in-Err.ensures, (tt, tt)))
 
-pub returns-in-Err-start_of-clause-err : goal.returns-in-Err-start_of-clause-err
-returns-in-Err-start_of-clause-err g c =
-    rw (← c.input.view_is) (of_start c.in-Ok.pit c.in-Ok.ensures c.in-Err-start_of.ensures.result)
+pub returns-in-Err-start_of-clause-result : goal.returns-in-Err-start_of-clause-result
+returns-in-Err-start_of-clause-result g c =
+    rw (← c.input.view_is) (inr (c.in-Ok.pit, c.in-Ok.ensures, inl (c.in-Err-start_of.ensures.result, tt)))
 
-pub returns-in_default-clause-err : goal.returns-in_default-clause-err
-returns-in_default-clause-err g c =
-    rw (← c.input.view_is) (of_benches c.in-Ok.pit c.in-Ok-start_of.start.items c.in-Ok.ensures c.in-Ok-start_of.ensures.result refl)
+pub returns-in-Err-scripts_of-clause-result : goal.returns-in-Err-scripts_of-clause-result
+returns-in-Err-scripts_of-clause-result g c =
+    let fault = c.in-Err-scripts_of.fault in
+    rw (← c.input.view_is) (inr (c.in-Ok.pit, c.in-Ok.ensures, inr ((c.in-Ok.pit, c.in-Ok-start_of.start.items), (refl, c.in-Ok-start_of.ensures.result),
+    subst (λ xs. (scripts_judged (map (λ bytes. bytes.items) xs) c.in-Ok.pit).Fails tt fault) c.deref.ensures.value c.in-Err-scripts_of.ensures.result)))
 
-pub returns-in_err-scripts-clause-err : goal.returns-in_err-scripts-clause-err
-returns-in_err-scripts-clause-err g c =
-    let fault = c.in_err-scripts.field-0.0 in
-    err_handed c.from_residual.result fault _ c.from_residual.ensures.0 c.from_residual.ensures.1
-    (rw (← c.input.view_is) (of_scripts c.in-Ok.pit c.in-Ok-start_of.start.items c.in-Ok.ensures c.in-Ok-start_of.ensures.result
-    (subst (λ xs. IsScriptsFault c.in-Ok.pit 1 (map (λ bytes. bytes.items) xs) fault) c.deref.ensures.value c.in_err-scripts.ensures.result)))
+pub returns-clause-result : goal.returns-clause-result
+returns-clause-result g c =
+    let pit = c.in-Ok.pit in
+    let start = c.in-Ok-start_of.start.items in
+    let jobs = map (λ script. script.jobs) c.in-Ok-scripts_of.scripts.items in
+    rw (← c.input.view_is) (pit, c.in-Ok.ensures, ((pit, start), (refl, c.in-Ok-start_of.ensures.result),
+    (refl, subst (λ xs. (scripts_judged (map (λ bytes. bytes.items) xs) pit).Gives tt jobs) c.deref.ensures.value c.in-Ok-scripts_of.ensures.result)))

@@ -1,6 +1,5 @@
-use Rattle.std.proofs.Common.{rules, ◌+◌, ◌≤◌, ◌<◌, length, [], subst, sym, refl}
-use Rattle.pit_script.specs.Jobs.{Job, empty_job, job_at}
-use Rattle.pit_script.specs.Ranges.{IsJobIn}
+use Rattle.std.proofs.Common.{rules, ◌≡◌, ◌+◌, ◌-◌, ◌≤◌, ◌<◌, length, [], subst, sym, ap, refl, arith}
+use Rattle.pit_script.specs.Jobs.{job_at}
 use Rattle.pit_job.specs.Inside.Runs.{RanUpTo}
 use Rattle.pit_job.proofs.Retries.{grows-none, up_to-none, up_to-whole, job-done, job-stops, job-unasked}
 use Rattle.pit_job.proofs.planner_run.run_script.Goals as goal
@@ -9,36 +8,37 @@ pub loop-i-init : goal.loop-i-init
 loop-i-init g c = (
   [],
   grows-none c.args.planner,
-  subst (RanUpTo g.S.Session.instance c.args.retries c.args.script.now 0 1 []) (sym c.new-outcomes.ensures.items) (up_to-none g.S.Session.instance c.args.retries c.args.script.now),
+  subst (RanUpTo g.S.Session.instance c.args.retries c.args.script.now.jobs 0 1 []) (sym c.new-outcomes.ensures.items) (up_to-none g.S.Session.instance c.args.retries c.args.script.now.jobs),
 )
-
-pub run_job-next-requires-clause-in_range : goal.run_job-next-requires-clause-in_range
-run_job-next-requires-clause-in_range g c = λ κs lives.
-    let below : c.loop-i.i < length c.args.script.now = search rules in
-    subst (IsJobIn g.S.Session.instance) c.job-end.ensures (c.requires.in_range c.loop-i.i empty_job below)
 
 pub returns-in_default : goal.returns-in_default
 returns-in_default g c =
-    let below : c.loop-i.i < length c.args.script.now = search rules in
-    job-unasked g.S.Session.instance c.args.retries c.args.script.now c.loop-i.i (c.loop-i.i + 1) (job_at c.args.script.now c.loop-i.i) c.args.planner c.loop-i.now c.loop-i.outcomes.items c.reserve.new.self.items
+    let jobs = c.args.script.now.jobs in
+    let i = c.loop-i.i in
+    let below : i < length jobs = search rules in
+    job-unasked g.S.Session.instance c.args.retries jobs i (i + 1) (job_at jobs i) c.args.planner c.loop-i.now c.loop-i.outcomes.items c.reserve.new.self.items
     below refl c.loop-i.invariant c.reserve.ensures.items
 
 pub returns-in-Err : goal.returns-in-Err
 returns-in-Err g c =
-    let below : c.loop-i.i < length c.args.script.now = search rules in
-    let task : Job = record { steps = c.job-end.result.0.now; end = c.job-end.result.1 } in
-    job-stops g.S.Session.instance c.args.retries c.args.script.now c.loop-i.i (c.loop-i.i + 1) task c.args.planner c.loop-i.now c.run_job-next.result.0 c.loop-i.outcomes.items c.reserve.new.self.items
-    c.in-Err.stop c.run_job-next.result.1 c.end_of.result below c.job-end.ensures c.loop-i.invariant c.run_job-next.ensures c.in-Err.is c.end_of.ensures c.reserve.ensures.items
+    let jobs = c.args.script.now.jobs in
+    let i = c.loop-i.i in
+    let below : i < length jobs = search rules in
+    let here : i ≡ (i + 1) - 1 = omega arith in
+    job-stops g.S.Session.instance c.args.retries jobs i (i + 1) (job_at jobs ((i + 1) - 1)) c.args.planner c.loop-i.now c.run_job-next.result.0 c.loop-i.outcomes.items c.reserve.new.self.items
+    c.in-Err.stop c.run_job-next.result.1 c.end_of.result below (ap (job_at jobs) here) c.loop-i.invariant c.run_job-next.ensures c.in-Err.is c.end_of.ensures c.reserve.ensures.items
 
 pub loop-i-preserved : goal.loop-i-preserved
 loop-i-preserved g c =
-    let below : c.loop-i.i < length c.args.script.now = search rules in
-    let task : Job = record { steps = c.job-end.result.0.now; end = c.job-end.result.1 } in
-    job-done g.S.Session.instance c.args.retries c.args.script.now c.loop-i.i (c.loop-i.i + 1) task c.args.planner c.loop-i.now c.run_job-next.result.0 c.loop-i.outcomes.items c.push_in_room.new.outcomes.items
-    c.in-Ok-answer.outcome c.run_job-next.result.1 below c.job-end.ensures c.loop-i.invariant c.run_job-next.ensures c.in-Ok-answer.is (search rules)
+    let jobs = c.args.script.now.jobs in
+    let i = c.loop-i.i in
+    let below : i < length jobs = search rules in
+    let here : i ≡ (i + 1) - 1 = omega arith in
+    job-done g.S.Session.instance c.args.retries jobs i (i + 1) (job_at jobs ((i + 1) - 1)) c.args.planner c.loop-i.now c.run_job-next.result.0 c.loop-i.outcomes.items c.push_in_room.new.outcomes.items
+    c.in-Ok-answer.outcome c.run_job-next.result.1 below (ap (job_at jobs) here) c.loop-i.invariant c.run_job-next.ensures c.in-Ok-answer.is (search rules)
 
 pub returns : goal.returns
 returns g c =
     let i = c.loop-i.invariant in
-    let all : length c.args.script.now ≤ c.loop-i.i = search rules in
-    (i.0, i.1, up_to-whole g.S.Session.instance c.args.retries c.args.script.now c.loop-i.i (c.loop-i.i + 1) i.0 c.loop-i.outcomes.items all i.2)
+    let all : length c.args.script.now.jobs ≤ c.loop-i.i = search rules in
+    (i.0, i.1, up_to-whole g.S.Session.instance c.args.retries c.args.script.now.jobs c.loop-i.i (c.loop-i.i + 1) i.0 c.loop-i.outcomes.items all i.2)

@@ -1,4 +1,5 @@
-use Rattle.std.proofs.Common.{rules, ◌≡◌, ◌+◌, ◌++◌, ◌∷◌, [], List, length, arith, ℕ, take, subst}
+use Rattle.std.proofs.Common.{rules, ◌≡◌, ◌∙◌, ◌+◌, ◌<◌, ◌++◌, ◌∷◌, [], List, length, get_or, arith, ℕ, take, ap, subst}
+use Rattle.std.proofs.lemmas.List.{get_or_default}
 use Rattle.pit_share.specs.Opening.{AreSeats}
 use Rattle.pit_run.specs.Reports.{AllRan, PlannerRan}
 use Rattle.pit_run.proofs.Threading.{ran-next, numbered-last, numbered-front}
@@ -8,14 +9,18 @@ pub returns-clause-ran : goal.returns-clause-ran
 returns-clause-ran g t c =
     let k = length c.pop.new.self.items in
     let n = length c.args.seats.now.items in
-    let s = c.index-scripts-k.result in
+    let shared = c.args.shared.now in
+    let s = c.script-script.result.now.jobs in
     let is : n ≡ k + 1 = search rules in
     let at : c.len-k.result ≡ k = search rules in
-    let all : AllRan g.S.Session.instance c.args.retries 1 (take k c.args.scripts.now) c.run_all.new.logs.items c.run_all.new.runs.items = c.run_all.ensures.ran in
-    let last : PlannerRan g.S.Session.instance c.args.retries s (c.len-k.result + 1) c.joined-log.result.0 c.joined-log.result.1 = c.joined-log.ensures in
-    ran-next g.S.Session.instance c.args.retries n k c.args.scripts.now c.run_all.new.logs.items c.push_log.new.logs.items c.run_all.new.runs.items c.push_run.new.runs.items
-    s c.joined-log.result.0 c.joined-log.result.1 is (omega (arith, is, c.requires.each)) (search rules) all
-    (subst (λ (m : ℕ). PlannerRan g.S.Session.instance c.args.retries s m c.joined-log.result.0 c.joined-log.result.1) (omega (arith, is, at)) last)
+    let here : s ≡ get_or shared.scripts k [] = subst (λ (m : ℕ). s ≡ get_or shared.scripts m []) at c.script-script.ensures.jobs in
+    let less : k < length shared.scripts = omega (arith, is, c.requires.each) in
+    let all : AllRan g.S.Session.instance shared.retries 1 (take k shared.scripts) c.run_all.new.logs.items c.run_all.new.runs.items = c.run_all.ensures.ran in
+    let last : PlannerRan g.S.Session.instance shared.retries s (c.len-k.result + 1) c.joined-log.result.0 c.joined-log.result.1 =
+    subst (λ (retries : ℕ). PlannerRan g.S.Session.instance retries s (c.len-k.result + 1) c.joined-log.result.0 c.joined-log.result.1) (ap (λ shared. shared.retries) c.shared.view_is) c.joined-log.ensures in
+    ran-next g.S.Session.instance shared.retries n k shared.scripts c.run_all.new.logs.items c.push_log.new.logs.items c.run_all.new.runs.items c.push_run.new.runs.items
+    s c.joined-log.result.0 c.joined-log.result.1 is less (here ∙ get_or_default shared.scripts k [] s less) all
+    (subst (λ (m : ℕ). PlannerRan g.S.Session.instance shared.retries s m c.joined-log.result.0 c.joined-log.result.1) (omega (arith, is, at)) last)
     c.push_log.ensures.items c.push_run.ensures.items
 
 pub start-started-requires-clause-number : goal.start-started-requires-clause-number

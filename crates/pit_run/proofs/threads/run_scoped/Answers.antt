@@ -8,28 +8,16 @@ scoped-requires g c =
     let b = c.type_bounds in
     record {
       at = λ a. (
-        asked.benches,
+        asked.seats,
         (
-          asked.periods,
+          asked.each,
           (
-            asked.few,
+            asked.planners,
             (
-              asked.in_range,
+              asked.none,
               (
-                asked.seats,
-                (
-                  asked.each,
-                  (
-                    asked.planners,
-                    (
-                      asked.none,
-                      (
-                        asked.room,
-                        (search (rules, sendable), search (rules, sendable), b.send-A, search (rules, sendable), search (rules, sendable), b.sync-A, search (rules, sendable), search (rules, sendable), b.frees-A-Allocator),
-                      ),
-                    ),
-                  ),
-                ),
+                asked.room,
+                (search (rules, sendable), search (rules, sendable), b.send-A, search (rules, sendable), search (rules, sendable), b.sync-A, search (rules, sendable), search (rules, sendable), b.frees-A-Allocator),
               ),
             ),
           ),

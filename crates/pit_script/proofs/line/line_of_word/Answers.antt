@@ -2,22 +2,22 @@ use Rattle.std.proofs.Common.{sym}
 use Rattle.pit_script.proofs.line.line_of_word.Goals as goal
 
 pub returns-in-Read-clause-stands : goal.returns-in-Read-clause-stands
-returns-in-Read-clause-stands g c = c.read_line.ensures.stands c.args.jobs
+returns-in-Read-clause-stands g c = c.read_step.ensures.stands c.args.jobs
 
 pub returns-in-Put-clause-stands : goal.returns-in-Put-clause-stands
-returns-in-Put-clause-stands g c = c.put_line.ensures.stands c.args.jobs
+returns-in-Put-clause-stands g c = c.put_step.ensures.stands c.args.jobs
 
 pub returns-in-Clear-clause-stands : goal.returns-in-Clear-clause-stands
-returns-in-Clear-clause-stands g c = c.clear_line.ensures.stands c.args.jobs
+returns-in-Clear-clause-stands g c = c.clear_step.ensures.stands c.args.jobs
 
 pub returns-in-Shift-clause-stands : goal.returns-in-Shift-clause-stands
-returns-in-Shift-clause-stands g c = c.shift_line.ensures.stands c.args.jobs
+returns-in-Shift-clause-stands g c = c.shift_step.ensures.stands c.args.jobs
 
 pub returns-in-Bench-clause-stands : goal.returns-in-Bench-clause-stands
-returns-in-Bench-clause-stands g c = c.bench_line.ensures.stands c.args.jobs
+returns-in-Bench-clause-stands g c = c.bench_step.ensures.stands c.args.jobs
 
 pub returns-in-Revise-clause-stands : goal.returns-in-Revise-clause-stands
-returns-in-Revise-clause-stands g c = c.revise_line.ensures.stands c.args.jobs
+returns-in-Revise-clause-stands g c = c.revise_step.ensures.stands c.args.jobs
 
 pub returns-in-Commit-clause-stands : goal.returns-in-Commit-clause-stands
 returns-in-Commit-clause-stands g c = c.end_line_of.ensures.stands c.args.jobs
@@ -29,19 +29,19 @@ pub returns-in-Begin-clause-in_range : goal.returns-in-Begin-clause-in_range
 returns-in-Begin-clause-in_range g c = c.begin_line.ensures.in_range c.args.pit.now
 
 pub returns-in-Read-clause-in_range : goal.returns-in-Read-clause-in_range
-returns-in-Read-clause-in_range g c = c.read_line.ensures.in_range c.args.pit.now (sym c.blocks-in-Read.ensures.count)
+returns-in-Read-clause-in_range g c = c.read_step.ensures.in_range c.args.pit.now (sym c.blocks-in-Read.ensures.count)
 
 pub returns-in-Put-clause-in_range : goal.returns-in-Put-clause-in_range
-returns-in-Put-clause-in_range g c = c.put_line.ensures.in_range c.args.pit.now (sym c.blocks-in-Put.ensures.count) (sym c.periods.ensures)
+returns-in-Put-clause-in_range g c = c.put_step.ensures.in_range c.args.pit.now (sym c.blocks-in-Put.ensures.count) (sym c.periods.ensures)
 
 pub returns-in-Clear-clause-in_range : goal.returns-in-Clear-clause-in_range
-returns-in-Clear-clause-in_range g c = c.clear_line.ensures.in_range c.args.pit.now (sym c.blocks-in-Clear.ensures.count)
+returns-in-Clear-clause-in_range g c = c.clear_step.ensures.in_range c.args.pit.now (sym c.blocks-in-Clear.ensures.count)
 
 pub returns-in-Shift-clause-in_range : goal.returns-in-Shift-clause-in_range
-returns-in-Shift-clause-in_range g c = c.shift_line.ensures.in_range c.args.pit.now (sym c.blocks-in-Shift.ensures.count)
+returns-in-Shift-clause-in_range g c = c.shift_step.ensures.in_range c.args.pit.now (sym c.blocks-in-Shift.ensures.count)
 
 pub returns-in-Revise-clause-in_range : goal.returns-in-Revise-clause-in_range
-returns-in-Revise-clause-in_range g c = c.revise_line.ensures.in_range c.args.pit.now (sym c.resources.ensures) (sym c.periods-in-Revise.ensures)
+returns-in-Revise-clause-in_range g c = c.revise_step.ensures.in_range c.args.pit.now (sym c.resources.ensures) (sym c.periods-in-Revise.ensures)
 
 pub returns-in-Commit-clause-in_range : goal.returns-in-Commit-clause-in_range
 returns-in-Commit-clause-in_range g c = c.end_line_of.ensures.in_range c.args.pit.now

@@ -13,7 +13,7 @@ use Rattle.pit_script.proofs.script.read_lines.Goals as goal
 
 pub loop-line-init : goal.loop-line-init
 loop-line-init g c = record {
-  in_range = in_range-begins c.args.pit.now c.new-draft.result c.new-draft.ensures;
+  in_range = in_range-begins c.args.benches.now c.new-draft.result c.new-draft.ensures;
   end = c.new-lines.ensures.end;
   facts = (
     [],
@@ -25,10 +25,10 @@ loop-line-init g c = record {
 pub loop-line-preserved : goal.loop-line-preserved
 loop-line-preserved g c =
     let was = c.loop-line.invariant.facts in
-    let read = c.in_default-read_line.ensures in
-    let pit = c.args.pit.now in
+    let read = c.in_default-add_line.ensures in
+    let pit = c.args.benches.now in
     record {
-      in_range = in_range-more pit c.loop-line.draft c.read_line.new.draft read.0 read.1 read.3 c.loop-line.invariant.in_range;
+      in_range = in_range-more pit c.loop-line.draft c.add_line.new.draft read.0 read.1 read.3 c.loop-line.invariant.in_range;
       end = c.in-Some.ensures.steps.1 ∙ c.loop-line.invariant.end;
       facts = (
         _,
@@ -41,7 +41,7 @@ loop-line-preserved g c =
 pub returns-in-Err-clause-result : goal.returns-in-Err-clause-result
 returns-in-Err-clause-result g c =
     let was = c.loop-line.invariant.facts in
-    let pit = c.args.pit.now in
+    let pit = c.args.benches.now in
     let fields = fields_left c.in-Some.line.fields in
     read_stops NoMemory (script_line pit) (cut_of c.args.text.now) (lines_left c.loop-line.lines) (lines_left c.next.new.self) (cut_seen c.in-Some.line) was.0 c.in-Err.cause was.1 c.in-Some.ensures.steps.0
     (subst (λ (r : Result ScriptFact ScriptCause). IsCauseOf NoMemory r c.in-Err.cause)
@@ -51,7 +51,7 @@ pub returns-clause-result : goal.returns-clause-result
 returns-clause-result g c =
     let was = c.loop-line.invariant.facts in (
       was.0,
-      read_all (script_line c.args.pit.now) (cut_of c.args.text.now) (lines_left c.loop-line.lines) was.0 was.1 c.in_default.ensures.steps.0.0,
+      read_all (script_line c.args.benches.now) (cut_of c.args.text.now) (lines_left c.loop-line.lines) was.0 was.1 c.in_default.ensures.steps.0.0,
       was.2,
       c.end_line.ensures ∙ c.in_default.ensures.steps.1 ∙ c.loop-line.invariant.end,
     )

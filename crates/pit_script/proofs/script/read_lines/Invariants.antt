@@ -9,9 +9,9 @@ use Rattle.pit_script.proofs.script.read_lines.Given as goal
 
 abbrev pub invariant-loop-line : goal.invariant-loop-line
 invariant-loop-line g l = record {
-  in_range : IsProgressIn l.pit l.draft;
+  in_range : IsProgressIn l.benches l.draft;
   end : end_left l.lines ≡ end_line l.text;
-  facts : (facts : List ScriptFact) × IsReadTo (script_line l.pit) (cut_of l.text) (lines_left l.lines) facts × (l.draft ≡ progress_of facts);
+  facts : (facts : List ScriptFact) × IsReadTo (script_line l.benches) (cut_of l.text) (lines_left l.lines) facts × (l.draft ≡ progress_of facts);
 }
 
 abbrev pub decreases-loop-line : goal.decreases-loop-line

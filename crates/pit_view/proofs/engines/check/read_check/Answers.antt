@@ -7,8 +7,8 @@ use Rattle.pit_view.specs.Check.{Checks, IsChecked}
 use Rattle.pit_step.proofs.CallerLemmas.{made, solution-stop}
 use Rattle.pit_view.proofs.engines.check.read_check.Goals as goal
 
-pub returns-in-Ok-clause-read : goal.returns-in-Ok-clause-read
-returns-in-Ok-clause-read g c =
+pub returns-in-Ok : goal.returns-in-Ok
+returns-in-Ok g c =
     let read = reading_of (g.S.Source.remaining c.args.solution.now) (g.S.Source.remaining c.read_schedule.new.solution) (g.S.Source.has_failed c.read_schedule.new.solution) in
     let pit = c.args.pit in
     let schedule = c.in-Ok.schedule.items in
@@ -19,4 +19,4 @@ returns-in-Ok-clause-read g c =
       stands = stands;
       checks = subst (λ (s : List (ℕ × ℕ)). Checks pit (commit_of_schedule s ∷ []) answer.0.items answer.1) c.deref.ensures.value is;
     })
-    (λ bytes stands. solution-stop pit bytes schedule stands) c.in-Ok.ensures.read c.checked.ensures.checks
+    (λ bytes stands. solution-stop pit bytes schedule stands) c.in-Ok.ensures.read c.checked.ensures

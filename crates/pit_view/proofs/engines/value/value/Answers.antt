@@ -6,4 +6,4 @@ use Rattle.pit_view.proofs.engines.value.value.Goals as goal
 pub returns-in_err-text : goal.returns-in_err-text
 returns-in_err-text g c =
     handed_on c.from_residual-in_err-text.result c.in_err-text.field-0.0 _ _ c.from_residual-in_err-text.ensures.0 c.from_residual-in_err-text.ensures.1
-    (inr (c.in_ok-pit.pit, c.in_ok-pit.ensures, inl (c.in_err-text.ensures.read, keeps_itself (g.W.Sink.contents c.args.out.now))))
+    (inr (c.in_ok-pit.pit, c.in_ok-pit.ensures, inl (c.in_err-text.ensures, keeps_itself (g.W.Sink.contents c.args.out.now))))

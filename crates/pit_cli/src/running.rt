@@ -1,0 +1,137 @@
+//! From a pit, a start and scripts to the report of their run.
+ghost use Rattle.std.specs.Prelude.{◌≡◌, ◌≤◌, ℕ, List, All, length, map, IfOk, OnOk, IfErr, MatchResult};
+ghost use Rattle.pit_model.specs.Pit.{Pit};
+ghost use Rattle.pit_desk.specs.History.{Answered};
+ghost use Rattle.pit_script.specs.Jobs.{Job};
+ghost use Rattle.pit_run.specs.Reports.{IsReport};
+ghost use Rattle.pit_cli.specs.Inside.Runs.{IsFaultOn};
+ghost use Rattle.pit_model.specs.Fitting.{IsSchedule};
+ghost use Rattle.pit_share.specs.Opening.{IsPlannerCount, IsOpenError};
+ghost use Rattle.pit_share.specs.declared.blank.TheConstants.{PLANNERS_MAX};
+ghost use Rattle.pit_job.specs.declared.planner_run.TheConstants.{RETRIES_MAX};
+ghost use Rattle.pit_step.specs.Steps.{in_turn};
+ghost use Rattle.pit_cli.specs.Texts.{Setup};
+ghost use Rattle.pit_cli.specs.Planning.{opening_fault_of, desk_judged, count_judged, planners_step};
+
+use pit_board::Session;
+use pit_desk::{Desk, DeskError, ENTRIES_MAX};
+use pit_job::Open;
+use pit_model::Instance;
+use pit_run::{Report, RunError, run};
+use pit_script::Script;
+use pit_share::{Blank, OpenError, Workspace};
+use pit_step::{BreachLine, CliFault};
+use std::alloc::Allocator;
+use std::marker::Brand;
+use std::sync::Wait;
+use std::thread::Threads;
+
+/// Opens a desk on a start, for `ENTRIES_MAX` entries, and a workspace on the desk; has planners do the scripts, each in a thread of its own, and
+/// closes the workspace.
+pub fn run_scripts<R: Threads + Wait + Sync, A: Allocator + Copy + Drop + Send + Sync>(
+    rt: &R,
+    alloc: A,
+    pit: Instance<A>,
+    start: &[(u32, u32)],
+    scripts: &[Script<A>],
+    retries: u32,
+) -> Result<Report<A>, CliFault>
+    requires start { IsSchedule pit.blocks pit.periods start.now }
+    requires pits { All (λ script. script.pit ≡ pit) scripts.now }
+    requires few { retries ≤ RETRIES_MAX }
+    ensures { let setup : Setup = ((pit, start.now), map (λ script. script.jobs) scripts.now) in
+        let run = in_turn desk_judged (in_turn count_judged (planners_step retries)) in
+        MatchResult result (λ report. run.Gives setup (report.closed, report.runs.items)) (run.Fails setup) }
+{
+    match Desk::open(alloc, pit, start, ENTRIES_MAX) {
+        Ok(desk) => run_on(rt, alloc, desk, scripts, retries),
+        Err((_pit, error)) => Err(opening_fault(error)),
+    }
+}
+
+/// The fault of a desk that can't be opened.
+fn opening_fault(error: DeskError) -> CliFault
+    ensures { result ≡ opening_fault_of error }
+{
+    match error {
+        DeskError::Unmeetable { resource, period } => CliFault::LimitBelowZero { resource, period },
+        DeskError::BadStart(breach) => CliFault::Start(BreachLine(breach)),
+        // `Full` doesn't come: `ENTRIES_MAX` has room for the start's one entry.
+        DeskError::Full | DeskError::NoMemory => CliFault::NoMemory,
+    }
+}
+
+/// Has a session's planners do the scripts on a desk.
+fn run_on<R: Threads + Wait + Sync, A: Allocator + Copy + Drop + Send + Sync>(
+    rt: &R,
+    alloc: A,
+    desk: Desk<A>,
+    scripts: &[Script<A>],
+    retries: u32,
+) -> Result<Report<A>, CliFault>
+    requires pits { All (λ script. script.pit ≡ desk.plan.pit) scripts.now }
+    requires few { retries ≤ RETRIES_MAX }
+    ensures count { OnOk result (IsPlannerCount (length scripts.now)) }
+    ensures ok { let jobs = map (λ script. script.jobs) scripts.now in
+        IfOk result (λ report. IsReport desk.plan.pit desk.history desk.max_entries retries jobs report.closed report.runs.items) }
+    ensures err { IfErr result (IsFaultOn desk.plan.pit desk.history desk.max_entries retries (map (λ script. script.jobs) scripts.now)) }
+{
+    let Ok(planners) = u32::try_from(scripts.len()) else {
+        return Err(CliFault::PlannerCount);
+    };
+    run_in::<Brand, _, _, _>(rt, rt, alloc, desk, planners, Blank::new(), scripts, retries)
+}
+
+/// The same under a session's name. `own` is the handle that the board's writer keeps.
+fn run_in<
+    S: Session + Send + Sync,
+    O: Wait + Drop + Send + Sync,
+    R: Threads + Wait + Sync,
+    A: Allocator + Copy + Drop + Send + Sync,
+>(
+    own: O,
+    rt: &R,
+    alloc: A,
+    desk: Desk<A>,
+    planners: u32,
+    blank: Blank,
+    scripts: &[Script<A>],
+    retries: u32,
+) -> Result<Report<A>, CliFault>
+    requires pit { desk.plan.pit ≡ S.instance }
+    requires history { desk.history ≡ S.opening }
+    requires limit { desk.max_entries ≡ S.max_entries }
+    requires planners { planners ≡ S.planners }
+    requires ledger { blank.ledger ≡ S.name }
+    requires parts { S.parts ≡ PLANNERS_MAX }
+    requires book { blank.book ≡ S.book }
+    requires each { length scripts.now ≡ planners }
+    requires pits { All (λ script. script.pit ≡ S.instance) scripts.now }
+    requires few { retries ≤ RETRIES_MAX }
+    ensures count { OnOk result (IsPlannerCount (length scripts.now)) }
+    ensures ok { let jobs = map (λ script. script.jobs) scripts.now in
+        IfOk result (λ report. IsReport S.instance S.opening S.max_entries retries jobs report.closed report.runs.items) }
+    ensures err { IfErr result (IsFaultOn S.instance S.opening S.max_entries retries (map (λ script. script.jobs) scripts.now)) }
+{
+    let (workspace, seats) = match Workspace::<S, O, A>::open(own, alloc, desk, planners, blank) {
+        Ok(opened) => opened,
+        Err((_desk, error)) => return Err(workspace_fault(error)),
+    };
+    match run(rt, alloc, workspace, seats, scripts, retries, &Open) {
+        Ok(report) => Ok(report),
+        Err(RunError::NoMemory { .. }) => Err(CliFault::NoMemory),
+        Err(RunError::NotClosed { .. }) => Err(CliFault::NotClosed),
+    }
+}
+
+/// The fault of a workspace that can't be opened.
+fn workspace_fault(error: OpenError) -> CliFault
+    ensures { (pit : Pit) (opening : List Answered) (max_entries retries : ℕ) (scripts : List (List Job)) → IsOpenError (length scripts) error
+        → IsFaultOn pit opening max_entries retries scripts result }
+{
+    match error {
+        OpenError::PlannerCount => CliFault::PlannerCount,
+        OpenError::NoPlace => CliFault::NoPlace,
+        OpenError::NoMemory => CliFault::NoMemory,
+    }
+}

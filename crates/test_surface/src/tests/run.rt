@@ -1,0 +1,231 @@
+//! `pit_run`: scripts, and planners in threads of their own who do them.
+ghost use Rattle.std.specs.Prelude.{◌≡◌};
+ghost use Rattle.pit_share.specs.declared.blank.TheConstants.{PLANNERS_MAX};
+
+use super::tiny::tiny;
+use pit_book::{Desk, Refusal};
+use pit_model::Instance;
+use pit_num::NumError;
+use pit_run::{
+    Gate, Open, Outcome, PlannerRun, Report, RunEnd, RunError, Script, ScriptCause, ScriptError,
+    run,
+};
+use pit_share::{Blank, Seat, Session, Workspace};
+use std::alloc::Global;
+use std::marker::Brand;
+use std::process::Abort;
+use std::sync::Wait;
+use std::sync::atomic::{AtomicU64, Ordering};
+use std::thread::Threads;
+
+/// Puts blocks 0 and 1 into period 0, then block 3, which is too much, then block 3 into period 1; and thinks better of taking it away.
+const SCRIPT: &[u8] = b"begin
+put 0 0
+put 1 0
+commit
+begin
+put 3 0
+commit
+begin
+put 3 1
+commit
+begin
+clear 3
+abort
+";
+
+const OUTCOMES: &[Outcome] = &[
+    FIRST,
+    Outcome::Refused {
+        refusal: Refusal::Over {
+            resource: 0,
+            period: 0,
+            load: 5_000_000,
+            limit: 4_000_000,
+        },
+        tries: 1,
+    },
+    Outcome::Committed {
+        number: 2,
+        tries: 1,
+    },
+    Outcome::Withdrawn { tries: 1 },
+];
+
+const FIRST: Outcome = Outcome::Committed {
+    number: 1,
+    tries: 1,
+};
+
+/// Counts the commits, before each and after it.
+#[derive(Drop)]
+struct Counting {
+    before: AtomicU64,
+    after: AtomicU64,
+}
+
+impl Gate for Counting {
+    fn before_commit(&self, planner: u32, _job: u32) {
+        self.before.fetch_add(u64::from(planner), Ordering::SeqCst);
+    }
+
+    fn after_commit(&self, planner: u32, _job: u32) {
+        self.after.fetch_add(u64::from(planner), Ordering::SeqCst);
+    }
+}
+
+#[test]
+fn a_planner_does_its_script(rt: HostRuntime) {
+    let gate = Counting {
+        before: AtomicU64::new(0),
+        after: AtomicU64::new(0),
+    };
+    let report = reported(&rt, rt.alloc(), 100, &gate);
+    assert!(rt; gate.before.load(Ordering::SeqCst) == 3);
+    assert!(rt; gate.after.load(Ordering::SeqCst) == 3);
+    assert!(rt; report.closed.desk().history().len() == 4);
+    assert!(rt; report.closed.desk().plan().commits() == 2);
+    let run = report.runs.first().expect(&rt, "a run");
+    assert!(rt; run.jobs() == OUTCOMES);
+    assert_whole(&rt, run);
+    drop(report);
+}
+
+fn assert_whole(rt: &impl Abort, run: &PlannerRun<Global>) {
+    assert!(rt; run.planner() == 1);
+    match run.ended() {
+        RunEnd::Whole => {}
+        RunEnd::Full { job } => panic!(rt; "full before job {job}"),
+        RunEnd::NoMemory { job } => panic!(rt; "no memory before job {job}"),
+        RunEnd::NoEntry { job } => panic!(rt; "no entry before job {job}"),
+        RunEnd::NoThread => panic!(rt; "no thread"),
+    }
+}
+
+/// The history may have one entry.
+#[test]
+fn a_planner_may_stop(rt: HostRuntime) {
+    let report = reported(&rt, rt.alloc(), 1, &Open);
+    let run = report.runs.first().expect(&rt, "a run");
+    assert!(rt; run.jobs() == [FIRST].as_slice());
+    assert!(rt; run.ended() == RunEnd::Full { job: 2 });
+    drop(report);
+}
+
+/// What one planner leaves on a desk that may have so many entries.
+fn reported<R: Threads + Wait + Abort + Sync, G: Gate>(
+    rt: &R,
+    alloc: Global,
+    max_entries: u32,
+    gate: &G,
+) -> Report<Global> {
+    let answer = Desk::open(alloc, tiny(rt, alloc), &[], max_entries);
+    let desk = answer.ok().expect(rt, "a desk");
+    play::<Brand, _, _, _>(rt, rt, alloc, desk, 1, Blank::new(), gate)
+}
+
+fn play<
+    S: Session + Send + Sync,
+    O: Wait + Drop + Send + Sync,
+    R: Threads + Wait + Abort + Sync,
+    G: Gate,
+>(
+    rt: &R,
+    own: O,
+    alloc: Global,
+    desk: Desk<Global>,
+    planners: u32,
+    blank: Blank,
+    gate: &G,
+) -> Report<Global>
+    requires pit { desk.plan.pit ≡ S.instance }
+    requires history { desk.history ≡ S.opening }
+    requires limit { desk.max_entries ≡ S.max_entries }
+    requires one { planners ≡ 1 }
+    requires planners { planners ≡ S.planners }
+    requires ledger { blank.ledger ≡ S.name }
+    requires parts { S.parts ≡ PLANNERS_MAX }
+    requires book { blank.book ≡ S.book }
+{
+    let script = script_on::<S>(rt, alloc, &desk);
+    let (workspace, seats) = match Workspace::<S, O, _>::open(own, alloc, desk, planners, blank) {
+        Ok(opened) => opened,
+        Err(_) => panic!(rt; "no workspace"),
+    };
+    let scripts = [script];
+    let report = match run(rt, alloc, workspace, seats, &scripts, 3, gate) {
+        Ok(report) => report,
+        Err(
+            RunError::NoMemory {
+                workspace: _,
+                seats: _,
+            },
+        ) => panic!(rt; "no memory"),
+        Err(
+            RunError::NotClosed {
+                workspace: _,
+                logs: _,
+                cause: _,
+            },
+        ) => panic!(rt; "not closed"),
+    };
+    drop(scripts);
+    report
+}
+
+/// The script, for the pit of a desk.
+fn script_on<S: Session>(rt: &impl Abort, alloc: Global, desk: &Desk<Global>) -> Script<Global>
+    requires { desk.now.plan.pit ≡ S.instance }
+    ensures { result.pit ≡ S.instance }
+{
+    match Script::parse(alloc, SCRIPT, desk.plan().instance()) {
+        Ok(script) => {
+            assert!(rt; script.jobs() == 4);
+            script
+        }
+        Err(_) => panic!(rt; "no script"),
+    }
+}
+
+/// Scripts, the line of the first fault, and its cause.
+const FAULTY: &[(&[u8], u64, ScriptCause)] = &[
+    (b"\xff\n", 1, ScriptCause::NotAscii),
+    (b"dig 0\n", 1, ScriptCause::UnknownWord),
+    (b"begin 1\n", 1, ScriptCause::FieldCount),
+    (
+        b"begin\nread x\n",
+        2,
+        ScriptCause::BadNumber(NumError::Malformed),
+    ),
+    (b"begin\nread 4\n", 2, ScriptCause::BlockRange),
+    (b"begin\nput 0 2\n", 2, ScriptCause::PeriodRange),
+    (b"put 0 0\n", 1, ScriptCause::Order),
+    (b"begin\nbench 7 0\n", 2, ScriptCause::NoBench),
+    (b"begin\n", 2, ScriptCause::Unended),
+];
+
+#[test]
+fn a_script_may_have_a_fault(rt: HostRuntime) {
+    let pit = tiny(&rt, rt.alloc());
+    for (text, line, cause) in FAULTY {
+        let error = script_error(&rt, rt.alloc(), text, &pit);
+        assert!(rt; (error.line, error.cause) == (*line, *cause));
+    }
+    drop(pit);
+}
+
+fn script_error(
+    rt: &impl Abort,
+    alloc: Global,
+    text: &[u8],
+    pit: &Instance<Global>,
+) -> ScriptError {
+    let Err(error) = Script::parse(alloc, text, pit) else {
+        panic!(rt; "no fault");
+    };
+    match error.cause {
+        ScriptCause::JobCount => panic!(rt; "too many jobs"),
+        ScriptCause::NoMemory => panic!(rt; "no memory"),
+        _ => error,
+    }
+}
