@@ -88,6 +88,48 @@ precedence 2 0
 short 0 1 0.000000 1.000000' '' check model precedence early
 check 'check, bad precedences' 2 '' 'pit: precedence line 1: bad number' check model refused solution
 check 'check, no precedences' 3 '' 'pit: cannot read precedence' check model absent solution
+check 'check --all' 0 "value $VALUE
+fine" '' check --all model precedence solution
+printf '0 1\n1 0\n2 0\n3 0\n' >wrong
+check 'check --all, pairs and a load' 1 'value 46.409090909090000000
+precedence 1 0 0 1
+precedence 2 0 0 1
+over 0 0 6.000000 4.000000
+broken 2 over 1 short 0' '' check model precedence wrong --all
+check 'check --all, a predecessor that is not mined' 1 'value 30.000000000000000000
+precedence 2 0 0 -
+precedence 2 1 0 -
+short 0 1 0.000000 1.000000
+broken 2 over 0 short 1' '' check --all model precedence early
+# Under the limit that it revised nothing is over; as a solution, under the model's own, it is.
+cat >revised <<'TEXT'
+{"format":2}
+{"act":"commit","job":1,"planner":1,"reads":[],"reply":{"committed":1},"revises":[],"start":0,"writes":[[0,0],[1,0]]}
+{"act":"commit","job":2,"planner":1,"reads":[],"reply":{"committed":2},"revises":[[0,0,"5000000"]],"start":1,"writes":[[3,0]]}
+TEXT
+check 'check --all, a history' 1 'value 15.500000000000000000
+short 0 1 0.000000 1.000000
+broken 0 over 0 short 1' '' check --all model precedence revised
+printf '0 0\n1 0\n3 0\n' >loaded
+check 'check --all, its solution' 1 'value 15.500000000000000000
+over 0 0 5.000000 4.000000
+short 0 1 0.000000 1.000000
+broken 0 over 1 short 1' '' check --all model precedence loaded
+printf '{"format":1}\n{"act":"commit","job":1,"planner":1,"reads":[],"reply":{"committed":7},"start":3,"writes":[[4,0]]}\n' >foreign
+check 'check --all, an entry of another pit' 2 '' 'pit: schedule: illegal 1' check --all model precedence foreign
+check 'check --all, a cut history' 2 '' 'pit: schedule line 1: not json' check --all model precedence <(printf ' \t{"format":1')
+check 'check --all, a bad solution' 2 '' 'pit: schedule line 1: bad number' check --all model precedence refused
+check 'check --all, no schedule' 3 '' 'pit: cannot read schedule' check --all model precedence missing
+check 'check --all, a folder' 3 '' 'pit: cannot read schedule' check --all model precedence folder
+{
+    printf 'NAME: wide\nTYPE: CPIT\nNBLOCKS: 1003\nNPERIODS: 1\nNRESOURCE_SIDE_CONSTRAINTS: 0\nDISCOUNT_RATE: 0\n'
+    printf 'OBJECTIVE_FUNCTION:\nRESOURCE_CONSTRAINT_COEFFICIENTS:\nRESOURCE_CONSTRAINT_LIMITS:\nEOF\n'
+} >wide
+echo "0 1002 $(seq -s ' ' 1 1002)" >below
+check 'check --all, more than are shown' 1 "value 0.000000000000000000
+$(seq -f 'precedence 0 %g 0 -' 1 1000)
+more 2
+broken 1002 over 0 short 0" '' check --all wide below <(echo '0 0')
 check 'value' 0 "$VALUE" '' value model solution
 check 'value, files after --' 0 "$VALUE" '' value -- model solution
 

@@ -60,7 +60,7 @@ opens-stop opens holds inputs i input fault below is so closed same =
 
 -- ---- reading
 
-reading-left : (holds : Input → Option (List ℕ)) (number : ℕ) (inputs : List Input) → (each (λ (n : ℕ). read_step holds) number inputs).IsUntouched
+pub reading-left : (holds : Input → Option (List ℕ)) (number : ℕ) (inputs : List Input) → (each (λ (n : ℕ). read_step holds) number inputs).IsUntouched
 reading-left holds number inputs = each-untouched IsOfInputs (λ (n : ℕ). read_step holds) (λ n input. tt) number inputs
 
 pub reads-more : (holds : Input → Option (List ℕ)) (inputs : List Input) (i : ℕ) (input : Input) (texts : List (List ℕ)) (bytes : List ℕ) → i < length inputs → input ≡ slice_index_or inputs i input

@@ -1,5 +1,5 @@
 -- What the words of the command line ask for.
-use Rattle.std.specs.Prelude.{◌≡◌, ℕ, zero, suc, nat_le, if◌then◌else◌, List, [], ◌∷◌, Option, None, Some, Ok, Err, unwrap_or, option_map, slice_get, codes}
+use Rattle.std.specs.Prelude.{◌≡◌, ℕ, zero, suc, nat_le, Bool, true, false, if◌then◌else◌, List, [], ◌∷◌, Option, None, Some, Ok, Err, unwrap_or, option_map, slice_get, codes}
 use Rattle.std.specs.Map.{lookup}
 use Rattle.std.specs.Str.{bytes_eq}
 use Rattle.clap.specs.Matches.{found_of, first_value, matched_of, raw_values, one_text}
@@ -7,9 +7,9 @@ use Rattle.std.specs.Str.Parse.{ParsesUnsigned}
 use Rattle.clap.specs.declared.parser.matches.ArgMatches.{ArgMatches}
 use Rattle.pit_job.specs.declared.planner_run.TheConstants.{RETRIES_MAX}
 use Rattle.pit_step.specs.declared.input.Input.{Input}
-use Rattle.pit_step.specs.declared.input.Input.TheVariants.{Model, Precedence, Blocks, Start, Solution, Script, History}
+use Rattle.pit_step.specs.declared.input.Input.TheVariants.{Model, Precedence, Blocks, Start, Solution, Script, History, Schedule, Old, New}
 use Rattle.pit.specs.declared.engine.Engine.{Engine}
-use Rattle.pit.specs.declared.engine.Engine.TheVariants.{Value, Check, Plan, Replay}
+use Rattle.pit.specs.declared.engine.Engine.TheVariants.{Value, Check, CheckAll, Plan, Replay}
 
 -- the subcommands, each with the engine that it asks for
 abbrev pub engines : List (List ℕ × Engine)
@@ -17,6 +17,17 @@ engines = (codes "value", Value) ∷ (codes "check", Check) ∷ (codes "plan", P
 
 unfoldable pub engine_of : List ℕ → Option Engine
 engine_of name = lookup (bytes_eq name) engines
+
+-- with the flag of `check`
+abbrev pub with_all : Bool → Engine → Engine
+with_all true Check = CheckAll
+with_all all engine = engine
+
+-- whether the words ask for all that is wrong
+pub record IsAllAsked (given : ArgMatches) (all : Bool) : Type 0 where
+  pub absent : one_text (found_of given) (codes "all") ≡ None → all ≡ false
+  pub yes : one_text (found_of given) (codes "all") ≡ Some (codes "true") → all ≡ true
+  pub no : one_text (found_of given) (codes "all") ≡ Some (codes "false") → all ≡ false
 
 -- the name of the argument for an input
 abbrev pub argument_of : Input → List ℕ
@@ -27,6 +38,9 @@ argument_of Start = codes "start"
 argument_of Solution = codes "SOLUTION"
 argument_of (Script number) = codes "SCRIPT"
 argument_of History = codes "HISTORY"
+argument_of Schedule = codes "SOLUTION"
+argument_of Old = codes "OLD"
+argument_of New = codes "NEW"
 
 -- the paths that the words give for scripts
 unfoldable pub scripts_of : ArgMatches → List (List ℕ)
@@ -45,6 +59,9 @@ path_of given Blocks = first_path given Blocks
 path_of given Start = first_path given Start
 path_of given Solution = first_path given Solution
 path_of given History = first_path given History
+path_of given Schedule = first_path given Schedule
+path_of given Old = first_path given Old
+path_of given New = first_path given New
 
 -- the path that the words give for the history that is written
 abbrev pub history_path : ArgMatches → Option (List ℕ)

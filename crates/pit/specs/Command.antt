@@ -7,7 +7,7 @@ use Rattle.clap.specs.Simple.{App, Shape, app_of, new_rule, new_shape}
 use Rattle.clap.specs.declared.builder.command.Command.{Command}
 use Rattle.clap.specs.declared.builder.command.Command.TheViews.{out-Command}
 use Rattle.clap.specs.Lexer.{usize_max}
-use Rattle.clap.specs.declared.builder.action.ArgAction.TheVariants.{Append}
+use Rattle.clap.specs.declared.builder.action.ArgAction.TheVariants.{Append, SetTrue}
 use Rattle.clap.specs.declared.builder.value_parser.ValueParser.TheVariants.{Signed}
 use Rattle.pit_step.specs.declared.input.Input.{Input}
 use Rattle.pit_step.specs.declared.input.Input.TheVariants.{Model, Precedence, Blocks, Start, Script}
@@ -26,8 +26,16 @@ engine_shape name inputs = record (new_shape name) { rules = map file_rule input
 abbrev pub value_shape : Shape
 value_shape = engine_shape (codes "value") (inputs_of Value)
 
+-- `--all`
+abbrev pub all_rule : Rule
+all_rule = record (new_rule (codes "all")) { action = Some SetTrue; long = Some (codes "all") }
+
+-- `check` with its flag
+abbrev pub check_flags_shape : Shape
+check_flags_shape = record (new_shape (codes "check")) { rules = all_rule ∷ [] }
+
 abbrev pub check_shape : Shape
-check_shape = engine_shape (codes "check") (inputs_of Check)
+check_shape = record (new_shape (codes "check")) { rules = all_rule ∷ map file_rule (inputs_of Check) }
 
 abbrev pub replay_shape : Shape
 replay_shape = engine_shape (codes "replay") (inputs_of Replay)

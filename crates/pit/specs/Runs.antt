@@ -2,7 +2,7 @@
 use Rattle.std.specs.Prelude.{ℕ, Bool, List, [], ◌∷◌, Option, option_and_then, Result}
 use Rattle.clap.specs.declared.parser.matches.ArgMatches.{ArgMatches}
 use Rattle.pit_step.specs.declared.input.Input.{Input}
-use Rattle.pit_step.specs.declared.input.Input.TheVariants.{Model, Precedence, Solution, Script, History}
+use Rattle.pit_step.specs.declared.input.Input.TheVariants.{Model, Precedence, Solution, Script, History, Schedule}
 use Rattle.pit_step.specs.declared.status.Status.{Status}
 use Rattle.pit_step.specs.declared.fault.CliFault.{CliFault}
 use Rattle.pit_step.specs.Steps.{Step, in_turn, judge_step, run_step, IsResultOf}
@@ -10,8 +10,9 @@ use Rattle.pit_step.specs.Devices.{Reading, Writing}
 use Rattle.pit_view.specs.Value.{value_run}
 use Rattle.pit_view.specs.Check.{check_run}
 use Rattle.pit_view.specs.Replay.{replay_run}
+use Rattle.pit_all.specs.CheckAll.{check_all_run}
 use Rattle.pit.specs.declared.engine.Engine.{Engine}
-use Rattle.pit.specs.declared.engine.Engine.TheVariants.{Value, Check, Plan, Replay}
+use Rattle.pit.specs.declared.engine.Engine.TheVariants.{Value, Check, CheckAll, Plan, Replay}
 use Rattle.pit.specs.Asked.{path_of, history_path, IsRetries}
 use Rattle.pit.specs.Files.{open_each}
 use Rattle.pit.specs.PlanRun.{plan_files_run}
@@ -32,15 +33,17 @@ history_opens keeps_at given = option_and_then keeps_at (history_path given)
 abbrev pub inputs_of : Engine → List Input
 inputs_of Value = Model ∷ Solution ∷ []
 inputs_of Check = Model ∷ Precedence ∷ Solution ∷ []
+inputs_of CheckAll = Model ∷ Precedence ∷ Schedule ∷ []
 inputs_of Plan = Model ∷ Precedence ∷ Script 1 ∷ []
 inputs_of Replay = Model ∷ Precedence ∷ History ∷ []
 
 -- ---- runs
 
--- `value`, `check` or `replay` on the files of its inputs
+-- an engine other than `plan` on the files of its inputs
 abbrev pub files_run : Engine → Writing → List Reading → Step CliFault (Unit {0}) Status
 files_run Value out (model ∷ solution ∷ []) = value_run model solution out
 files_run Check out (model ∷ precedence ∷ solution ∷ []) = check_run model precedence solution out
+files_run CheckAll out (model ∷ precedence ∷ schedule ∷ []) = check_all_run model precedence schedule out
 files_run Replay out (model ∷ precedence ∷ history ∷ []) = replay_run model precedence history out
 files_run engine out readings = judge_step (λ _ status. ⊥) (λ _ fault. ⊥)
 

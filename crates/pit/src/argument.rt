@@ -1,7 +1,7 @@
 //! The arguments of the command line, by the inputs and the output whose paths they are.
 ghost use Rattle.std.specs.Prelude.{◌≡◌, ◌≤◌, length, option_map, slice_get};
 ghost use Rattle.pit_job.specs.declared.planner_run.TheConstants.{RETRIES_MAX};
-ghost use Rattle.pit.specs.Asked.{argument_of, path_of, scripts_of, history_path, retries_in, IsRetries};
+ghost use Rattle.pit.specs.Asked.{argument_of, path_of, scripts_of, history_path, retries_in, IsRetries, IsAllAsked};
 
 use clap::ArgMatches;
 use pit_cli::Input;
@@ -12,6 +12,9 @@ pub const RETRIES: &str = "retries";
 
 /// The name of the option for the file of the history.
 pub const HISTORY: &str = "history";
+
+/// The name of the flag that asks `check` for all that is wrong.
+pub const ALL: &str = "all";
 
 /// The number of retries where the words give none.
 const RETRIES_UNSAID: u32 = 3;
@@ -28,6 +31,9 @@ pub fn argument_of<'a>(input: Input) -> &'a str
         Input::Solution => "SOLUTION",
         Input::Script(_) => "SCRIPT",
         Input::History => "HISTORY",
+        Input::Schedule => "SOLUTION",
+        Input::Old => "OLD",
+        Input::New => "NEW",
     }
 }
 
@@ -70,6 +76,13 @@ pub fn history_path<'a>(given: &ArgMatches<'a>) -> Option<&'a str>
     ensures { option_map (λ path. path.now) result ≡ history_path given.now }
 {
     given.get_str(HISTORY)
+}
+
+/// Whether the words ask for all that is wrong.
+pub fn asks_all(given: &ArgMatches<'_>) -> bool
+    ensures { IsAllAsked given.now result }
+{
+    given.get_flag(ALL)
 }
 
 /// The number of retries that the words give, no more than there may be; or 3.

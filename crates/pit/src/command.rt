@@ -6,11 +6,11 @@ ghost use Rattle.clap.specs.Matches.{found_of};
 ghost use Rattle.clap.specs.Kinds.{FailsBy};
 ghost use Rattle.clap.specs.Faults.{fault_of};
 ghost use Rattle.clap.specs.declared.builder.command.Command.TheViews.{out-Command as fields_of};
-ghost use Rattle.pit.specs.Command.{AsksAll, app_with, pit_app, value_shape, check_shape, plan_files_shape, plan_shape, replay_shape, file_rule, option_rule, history_rule, retries_rule, scripts_rule, IsSubcommand};
+ghost use Rattle.pit.specs.Command.{AsksAll, app_with, pit_app, value_shape, check_flags_shape, check_shape, plan_files_shape, plan_shape, replay_shape, all_rule, file_rule, option_rule, history_rule, retries_rule, scripts_rule, IsSubcommand};
 ghost use Rattle.clap.specs.Values.{kind_of};
 ghost use Rattle.clap.specs.declared.error.kind.ErrorKind.TheVariants.{OutOfMemory};
 
-use crate::argument::{HISTORY, RETRIES, argument_of};
+use crate::argument::{ALL, HISTORY, RETRIES, argument_of};
 use crate::engine::{CHECK, PLAN, REPLAY, VALUE};
 use crate::fault::Fault;
 use clap::error::ErrorKind;
@@ -49,12 +49,18 @@ Prints `value V`; then the first breach, if there is one: `precedence BLOCK PRED
 lower limit; and `fine` where there was neither. Blocks, periods and resources are numbered from 0;
 a DESTINATION is 0, and a PART is 0 or 1. docs/FORMATS.md has every form and fault line.
 
+With --all it prints each pair that is out of order, with the period of the block and that of its
+predecessor (`precedence BLOCK PREDECESSOR T S`, the first 1,000 and then `more N`), and each load
+over its limit; and last, where it isn't `fine`, `broken N over N short N`. The limits of a history
+are those that it revised.
+
 Status: 0 where it printed `fine`, 1 where it printed a breach or a shortfall, 2 where an input or
 the command line is refused, 3 where memory or a device is wanting. Of 2 and 3 a line on standard
 error says why.
 
-Example:
-  pit check tiny.cpit tiny.prec tiny.sol";
+Examples:
+  pit check tiny.cpit tiny.prec tiny.sol
+  pit check --all tiny.cpit tiny.prec tiny.history";
 
 const PLAN_NOTES: &str = "\
 Each planner does the jobs of its script in a thread of its own, all on one schedule. A job is lines
@@ -151,12 +157,20 @@ fn value_command<'a>(alloc: Global) -> Result<Command<'a>, AllocError>
         .arg(file(alloc, Input::Solution))
 }
 
-fn check_command<'a>(alloc: Global) -> Result<Command<'a>, AllocError>
-    ensures { IfOk result (IsSubcommand check_shape) }
+/// `check`, with its flag.
+fn check_flags<'a>(alloc: Global) -> Result<Command<'a>, AllocError>
+    ensures { IfOk result (IsSubcommand check_flags_shape) }
 {
     Command::new(alloc, CHECK)
         .about("Prints the value of a solution, its first breach and its shortfalls")
         .after_help(CHECK_NOTES)
+        .arg(all(alloc))
+}
+
+fn check_command<'a>(alloc: Global) -> Result<Command<'a>, AllocError>
+    ensures { IfOk result (IsSubcommand check_shape) }
+{
+    check_flags(alloc)?
         .arg(file(alloc, Input::Model))?
         .arg(file(alloc, Input::Precedence))?
         .arg(file(alloc, Input::Solution))
@@ -227,6 +241,17 @@ fn history<'a>(alloc: Global) -> Arg<'a>
         .help("Where the history is written, a line of JSON for each ending; `replay` reads it")
 }
 
+/// The flag that asks for all that is wrong.
+fn all<'a>(alloc: Global) -> Arg<'a>
+    ensures rule { rule_of result ≡ all_rule }
+    ensures local { result.global ≡ false }
+{
+    Arg::new(alloc, ALL)
+        .long(ALL)
+        .action(ArgAction::SetTrue)
+        .help("Prints all that is wrong; SOLUTION may then be a history, too")
+}
+
 /// The option for the number of retries.
 fn retries<'a>(alloc: Global) -> Arg<'a>
     ensures rule { rule_of result ≡ retries_rule }
@@ -268,6 +293,9 @@ fn help_of<'a>(input: Input) -> &'a str {
         Input::Start => "A solution that the schedule begins with; without it no block is mined",
         Input::Script(_) => "A script of jobs for each planner, 1 to 64 of them",
         Input::History => "The history: the lines of JSON that `plan --history` wrote",
+        Input::Schedule | Input::Old | Input::New => {
+            "A solution, or a history that `plan --history` wrote"
+        }
         Input::Solution => {
             "The solution: `BLOCK PERIOD` or `BLOCK DESTINATION PERIOD PART` for a mined block"
         }

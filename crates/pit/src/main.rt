@@ -23,7 +23,7 @@ use std::sync::Wait;
 use std::thread::Threads;
 
 fn main(rt: HostRuntime) -> ExitCode {
-    let _held = streams::hold(&rt);
+    let _places = streams::hold(&rt);
     let answer = answer(&rt, &rt);
     ending::ended(&rt, answer)
 }

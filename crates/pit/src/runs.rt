@@ -2,7 +2,7 @@
 ghost use Rattle.std.specs.Prelude.{◌≡◌};
 ghost use Rattle.pit_step.specs.Steps.{IsResultOf};
 ghost use Rattle.pit_step.specs.Devices.{writing_of};
-ghost use Rattle.pit.specs.declared.engine.Engine.TheVariants.{Value as value_engine, Check as check_engine, Replay as replay_engine};
+ghost use Rattle.pit.specs.declared.engine.Engine.TheVariants.{Value as value_engine, Check as check_engine, CheckAll as check_all_engine, Replay as replay_engine};
 ghost use Rattle.pit.specs.Runs.{file_bytes, file_opens, history_opens, IsRunOf, IsPlanRun, engine_run};
 
 use crate::argument::retries_of;
@@ -10,7 +10,7 @@ use crate::engine::Engine;
 use crate::files::{Disk, history_file, opened};
 use crate::plan_files::plan_input;
 use clap::ArgMatches;
-use pit_cli::{CliFault, Input, Status, check, plan, replay, value};
+use pit_cli::{CliFault, Input, Status, check, check_all, plan, replay, value};
 use pit_num::Sink;
 use std::alloc::Global;
 use std::sync::Wait;
@@ -36,6 +36,7 @@ pub fn run<D: Disk, R: Threads + Wait + Sync, W: Sink, L: Sink>(
     match engine {
         Engine::Value => run_value(alloc, disk, given, out),
         Engine::Check => run_check(alloc, disk, given, out),
+        Engine::CheckAll => run_check_all(alloc, disk, given, out),
         Engine::Plan => run_plan(rt, alloc, disk, given, out, report),
         Engine::Replay => run_replay(alloc, disk, given, out),
     }
@@ -72,6 +73,30 @@ fn run_check<D: Disk, W: Sink>(
     let mut precedence = opened(disk, given, Input::Precedence)?;
     let mut solution = opened(disk, given, Input::Solution)?;
     check(alloc, &mut model, &mut precedence, &mut solution, out)
+}
+
+fn run_check_all<D: Disk, W: Sink>(
+    alloc: Global,
+    disk: &D,
+    given: &ArgMatches<'_>,
+    out: &mut W,
+) -> Result<Status, CliFault>
+    ensures { let opens = file_opens (D.opens_at disk.now) given.now in
+        let holds = file_bytes (D.bytes_at disk.now) given.now in
+        let written = writing_of (W.contents out.old) (W.contents out.new) (W.has_failed out.new) in
+        IsResultOf (engine_run check_all_engine opens holds written (out.new ≡ out.old)) tt result }
+{
+    let mut model = opened(disk, given, Input::Model)?;
+    let mut precedence = opened(disk, given, Input::Precedence)?;
+    let mut schedule = opened(disk, given, Input::Schedule)?;
+    check_all(
+        alloc,
+        alloc,
+        &mut model,
+        &mut precedence,
+        &mut schedule,
+        out,
+    )
 }
 
 fn run_replay<D: Disk, W: Sink>(

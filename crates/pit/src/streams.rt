@@ -4,12 +4,12 @@ use std::os::fd::AsRawFd;
 
 /// Files that hold the places of streams that were closed.
 #[derive(Drop)]
-pub struct Held(Option<File>, Option<File>, Option<File>);
+pub struct Places(Option<File>, Option<File>, Option<File>);
 
 /// Holds the place of each standard stream that is closed, so that no file that is opened takes it: what is written to that stream fails, and goes
 /// into no file.
-pub fn hold(rt: &HostRuntime) -> Held {
-    Held(low(rt), low(rt), low(rt))
+pub fn hold(rt: &HostRuntime) -> Places {
+    Places(low(rt), low(rt), low(rt))
 }
 
 /// A folder, which can't be written to, in the place of a stream.

@@ -20,8 +20,7 @@ use Rattle.pit_cli.proofs.OneOutcome.{given_written, stopped_written}
 judged_stands : (texts : Texts) (setup : Setup) → (plan_judged texts).Gives tt setup → (texts_judged texts).Gives tt setup × IsGoodStart (pit_in setup) (start_in setup)
 judged_stands texts setup (first, stands, (next, good, count)) =
     let stood : (texts_judged texts).Gives tt next = subst (λ (s : Setup). (texts_judged texts).Gives tt s) (sym good.0) stands in
-    let start : IsGoodStart (pit_in next) (start_in next) = subst (λ (s : Setup). IsGoodStart (pit_in s) (start_in s)) (sym good.0) good.1 in
-    (
+    let start : IsGoodStart (pit_in next) (start_in next) = subst (λ (s : Setup). IsGoodStart (pit_in s) (start_in s)) (sym good.0) good.1 in (
       subst (λ (s : Setup). (texts_judged texts).Gives tt s) (sym count.0) stood,
       subst (λ (s : Setup). IsGoodStart (pit_in s) (start_in s)) (sym count.0) start,
     )

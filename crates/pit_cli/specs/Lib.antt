@@ -13,3 +13,8 @@ pub use Rattle.pit_view.specs.CheckText
 pub use Rattle.pit_view.specs.Value
 pub use Rattle.pit_view.specs.Check
 pub use Rattle.pit_view.specs.Replay
+pub use Rattle.pit_state.specs.States
+pub use Rattle.pit_state.specs.Views
+pub use Rattle.pit_all.specs.Breaches
+pub use Rattle.pit_all.specs.AllText
+pub use Rattle.pit_all.specs.CheckAll

@@ -17,6 +17,7 @@ mod texts;
 
 pub use engine::plan;
 pub use outcome::{one_closed_history, one_outcome};
+pub use pit_all::check_all;
 pub use pit_step::{
     BreachLine, CliFault, INPUT_BYTES_MAX, Input, ReadError, Status, bytes_of, read_all,
 };

@@ -79,7 +79,16 @@ fn run_on<R: Threads + Wait + Sync, A: Allocator + Copy + Drop + Send + Sync>(
     let Ok(planners) = u32::try_from(scripts.len()) else {
         return Err(CliFault::PlannerCount);
     };
-    run_in::<Brand, _, _, _>(rt, rt, alloc, desk, planners, Blank::new(), scripts, retries)
+    run_in::<Brand, _, _, _>(
+        rt,
+        rt,
+        alloc,
+        desk,
+        planners,
+        Blank::new(),
+        scripts,
+        retries,
+    )
 }
 
 /// The same under a session's name. `own` is the handle that the board's writer keeps.

@@ -1,4 +1,3 @@
 -- Definitions that no public contract cites.
 pub mod Calls
 pub mod Least
-pub mod Legal

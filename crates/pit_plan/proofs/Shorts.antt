@@ -35,7 +35,7 @@ rest-nil : {X : Type 0} (xs ys : List X) → xs ++ ys ≡ [] → ys ≡ []
 rest-nil [] ys none = none
 rest-nil (x ∷ xs) ys none = cc
 
-flat_map-none : {X : Type 0} (f : ℕ → List X) (a n k : ℕ) → flat_map f (range_with_len a n) ≡ [] → a ≤ k → k < a + n → f k ≡ []
+pub flat_map-none : {X : Type 0} (f : ℕ → List X) (a n k : ℕ) → flat_map f (range_with_len a n) ≡ [] → a ≤ k → k < a + n → f k ≡ []
 flat_map-none f a zero k none low high = absurd (omega arith)
 flat_map-none f a (suc n) k none low high =
     elim (eqb_tells k a) [

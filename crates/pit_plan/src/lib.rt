@@ -21,5 +21,6 @@ mod writes;
 pub use breach::Breach;
 pub use laws::{commits_follow, one_breach};
 pub use plan::{COMMITS_MAX, Plan};
+pub use schedule::keeps_order;
 pub use short::Short;
 pub use writes::writes_of;

@@ -81,7 +81,7 @@ pub(crate) fn first_late<S: Schedule>(
 }
 
 /// Whether a block of the one period may stand after a block of the other.
-pub(crate) fn keeps_order(later: Option<u32>, before: Option<u32>) -> bool
+pub fn keeps_order(later: Option<u32>, before: Option<u32>) -> bool
     ensures { result ≡ in_order later before }
 {
     match (later, before) {

@@ -6,4 +6,5 @@ pub use Rattle.pit_step.proofs.Determined.{IsDetermined, IsDecided, HasSome, Fai
 pub use Rattle.pit_step.proofs.Each.{each-goes_on, each-stops}
 pub use Rattle.pit_step.proofs.DeterminedSteps.{IsSeen, IsOfInputs, never_two, inputs-seen, IsOneText, IsDecidedText, text-decided, judge-decided, input-determined, write-determined, write-shown, write-never_both}
 pub use Rattle.pit_step.proofs.DeterminedInputs.{model_text, order_text, places_text, solution_text, model-determined, ordered_pit-determined}
+pub use Rattle.pit_step.proofs.DeterminedHistory.{IsOneHistory, IsNeverBad, IsOneFault, history_text}
 pub use Rattle.pit_step.proofs.Stops.{made, model-stop, order-stop, solution-stop}

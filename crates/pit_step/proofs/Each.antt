@@ -43,4 +43,3 @@ module _ {F A B : Type 0} (step : ℕ → A → Step F (Unit {0}) B) where
     each-stops fault left fails =
         subst (λ (items : List A). (each step 1 items).Fails tt fault) split
         (each_fail 1 (take i (map f xs)) values (f x) (drop (suc i) (map f xs)) fault left so (subst (λ (n : ℕ). (step (n + 1) (f x)).Fails tt fault) (sym front) fails))
-

@@ -5,5 +5,6 @@ pub mod Determined
 pub mod Each
 pub mod DeterminedSteps
 pub mod DeterminedInputs
+pub mod DeterminedHistory
 pub mod Stops
 pub mod CallerLemmas

@@ -13,7 +13,10 @@ impl fmt::Display for BreachLine {
     ghost output = { λ _. None };
 
     fn fmt<W: fmt::Write>(&self, f: &mut fmt::Formatter<W>) -> fmt::Result {
-        let mut shown = Shown { f, has_failed: false };
+        let mut shown = Shown {
+            f,
+            has_failed: false,
+        };
         match write_breach_words(&mut shown, self.0) {
             Ok(()) => Ok(()),
             Err(_) => Err(fmt::Error),

@@ -12,31 +12,22 @@ use thiserror::Error;
 pub enum CliFault {
     /// The first fault of the text of an input other than a script or a history, which is never want of memory.
     #[error("pit: {file} {error}")]
-    Text {
-        file: Input,
-        error: TextError,
-    },
+    Text { file: Input, error: TextError },
     /// The first fault of a script, by its number, counted from 1.
     #[error("pit: script {number} {error}")]
-    Script {
-        number: u64,
-        error: ScriptError,
-    },
+    Script { number: u64, error: ScriptError },
     /// The first fault of the text of a history.
     #[error("pit: {file} {error}")]
-    Lines {
-        file: Input,
-        error: LinesError,
-    },
+    Lines { file: Input, error: LinesError },
+    /// The first entry of a history, by its place, counted from 1, that doesn't fit the pit.
+    #[error("pit: {file}: illegal {place}")]
+    Illegal { file: Input, place: u32 },
     /// More than `INPUT_BYTES_MAX` bytes came.
     #[error("pit: {0}: too long")]
     TooLong(Input),
     /// The least period, and in it the least resource, whose upper limit is below zero, so that the empty schedule is above it.
     #[error("pit: model: upper limit below zero {resource} {period}")]
-    LimitBelowZero {
-        resource: u32,
-        period: u32,
-    },
+    LimitBelowZero { resource: u32, period: u32 },
     /// The first breach of the start.
     #[error("pit: start: {0}")]
     Start(BreachLine),

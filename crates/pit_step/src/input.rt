@@ -11,6 +11,12 @@ pub enum Input {
     /// By its number, counted from 1.
     Script(u64),
     History,
+    /// Of a view: a solution or a history.
+    Schedule,
+    /// The earlier of two schedules that are compared.
+    Old,
+    /// The later one.
+    New,
 }
 
 impl fmt::Display for Input {
@@ -28,6 +34,9 @@ impl fmt::Display for Input {
             Input::Solution => write!(f, "solution"),
             Input::Script(number) => write!(f, "script {number}"),
             Input::History => write!(f, "history"),
+            Input::Schedule => write!(f, "schedule"),
+            Input::Old => write!(f, "old"),
+            Input::New => write!(f, "new"),
         }
     }
 }

@@ -11,10 +11,11 @@ mod breach_line;
 mod fault;
 mod input;
 mod lines;
-mod text;
 mod parsed;
+mod plans;
 mod read;
 mod status;
+mod text;
 mod value_text;
 
 pub use answer::write_answer;
@@ -22,11 +23,12 @@ pub use breach_line::BreachLine;
 pub use fault::CliFault;
 pub use input::Input;
 pub use lines::{write_breach, write_breach_words, write_shorts};
-pub use text::{Text, empty_text, gathered};
 pub use parsed::{
     builder_of, built, bytes_of, history_of, ordered, placed, read_builder, read_history,
     read_ordered_pit, read_schedule, schedule_of,
 };
+pub use plans::planned;
 pub use read::{INPUT_BYTES_MAX, ReadError, read_all};
 pub use status::Status;
+pub use text::{Text, empty_text, gathered};
 pub use value_text::{write_line, write_value_lines};

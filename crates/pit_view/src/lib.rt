@@ -9,7 +9,6 @@ mod audited;
 mod check_text;
 mod engines;
 mod outcome;
-mod planned;
 
 pub use engines::check::check;
 pub use engines::replay::replay;

@@ -387,7 +387,16 @@ fn a_bench_is_put(rt: HostRuntime) {
     let report = alone(&rt, rt.alloc(), BENCH);
     let first = report.closed.desk().history().first();
     assert!(rt; first.is_some_and(|entry| entry.writes.items() == BENCH_WRITES));
+    assert_load(&rt, &report, 3_000_000);
     drop(report);
+}
+
+/// The load of the first period, in millionths.
+fn assert_load(rt: &impl Abort, report: &Report<Global>, load: i128) {
+    let plan = report.closed.desk().plan();
+    assert!(rt; plan.instance().resources() > 0);
+    assert!(rt; plan.instance().periods() > 0);
+    assert!(rt; plan.load(0, 0) == load);
 }
 
 const BENCH_WRITES: Pairs = &[(0, Some(0)), (3, Some(0))];

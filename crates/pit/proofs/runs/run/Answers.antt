@@ -7,6 +7,9 @@ returns-in-Value g c = rw c.in-Value.is (record { runs = c.run_value.ensures; qu
 pub returns-in-Check : goal.returns-in-Check
 returns-in-Check g c = rw c.in-Check.is (record { runs = c.run_check.ensures; quiet = refl })
 
+pub returns-in-CheckAll : goal.returns-in-CheckAll
+returns-in-CheckAll g c = rw c.in-CheckAll.is (record { runs = c.run_check_all.ensures; quiet = refl })
+
 pub returns-in-Plan : goal.returns-in-Plan
 returns-in-Plan g c = rw c.in-Plan.is c.run_plan.ensures
 

@@ -22,8 +22,7 @@ loop-i-preserved g c =
     let script = c.in_ok-script.script in
     let more = each-goes_on (script_judged pit) (λ bytes. bytes.items) c.args.texts.now c.loop-i.i c.index-texts-i.result c.loop-i-test.true c.index-texts-i.is _ c.loop-i.invariant.0
     script.jobs (subst (λ (xs : List ℕ). IsScriptOf pit xs script.jobs) c.deref.ensures.value c.in_ok-script.ensures.result) in
-    let same = c.in_ok-push_script.ensures.ok in
-    (
+    let same = c.in_ok-push_script.ensures.ok in (
       subst (λ (xs : List (List Job)). (each (script_judged pit) 1 (take (c.loop-i.i + 1) all)).Gives tt xs) (sym (ap (λ xs. map (λ s. s.jobs) xs) same ∙ map_push (λ s. s.jobs) c.loop-i.scripts.items script)) more,
       subst (λ xs. All (λ s. s.pit ≡ pit) xs) (sym same) (All-push (λ s. s.pit ≡ pit) c.loop-i.scripts.items script c.loop-i.invariant.1 c.in_ok-script.ensures.pit),
     )

@@ -12,13 +12,27 @@ returns-in-Err-start_of-clause-result g c =
 pub returns-in-Err-scripts_of-clause-result : goal.returns-in-Err-scripts_of-clause-result
 returns-in-Err-scripts_of-clause-result g c =
     let fault = c.in-Err-scripts_of.fault in
-    rw (← c.input.view_is) (inr (c.in-Ok.pit, c.in-Ok.ensures, inr ((c.in-Ok.pit, c.in-Ok-start_of.start.items), (refl, c.in-Ok-start_of.ensures.result),
-    subst (λ xs. (scripts_judged (map (λ bytes. bytes.items) xs) c.in-Ok.pit).Fails tt fault) c.deref.ensures.value c.in-Err-scripts_of.ensures.result)))
+    rw (← c.input.view_is) (inr (
+      c.in-Ok.pit,
+      c.in-Ok.ensures,
+      inr (
+        (c.in-Ok.pit, c.in-Ok-start_of.start.items),
+        (refl, c.in-Ok-start_of.ensures.result),
+        subst (λ xs. (scripts_judged (map (λ bytes. bytes.items) xs) c.in-Ok.pit).Fails tt fault) c.deref.ensures.value c.in-Err-scripts_of.ensures.result,
+      ),
+    ))
 
 pub returns-clause-result : goal.returns-clause-result
 returns-clause-result g c =
     let pit = c.in-Ok.pit in
     let start = c.in-Ok-start_of.start.items in
     let jobs = map (λ script. script.jobs) c.in-Ok-scripts_of.scripts.items in
-    rw (← c.input.view_is) (pit, c.in-Ok.ensures, ((pit, start), (refl, c.in-Ok-start_of.ensures.result),
-    (refl, subst (λ xs. (scripts_judged (map (λ bytes. bytes.items) xs) pit).Gives tt jobs) c.deref.ensures.value c.in-Ok-scripts_of.ensures.result)))
+    rw (← c.input.view_is) (
+      pit,
+      c.in-Ok.ensures,
+      (
+        (pit, start),
+        (refl, c.in-Ok-start_of.ensures.result),
+        (refl, subst (λ xs. (scripts_judged (map (λ bytes. bytes.items) xs) pit).Gives tt jobs) c.deref.ensures.value c.in-Ok-scripts_of.ensures.result),
+      ),
+    )

@@ -2,11 +2,11 @@
 use super::device;
 use super::runs::Run;
 use pit_model::Instance;
-use pit_num::Sink;
+use pit_num::{NoMemory, Sink, WriteFault, write_text};
 use pit_sample::TINY_BLOCKS;
 use pit_step::{
-    CliFault, Input, Status, builder_of, built, bytes_of, ordered, placed, schedule_of, with_value,
-    write_answer,
+    CliFault, Input, Status, builder_of, built, bytes_of, empty_text, gathered, ordered, placed,
+    schedule_of, write_answer, write_value_lines,
 };
 use std::alloc::Allocator;
 
@@ -21,12 +21,9 @@ pub(super) fn stepped<A: Allocator + Copy + Drop, W: Sink>(
     out: &mut W,
 ) -> Result<Status, CliFault> {
     let pit = parsed(alloc, run)?;
-    let answer = told(alloc, run, &pit);
+    let answer = answer_of(alloc, run, &pit);
     drop(pit);
     let (text, status) = answer?;
-    if text.is_empty() {
-        return Ok(Status::Failed);
-    }
     write_answer(out, &text, status)
 }
 
@@ -40,22 +37,28 @@ fn parsed<A: Allocator + Copy + Drop>(alloc: A, run: Run<'_>) -> Result<Instance
 }
 
 /// The text that is to be written, and the status that goes with it.
-fn told<A: Allocator + Copy + Drop>(
+fn answer_of<A: Allocator + Copy + Drop>(
     alloc: A,
     run: Run<'_>,
     pit: &Instance<A>,
 ) -> Result<(Vec<u8, A>, Status), CliFault> {
     let start = bytes_of(alloc, &mut device(run.solution), Input::Start)?;
-    match status_of(alloc, &start, pit) {
-        Ok(status) => match with_value(start, VALUE, &[]) {
-            Ok(text) => Ok((text, status)),
-            Err(_) => Err(CliFault::NoMemory),
-        },
-        Err(fault) => {
-            drop(start);
-            Err(fault)
-        }
+    let status = status_of(alloc, &start, pit)?;
+    match text_of(alloc, &start) {
+        Ok(text) => Ok((text, status)),
+        Err(_) => Err(CliFault::NoMemory),
     }
+}
+
+fn text_of<A: Allocator + Copy + Drop>(alloc: A, start: &[u8]) -> Result<Vec<u8, A>, NoMemory> {
+    let mut text = empty_text(alloc);
+    let written = write_lines(&mut text, start);
+    gathered(text, written)
+}
+
+fn write_lines<W: Sink>(w: &mut W, start: &[u8]) -> Result<(), WriteFault> {
+    write_text(w, start)?;
+    write_value_lines(w, VALUE, &[])
 }
 
 /// `Fine` where the start and the pit say what the texts of the small pit say.

@@ -1,5 +1,5 @@
 use Rattle.std.proofs.Common.{[]}
-use Rattle.pit_view.proofs.planned.applied.Goals as goal
+use Rattle.pit_step.proofs.plans.applied.Goals as goal
 
 pub apply-requires-clause-writes : goal.apply-requires-clause-writes
 apply-requires-clause-writes g c = c.requires.fits

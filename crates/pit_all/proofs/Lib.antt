@@ -1,0 +1,7 @@
+pub mod Pieces
+pub mod Counted
+pub mod Rising
+pub mod First
+pub mod FirstBreach
+pub mod Found
+pub mod Outcome

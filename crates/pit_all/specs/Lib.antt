@@ -1,0 +1,4 @@
+pub mod Breaches
+pub mod Outs
+pub mod AllText
+pub mod CheckAll

@@ -1,0 +1,10 @@
+/// A block and its predecessor that are out of order, each with its period.
+#[derive(Clone, Copy, Debug, PartialEq, Eq)]
+pub struct OutOfOrder {
+    pub block: u32,
+    pub before: u32,
+    /// The period of the block.
+    pub period: Option<u32>,
+    /// The period of its predecessor, or none.
+    pub earlier: Option<u32>,
+}

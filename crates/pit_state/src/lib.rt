@@ -1,0 +1,13 @@
+//! A schedule as any of its texts tells it: a solution, or a history.
+//!
+//! Either stands for a list of commits, a solution for one at most, and a history for those of its entries that were answered Committed. Each
+//! entry of a history has to fit the pit, but no reply is looked at, so that a schedule can be read after its model was changed. `read_state`
+//! gives the plan that these commits leave; all that is told of a schedule is told of this plan.
+#![tactic(auto)]
+
+mod kind;
+mod parsed;
+mod planned;
+mod state;
+
+pub use state::read_state;
