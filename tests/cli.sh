@@ -130,6 +130,136 @@ check 'check --all, more than are shown' 1 "value 0.000000000000000000
 $(seq -f 'precedence 0 %g 0 -' 1 1000)
 more 2
 broken 1002 over 0 short 0" '' check --all wide below <(echo '0 0')
+# A million pairs of a mined block and one that isn't: few are kept, and none is lost.
+{
+    printf 'TYPE: CPIT\nNBLOCKS: 2000\nNPERIODS: 1\nNRESOURCE_SIDE_CONSTRAINTS: 0\nDISCOUNT_RATE: 0\n'
+} >square
+seq 1000 1999 | awk 'BEGIN { for (b = 0; b < 1000; b++) all = all " " b } { print $1, 1000 all }' >million
+check 'check --all, a million pairs' 1 "value 0.000000000000000000
+$(seq -f 'precedence 1000 %g 0 -' 0 999)
+more 999000
+broken 1000000 over 0 short 0" '' check --all square million <(seq -f '%g 0' 1000 1999)
+
+# Tables.
+readonly COLUMNS_OF_TINY='period,blocks,value,cumulative,load_0,lower_0,upper_0,room_0'
+check 'table' 0 "$COLUMNS_OF_TINY
+0,2,10.500000000000000000,10.500000000000000000,4.000000,,4.000000,0.000000
+1,1,27.272727272730000000,37.772727272730000000,3.000000,1.000000,4.000000,1.000000" '' table model solution
+check 'table, a history' 0 "$COLUMNS_OF_TINY
+0,3,15.500000000000000000,15.500000000000000000,5.000000,,5.000000,0.000000
+1,0,0.000000000000000000,15.500000000000000000,0.000000,1.000000,4.000000,4.000000" '' table model <(cat revised)
+check 'table, an entry of another pit' 2 '' 'pit: schedule: illegal 1' table model foreign
+check 'table, a bad model' 2 '' 'pit: model line 2: missing TYPE' table refused refused
+check 'table, a bad schedule' 2 '' 'pit: schedule line 1: bad number' table model refused
+check 'table, no schedule' 3 '' 'pit: cannot read schedule' table refused missing
+check 'table, a folder' 3 '' 'pit: cannot read schedule' table model folder
+
+# Differences.
+check 'diff' 1 'block 2 1 -
+block 3 - 0
+moves 1 - 1
+moves - 0 1
+limit 0 0 4.000000 5.000000
+load 0 0 4.000000 5.000000
+load 0 1 3.000000 0.000000
+value 37.772727272730000000 15.500000000000000000' '' diff model solution revised
+check 'diff, a limit alone' 1 'limit 0 0 5.000000 4.000000' '' diff model <(cat revised) <(cat loaded)
+check 'diff, nothing' 0 '' '' diff model solution solution
+check 'diff, the first fault' 2 '' 'pit: old line 1: bad number' diff model refused foreign
+check 'diff, the second fault' 2 '' 'pit: new: illegal 1' diff model solution foreign
+check 'diff, a bad model' 2 '' 'pit: model line 2: missing TYPE' diff refused refused foreign
+check 'diff, no file' 3 '' 'pit: cannot read old' diff refused missing missing
+check 'diff, no second schedule' 3 '' 'pit: cannot read new' diff refused refused missing
+check 'diff, folders' 3 '' 'pit: cannot read old' diff model folder folder
+
+# What there is in the files of a pit.
+readonly COUNTS='blocks 4
+periods 2
+resources 1
+rate 0.100000
+profits 4
+coefficients 4
+lower 1
+upper 2
+pairs 3
+roots 2
+highest 2'
+check 'info' 0 "$COUNTS" '' info model precedence
+check 'info, with places' 0 "$COUNTS
+places 4
+benches 3" '' info --blocks blocks model precedence
+sed 's/^NRESOURCE_SIDE_CONSTRAINTS: 1/NRESOURCE_SIDE_CONSTRAINTS: 2/; s/^OBJECTIVE_FUNCTION:/Objectivé:/; s/^0 0 L 4$/0 0 L -1/' model >misspelt
+check 'info, a section that is misspelt' 0 'blocks 4
+periods 2
+resources 2
+rate 0.100000
+profits 0
+coefficients 4
+lower 1
+upper 2
+pairs 0
+roots 4
+highest -
+unlimited 1
+unmeetable 0 0
+unknown 7 11 Objectiv??' '' info misspelt empty
+check 'info, a bad model' 2 '' 'pit: model line 2: missing TYPE' info refused refused --blocks refused
+check 'info, bad precedences' 2 '' 'pit: precedence line 1: bad number' info model refused --blocks refused
+check 'info, bad blocks' 2 '' 'pit: blocks line 1: field count' info model precedence --blocks refused
+check 'info, no file' 3 '' 'pit: cannot read model' info missing missing --blocks missing
+check 'info, no blocks' 3 '' 'pit: cannot read blocks' info refused refused --blocks missing
+check 'info, a folder' 3 '' 'pit: cannot read precedence' info model folder
+
+# Schedules that are shown.
+check 'show, a solution' 0 '0 0
+1 0
+2 1' '' show model solution
+check 'show, a solution of other lines' 0 '0 0
+2 1' '' show model <(printf '2 0 1 1\n%% x\n0 0 0 1.0\n1 0 0 0\n')
+check 'show, a solution before its commit' 0 '' '' show --at 0 model solution
+check 'show, past a solution' 2 '' 'pit: at: 1 commits' show model solution --at 2
+readonly SUM_OF_REVISED="$(tail -n +2 revised | sha256sum | cut -d ' ' -f 1)"
+readonly SUM_OF_FIRST="$(sed -n 2p revised | sha256sum | cut -d ' ' -f 1)"
+check 'show, a history' 0 "% commits 2 sum $SUM_OF_REVISED
+0 0
+1 0
+3 0" '' show model <(cat revised)
+check 'show, a history up to a commit' 0 "% commits 1 sum $SUM_OF_FIRST
+0 0
+1 0" '' show --at=1 model revised
+check 'show, a history before its commits' 0 "% commits 0 sum $(sha256sum </dev/null | cut -d ' ' -f 1)" '' show model revised --at 0
+check 'show, past a history' 2 '' 'pit: at: 2 commits' show model revised --at 3
+check 'show, past any history' 2 '' 'pit: at: 2 commits' show model revised --at 4294967295
+check 'show, a number with a sign' 0 "% commits 1 sum $SUM_OF_FIRST
+0 0
+1 0" '' show model revised --at +1
+check 'show, a number that is too large' 2 '' "$SOME" show model revised --at 4294967296
+check 'show, no number' 2 '' "$SOME" show model revised --at -1
+check 'show, an entry of another pit' 2 '' 'pit: schedule: illegal 1' show model foreign --at 7
+check 'show, no schedule' 3 '' 'pit: cannot read schedule' show refused missing
+"$pit" show model revised 2>/dev/null | "$pit" diff model - revised >out 2>err
+status=$?
+compare 'a path is a path' 3 '' 'pit: cannot read old'
+"$pit" diff model <("$pit" show model revised) revised >out 2>err
+status=$?
+compare 'what is shown is the schedule, under the limits of the model' 1 'limit 0 0 4.000000 5.000000' ''
+# A history whose model has changed since: it can be looked at, though no longer replayed.
+sed 's/^3 5$/3 50/; s/^0 0 L 4$/0 0 L 3/' model >changed
+check 'replay, after the model was changed' 1 'illegal 1' '' replay changed precedence revised
+check 'check --all, after the model was changed' 1 'value 60.500000000000000000
+short 0 1 0.000000 1.000000
+broken 0 over 0 short 1' '' check --all changed precedence revised
+for command in 'table model' 'diff model solution' 'info model' 'show model'; do
+    last=revised
+    [ "$command" != 'info model' ] || last=precedence
+    "$pit" $command $last 2>err >/dev/full
+    status=$?
+    : >out
+    compare "$command to a full output" 3 '' 'pit: cannot write'
+    "$pit" $command $last 2>err >&-
+    status=$?
+    compare "$command to a closed output" 3 '' 'pit: cannot write'
+done
 check 'value' 0 "$VALUE" '' value model solution
 check 'value, files after --' 0 "$VALUE" '' value -- model solution
 
@@ -252,6 +382,10 @@ kept() {
 }
 check 'plan with a history' 0 "$PLANNED" "$REPORT" plan --history kept model precedence script
 kept 'the history' kept "$HISTORY"
+"$pit" show model kept >out 2>err
+status=$?
+sed -i 1d out
+compare 'show, the history of a plan is its solution behind the comment' 0 "$PLANNED" ''
 head -c 10000 /dev/zero | tr '\0' x >longer
 check 'plan with a history over a longer file' 0 "$PLANNED" "$REPORT" plan model precedence script --history=longer
 kept 'the longer file is cut' longer "$HISTORY"

@@ -56,7 +56,7 @@ has_sections() {
 # Each option, and each argument in angle brackets, of each subcommand's help.
 has_words() {
     local words command
-    for command in value check plan replay; do
+    for command in value check table diff info show plan replay; do
         ./pit "$command" --help | grep -oE -- '--[a-z]+|<[A-Z]+>' | sort -u >"$work/words"
         [ -s "$work/words" ] || return 1
         while read -r words; do
@@ -85,6 +85,7 @@ completes() {
 # shellcheck disable=SC1091
 source "$at/share/bash-completion/completions/pit"
 judge 'completes a subcommand' completes 'plan' pl
+judge 'completes a subcommand that looks at a schedule' completes 'table' ta
 judge 'completes an option' completes '--history' plan tiny.cpit --hi
 cp examples/tiny/tiny.* "$work"
 cd "$work" || exit 2

@@ -126,11 +126,22 @@ sed 's/,/, /g' history | head -3 >spaced
 each 'replay, white space' replay "$data/tiny.cpit" "$data/tiny.prec" spaced
 sed 's/"committed":2/"committed":3/' history >other
 each 'replay, another reply' replay "$data/tiny.cpit" "$data/tiny.prec" other
+each 'check --all' check --all "$data/tiny.cpit" "$data/tiny.prec" "$data/early.sol"
+each 'table, a history' table "$data/tiny.cpit" history
+each 'diff, a solution and a history' diff "$data/tiny.cpit" "$data/tiny.sol" history
+printf '0 0 0 2\n1 0 0 1\n2 0 0 0\n3 1 0 2\n' >blocks
+each 'info' info "$data/tiny.cpit" "$data/tiny.prec" --blocks blocks
+each 'show, a solution' show "$data/tiny.cpit" "$data/tiny.sol"
+each 'show, a history up to a commit' show "$data/tiny.cpit" history --at 1
 threads 4
 each 'help' --help
 each 'help on value' value --help
 each 'help value' help value
 each 'help check' help check
+each 'help table' help table
+each 'help diff' help diff
+each 'help info' help info
+each 'help show' help show
 each 'help plan' help plan
 each 'help replay' help replay
 each 'version' --version

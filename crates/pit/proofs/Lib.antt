@@ -1,5 +1,4 @@
-pub mod CommandLemmas
 pub mod PlanFiles
 pub mod History
-pub mod Retries
 pub mod EngineRuns
+pub mod InfoRun

@@ -1,5 +1,5 @@
 -- The files of inputs, one after the other.
-use Rattle.std.proofs.Common.{◌≡◌, ◌≢◌, ◌⊎◌, inl, inr, ℕ, zero, suc, ◌+◌, ◌<◌, ◌≤◌, List, [], ◌∷◌, ◌++◌, All, length, map, take, drop, slice_index_or, set, refl, ap, subst, sym, ◌∙◌, arith, Option, None, Some, Bool, if◌then◌else◌, is_some, option_map, false, true}
+use Rattle.std.proofs.Common.{◌≡◌, ◌≢◌, inl, inr, ℕ, zero, suc, ◌+◌, ◌<◌, ◌≤◌, List, [], ◌∷◌, ◌++◌, length, map, take, drop, slice_index_or, set, refl, ap, subst, sym, ◌∙◌, arith, Option, None, Some, Bool, if◌then◌else◌, is_some, option_map, false, true}
 use Rattle.std.specs.List.{range_with_len}
 use Rattle.std.proofs.lemmas.List.{take_more, get_or-map, get_or-drop, drop-drop, drop-set-lt, length-append, map_push}
 use Rattle.pit_step.specs.declared.input.Input.{Input}
@@ -11,7 +11,7 @@ use Rattle.pit_step.specs.Devices.{Reading}
 use Rattle.pit_step.specs.Steps.{in_turn, may_step, each}
 use Rattle.pit_step.proofs.CallerLemmas.{IsOfInputs, each-untouched, each-goes_on, each-stops}
 use Rattle.pit_cli.specs.Texts.{Texts}
-use Rattle.pit.specs.Asked.{path_of, scripts_of}
+use Rattle.pit_command.specs.Asked.{path_of, scripts_of}
 use Rattle.pit.specs.Files.{open_step, open_each}
 use Rattle.pit.specs.Inside.Files.{still}
 use Rattle.pit.specs.PlanRun.{plan_inputs, input_if, count_if, IsRead, IsUnread, read_step, read_each, AreInOrder, script_inputs, texts_step}

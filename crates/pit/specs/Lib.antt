@@ -1,7 +1,6 @@
-pub mod Asked
-pub mod Command
 pub mod Ending
 pub mod Files
 pub mod PlanRun
+pub mod Retries
 pub mod Runs
 pub mod Inside

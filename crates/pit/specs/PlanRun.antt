@@ -11,7 +11,7 @@ use Rattle.pit_step.specs.Devices.{Reading, Writing, IsWhole, IsInputFault}
 use Rattle.pit_step.specs.Steps.{Step, in_turn, beside, judge_step, may_step, run_step, each}
 use Rattle.pit_cli.specs.Texts.{Texts}
 use Rattle.pit_cli.specs.Output.{plan_run}
-use Rattle.pit.specs.Asked.{path_of, scripts_of, history_path}
+use Rattle.pit_command.specs.Asked.{path_of, scripts_of, history_path}
 use Rattle.pit.specs.Files.{open_each}
 
 -- an input that the words may leave out

@@ -1,21 +1,20 @@
 //! `pit` values, checks and edits open pit schedules: it opens the files that its words name, and calls an engine.
 #![tactic(auto)]
 
-mod argument;
-mod command;
 mod ending;
-mod engine;
 mod fault;
 mod files;
 mod kept;
 mod plan_files;
+mod retries;
 mod runs;
 mod streams;
+mod words;
 
 use clap::error::ErrorKind;
-use engine::asked;
 use fault::Fault;
 use pit_cli::Status;
+use pit_command::{asked, matched, refusal};
 use pit_num::Out;
 use runs::run;
 use std::process::ExitCode;
@@ -30,11 +29,11 @@ fn main(rt: HostRuntime) -> ExitCode {
 
 /// Reads the words of the command line, and does what they ask, with threads where it takes them.
 fn answer<R: Threads + Wait + Sync>(rt: &HostRuntime, threads: &R) -> Result<Status, Fault> {
-    let words = command::words(rt)?;
-    let matches = command::matched(rt.alloc(), words.as_slice())?;
+    let words = words::words(rt)?;
+    let matches = matched(rt.alloc(), words.as_slice())?;
     let Some((engine, given)) = asked(&matches) else {
-        let refusal = command::refusal(rt.alloc(), ErrorKind::MissingSubcommand);
-        return Err(Fault::from(refusal));
+        let refused = refusal(rt.alloc(), ErrorKind::MissingSubcommand);
+        return Err(Fault::from(refused));
     };
     let mut out = Out::new(rt.stdout());
     let mut report = Out::new(rt.stderr());

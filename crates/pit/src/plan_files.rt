@@ -8,10 +8,10 @@ ghost use Rattle.pit.specs.Runs.{file_bytes, file_opens};
 ghost use Rattle.pit.specs.Inside.Files.{still};
 ghost use Rattle.pit.specs.PlanRun.{plan_inputs, input_if, script_inputs, count_if, all_texts, read_each as reading_of_each, texts_step};
 
-use crate::argument::{path_of, script_count};
 use crate::files::{Disk, opened};
 use clap::ArgMatches;
 use pit_cli::{CliFault, Input, PlanInput, bytes_of};
+use pit_command::{path_of, script_count};
 use pit_num::In;
 use std::alloc::Global;
 use std::io::Read;

@@ -1,5 +1,5 @@
 -- What `check --all` prints, and the status that goes with it.
-use Rattle.std.specs.Prelude.{ℕ, ◌-◌, ◌==◌, ◌&&◌, nat_le, ℤ, Bool, List, [], ◌∷◌, ◌++◌, length, take, flat_map, Option, Some, None, codes, decimal, if◌then◌else◌}
+use Rattle.std.specs.Prelude.{ℕ, ◌-◌, ◌==◌, ◌&&◌, nat_le, ℤ, Bool, List, [], ◌∷◌, ◌++◌, length, take, flat_map, Some, codes, if◌then◌else◌}
 use Rattle.pit_model.specs.Pit.{Pit}
 use Rattle.pit_plan.specs.Schedule.{Commit, held_period, limit_of, value_of}
 use Rattle.pit_plan.specs.Shortfalls.{shortfalls_of}
@@ -7,17 +7,12 @@ use Rattle.pit_plan.specs.declared.breach.Breach.{Breach}
 use Rattle.pit_plan.specs.declared.short.Short.{Short}
 use Rattle.pit_step.specs.declared.status.Status.{Status}
 use Rattle.pit_step.specs.declared.status.Status.TheVariants.{Fine, Failed}
-use Rattle.pit_step.specs.LineTexts.{value_text, field_text, breach_text, shorts_text}
+use Rattle.pit_step.specs.LineTexts.{value_text, field_text, period_text, breach_text, shorts_text}
 use Rattle.pit_all.specs.declared.out_of_order.OutOfOrder.{OutOfOrder}
 use Rattle.pit_all.specs.declared.outs.TheConstants.{PAIRS_SHOWN}
 use Rattle.pit_all.specs.Breaches.{outs_of, overs_of}
 
 -- ---- lines
-
--- a period, or `-` where there is none, and what stands behind it
-abbrev pub period_text : Option ℕ → List ℕ → List ℕ
-period_text None end = 45 ∷ end
-period_text (Some t) end = decimal t ++ end
 
 -- `precedence B A T S`
 unfoldable pub out_text : OutOfOrder → List ℕ

@@ -1,14 +1,13 @@
 //! The lines of `check --all`.
-ghost use Rattle.std.specs.Prelude.{◌≡◌, ◌++◌, ◌∷◌, OnOk, decimal};
+ghost use Rattle.std.specs.Prelude.{◌≡◌, OnOk};
 ghost use Rattle.std.specs.Io.KnownBytes.{Appends};
-ghost use Rattle.pit_all.specs.AllText.{period_text, out_text, outs_text, more_text, overs_text, is_fine as fine_of, broken_text, end_text, listing_text, listing_status as status_by};
+ghost use Rattle.pit_all.specs.AllText.{out_text, outs_text, more_text, overs_text, is_fine as fine_of, broken_text, end_text, listing_text, listing_status as status_by};
 
 use crate::out_of_order::OutOfOrder;
 use crate::outs::{Outs, PAIRS_SHOWN};
-use itoa::Buffer;
 use pit_num::{Sink, WriteFault, write_text};
 use pit_plan::{Breach, Short};
-use pit_step::{Status, write_breach, write_line, write_shorts};
+use pit_step::{Status, write_breach, write_field, write_line, write_period, write_shorts};
 use std::alloc::Allocator;
 
 /// The value, the pairs that are shown and how many more there are, the loads above their limits, the shortfalls, and `fine`, or how many there
@@ -112,32 +111,4 @@ fn write_broken<W: Sink>(w: &mut W, broken: u64, over: u64, short: u64) -> Resul
     write_field(w, over, b" ")?;
     write_text(w, b"short ")?;
     write_field(w, short, b"\n")
-}
-
-/// A period, or `-` where there is none, and what stands behind it.
-fn write_period<W: Sink>(w: &mut W, period: Option<u32>, end: &[u8]) -> Result<(), WriteFault>
-    ensures { OnOk result (Appends (W.contents w.old) (W.contents w.new) (period_text period end.now)) }
-{
-    let Some(t) = period else {
-        return write_none(w, end);
-    };
-    write_field(w, u64::from(t), end)
-}
-
-fn write_none<W: Sink>(w: &mut W, end: &[u8]) -> Result<(), WriteFault>
-    ensures { OnOk result (Appends (W.contents w.old) (W.contents w.new) (45 ∷ end.now)) }
-{
-    write_text(w, b"-")?;
-    write_text(w, end)?;
-    Ok(())
-}
-
-/// A whole number, and what stands behind it.
-fn write_field<W: Sink>(w: &mut W, n: u64, end: &[u8]) -> Result<(), WriteFault>
-    ensures { OnOk result (Appends (W.contents w.old) (W.contents w.new) (decimal n ++ end.now)) }
-{
-    let mut buffer = Buffer::new();
-    write_text(w, buffer.format(n).as_bytes())?;
-    write_text(w, end)?;
-    Ok(())
 }

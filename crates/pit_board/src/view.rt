@@ -69,8 +69,7 @@ impl<S: Session, A: Allocator + Copy + Drop> View<S, A> {
         ensures lawful { AreLawful S.instance self.now.seen }
     {
         let front = &self.front;
-        // shows that what was seen is lawful
-        let _count = front.count();
+        front.shows_lawful();
         front
     }
 
@@ -115,8 +114,7 @@ impl<S: Session, A: Allocator + Copy + Drop> View<S, A> {
         ensures amount { self.new.amount ≡ self.old.amount }
     {
         let slot = self.look(block);
-        // shows that what was seen is lawful
-        let _count = self.front.count();
+        self.front.shows_lawful();
         slot
     }
 

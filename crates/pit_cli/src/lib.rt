@@ -18,9 +18,13 @@ mod texts;
 pub use engine::plan;
 pub use outcome::{one_closed_history, one_outcome};
 pub use pit_all::check_all;
+pub use pit_diff::diff;
+pub use pit_info::info;
+pub use pit_show::show;
 pub use pit_step::{
     BreachLine, CliFault, INPUT_BYTES_MAX, Input, ReadError, Status, bytes_of, read_all,
 };
+pub use pit_table::table;
 pub use pit_view::{check, replay, value};
 pub use plan_input::PlanInput;
 pub use report::write_report;

@@ -69,6 +69,13 @@ impl<A: Allocator + Copy + Drop> Instance<A> {
         self.blocks
     }
 
+    /// Shows that the pit is sound.
+    pub fn shows_sound(&self)
+        ensures { IsSound self.now }
+    {
+        let _ = &self.blocks;
+    }
+
     /// The number of periods; they are numbered from 0.
     pub fn periods(&self) -> u32
         ensures { result ≡ self.now.periods }
@@ -81,6 +88,13 @@ impl<A: Allocator + Copy + Drop> Instance<A> {
         ensures { result ≡ self.now.resources }
     {
         self.resources
+    }
+
+    /// The discount rate of a period, in millionths.
+    pub fn rate(&self) -> u32
+        ensures { result ≡ self.now.rate }
+    {
+        self.tables.discount.rate()
     }
 
     /// The profit of a block, in millionths; 0 where none was set.

@@ -38,6 +38,13 @@ impl<A: Allocator> Discount<A> {
         Ok(Discount { rate, factors })
     }
 
+    /// The rate, in millionths.
+    pub fn rate(&self) -> u32
+        ensures { result ≡ self.now.rate }
+    {
+        self.rate
+    }
+
     /// The factor of a period, in units of 10^-12. The first period's is one.
     #[inline]
     pub fn factor(&self, t: u32) -> i64

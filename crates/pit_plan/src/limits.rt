@@ -41,8 +41,7 @@ pub(crate) fn limits_of<A: Allocator + Copy + Drop>(
     ensures len { IfOk result (λ limits. length limits.items ≡ pit.now.periods * pit.now.resources) }
     ensures each { IfOk result (λ limits. (r t : ℕ) → r < pit.now.resources → t < pit.now.periods → at_cell pit.now (cell_limit limits.items) r t ≡ upper_of pit.now r t) }
 {
-    // shows that the pit is sound
-    let _blocks = pit.blocks();
+    pit.shows_sound();
     let cells = pit.periods() * pit.resources();
     let mut limits = Vec::with_capacity(alloc, cells as usize)?;
     for cell in 0..cells {

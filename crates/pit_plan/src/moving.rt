@@ -99,8 +99,7 @@ fn move_block<'a, A: Allocator + Copy + Drop>(
     requires moved { AreMoved pit.now tally.now (take k writes.now) loads.old.kept.now loads.old.pairs }
     ensures { OnOk result (AreMoved pit.now tally.now (take (k + 1) writes.now) loads.new.kept.now loads.new.pairs) }
 {
-    // shows that the pit is sound
-    let _blocks = pit.blocks();
+    pit.shows_sound();
     let (block, period) = writes[k];
     shift(pit, loads, block, tally.period(block), false)?;
     shift(pit, loads, block, period, true)?;

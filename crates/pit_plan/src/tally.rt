@@ -75,8 +75,7 @@ impl<A: Allocator + Copy + Drop> Tally<A> {
         ensures periods { self.new.periods ≡ slice_set self.old.periods b None }
         ensures tally { IsTally pit.now self.new }
     {
-        // shows that the pit is sound
-        let _blocks = pit.blocks();
+        pit.shows_sound();
         let old = self.periods[b as usize];
         self.periods[b as usize] = None;
         shift_kept(pit, &mut self.loads, b, old, false);
@@ -92,8 +91,7 @@ impl<A: Allocator + Copy + Drop> Tally<A> {
         ensures periods { self.new.periods ≡ slice_set self.old.periods b period }
         ensures tally { IsTally pit.now self.new }
     {
-        // shows that the pit is sound
-        let _blocks = pit.blocks();
+        pit.shows_sound();
         self.periods[b as usize] = period;
         shift_kept(pit, &mut self.loads, b, period, true);
         self.worth = plus(self.worth, earned(pit, b, period));

@@ -43,8 +43,7 @@ impl<'a, S: Session, R: Wait + Drop, A: Allocator + Copy + Drop> Planner<'a, S, 
         ensures number { result ≡ self.now.number }
         ensures lawful { AreLawful S.instance self.now.seen }
     {
-        // shows that what was seen is lawful
-        let _front = self.account.front();
+        self.account.front().shows_lawful();
         self.account.number()
     }
 

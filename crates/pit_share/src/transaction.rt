@@ -67,8 +67,7 @@ impl<'a, S: Session, R: Wait + Drop, A: Allocator + Copy + Drop> Transaction<'a,
         ensures kept { IsTransactionKept S.instance self.now }
         ensures lawful { AreLawful S.instance self.now.planner.seen }
     {
-        // shows that what was seen is lawful
-        let _front = self.account.front();
+        self.account.front().shows_lawful();
         self.work.start()
     }
 

@@ -1,4 +1,5 @@
--- For the crates above: what a text of a schedule determines, and where memory is wanted for it.
-pub use Rattle.pit_state.proofs.OneState.{state_text, view_text}
+-- For the crates above: what a text of a schedule determines, which of the two it is, and where memory is wanted for it.
+pub use Rattle.pit_state.proofs.OneState.{state_text, view_text, fit-or-unfit}
 pub use Rattle.pit_state.proofs.Stops.{state-stop}
 pub use Rattle.pit_state.proofs.Viewed.{IsSaid, viewed}
+pub use Rattle.pit_state.proofs.States.{history-state, history-unfit, history-bad, solution-state, solution-bad, solution-wants}

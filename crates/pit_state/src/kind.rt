@@ -3,7 +3,7 @@ ghost use Rattle.std.specs.Prelude.{◌≡◌, find};
 ghost use Rattle.pit_state.specs.States.{is_history as history_by, is_ink};
 
 /// Whether the first byte other than a space, a tab, a carriage return and a line feed is a `{`.
-pub(crate) fn is_history(text: &[u8]) -> bool
+pub fn is_history(text: &[u8]) -> bool
     ensures { result ≡ history_by text.now }
 {
     first_ink(text) == Some(b'{')

@@ -10,4 +10,7 @@ mod parsed;
 mod planned;
 mod state;
 
+pub use kind::is_history;
+pub use parsed::{entries_of, pairs_of};
+pub use planned::{history_plan, schedule_plan};
 pub use state::read_state;

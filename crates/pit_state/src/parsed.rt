@@ -8,8 +8,8 @@ use pit_model::Instance;
 use pit_step::{CliFault, Input, history_of, schedule_of};
 use std::alloc::{Allocator, Global};
 
-/// The entries of a history.
-pub(crate) fn entries_of<A: Allocator + Copy + Drop>(
+/// The entries of a history. Takes the memory of the entries, and by `json` that of the JSON value of one line.
+pub fn entries_of<A: Allocator + Copy + Drop>(
     alloc: A,
     json: Global,
     file: Input,
@@ -21,8 +21,8 @@ pub(crate) fn entries_of<A: Allocator + Copy + Drop>(
     history_of(alloc, json, file, &text)
 }
 
-/// The blocks and periods of a solution, by rising block.
-pub(crate) fn pairs_of<A: Allocator + Copy + Drop>(
+/// The blocks and periods of a solution, by rising block. Takes the memory of the facts, and of the pairs.
+pub fn pairs_of<A: Allocator + Copy + Drop>(
     alloc: A,
     file: Input,
     text: Vec<u8, A>,

@@ -18,6 +18,16 @@ field_text n end = decimal n ++ end ∷ []
 abbrev pub micro_text : ℤ → ℕ → List ℕ
 micro_text z end = fixed_text 6 z ++ end ∷ []
 
+-- a period, or `-` where there is none, and what stands behind it
+abbrev pub period_text : Option ℕ → List ℕ → List ℕ
+period_text None end = 45 ∷ end
+period_text (Some t) end = decimal t ++ end
+
+-- a limit in millionths, or `-` where there is none, and what stands behind it
+abbrev pub limit_text : Option ℤ → List ℕ → List ℕ
+limit_text None end = 45 ∷ end
+limit_text (Some z) end = fixed_text 6 z ++ end
+
 -- `R T LOAD LIMIT`
 unfoldable pub load_words : ℕ → ℕ → ℤ → ℤ → List ℕ
 load_words resource period load limit = field_text resource 32 ++ (field_text period 32 ++ (micro_text load 32 ++ fixed_text 6 limit))

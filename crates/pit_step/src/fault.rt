@@ -28,6 +28,9 @@ pub enum CliFault {
     /// The least period, and in it the least resource, whose upper limit is below zero, so that the empty schedule is above it.
     #[error("pit: model: upper limit below zero {resource} {period}")]
     LimitBelowZero { resource: u32, period: u32 },
+    /// The schedule has fewer commits than were asked for.
+    #[error("pit: at: {commits} commits")]
+    FewCommits { commits: u32 },
     /// The first breach of the start.
     #[error("pit: start: {0}")]
     Start(BreachLine),

@@ -2,13 +2,14 @@
 //!
 //! An engine is a run of steps: it reads its inputs whole from devices, in order, and parses them. What it writes is the text of what its
 //! inputs stand for, or nothing where an input has a fault or memory is wanting; the fault is the first one. `bytes_of` reads an input, and
-//! `builder_of`, `ordered`, `placed`, `built`, `schedule_of` and `history_of` parse one each; `read_ordered_pit` reads and parses two, and `write_answer`
-//! writes. A fault is a `CliFault`, with a variant for each line that the program prints.
+//! `builder_of`, `ordered`, `placed`, `built`, `schedule_of` and `history_of` parse one each; `read_pit` and `read_ordered_pit` do both, and
+//! `write_answer` writes. A fault is a `CliFault`, with a variant for each line that the program prints.
 #![tactic(auto)]
 
 mod answer;
 mod breach_line;
 mod fault;
+mod fields;
 mod input;
 mod lines;
 mod parsed;
@@ -21,11 +22,12 @@ mod value_text;
 pub use answer::write_answer;
 pub use breach_line::BreachLine;
 pub use fault::CliFault;
+pub use fields::{write_amount, write_field, write_limit, write_period, write_worth};
 pub use input::Input;
 pub use lines::{write_breach, write_breach_words, write_shorts};
 pub use parsed::{
     builder_of, built, bytes_of, history_of, ordered, placed, read_builder, read_history,
-    read_ordered_pit, read_schedule, schedule_of,
+    read_order, read_ordered_pit, read_pit, read_schedule, schedule_of,
 };
 pub use plans::planned;
 pub use read::{INPUT_BYTES_MAX, ReadError, read_all};

@@ -1,8 +1,9 @@
 //! The lines of breaches and shortfalls.
 ghost use Rattle.std.specs.Prelude.{◌≡◌, ◌++◌, ◌∷◌, [], OnOk, codes, decimal};
 ghost use Rattle.std.specs.Io.KnownBytes.{Appends};
-ghost use Rattle.pit_step.specs.LineTexts.{load_words, breach_words, breach_text, short_text, shorts_text, micro_text, field_text};
+ghost use Rattle.pit_step.specs.LineTexts.{load_words, breach_words, breach_text, short_text, shorts_text, field_text};
 
+use crate::fields::{write_amount, write_field};
 use pit_num::{Sink, WriteFault, write_micro, write_text, write_whole};
 use pit_plan::{Breach, Short};
 
@@ -36,7 +37,7 @@ fn write_precedence<W: Sink>(w: &mut W, block: u32, before: u32) -> Result<(), W
     ensures { OnOk result (Appends (W.contents w.old) (W.contents w.new) (codes "precedence " ++ (field_text block 32 ++ decimal before))) }
 {
     write_text(w, b"precedence ")?;
-    write_field(w, block)?;
+    write_field(w, u64::from(block), b" ")?;
     write_whole(w, before)
 }
 
@@ -88,24 +89,8 @@ fn write_load<W: Sink>(
 ) -> Result<(), WriteFault>
     ensures { OnOk result (Appends (W.contents w.old) (W.contents w.new) (load_words resource period load limit)) }
 {
-    write_field(w, resource)?;
-    write_field(w, period)?;
-    write_amount(w, load)?;
+    write_field(w, u64::from(resource), b" ")?;
+    write_field(w, u64::from(period), b" ")?;
+    write_amount(w, load, b" ")?;
     write_micro(w, limit)
-}
-
-/// A whole number, and a space.
-fn write_field<W: Sink>(w: &mut W, n: u32) -> Result<(), WriteFault>
-    ensures { OnOk result (Appends (W.contents w.old) (W.contents w.new) (field_text n 32)) }
-{
-    write_whole(w, n)?;
-    write_text(w, b" ")
-}
-
-/// A number of millionths, and a space.
-fn write_amount<W: Sink>(w: &mut W, z: i128) -> Result<(), WriteFault>
-    ensures { OnOk result (Appends (W.contents w.old) (W.contents w.new) (micro_text z 32)) }
-{
-    write_micro(w, z)?;
-    write_text(w, b" ")
 }

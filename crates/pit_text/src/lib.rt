@@ -19,7 +19,7 @@ pub use blocks::read_blocks;
 pub use cutting::{Fields, Line, Lines};
 pub use error::{Cause, TextError};
 pub use laws::{limits_are_tightest, no_fault_wants_memory, one_result};
-pub use model::{Key, Section, SectionFact, read_model, upper_bound};
+pub use model::{Key, Section, SectionFact, key_of, read_model, section_of, upper_bound};
 pub use number::is_ascii;
 pub use precedence::read_precedence;
 pub use solution::read_solution;

@@ -218,6 +218,13 @@ impl<A: Allocator + Copy + Drop> Work<A> {
         self.blocks
     }
 
+    /// Shows that the sets are sound.
+    pub fn shows_sound(&self)
+        ensures { AreSound self.now }
+    {
+        let _ = &self.blocks;
+    }
+
     /// The number of periods, 1 to 1,000.
     pub fn periods(&self) -> u32
         ensures count { result ≡ self.now.periods }

@@ -9,3 +9,4 @@ mod share;
 mod text;
 mod tiny;
 mod tx;
+mod views;

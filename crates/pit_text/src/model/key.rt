@@ -63,7 +63,7 @@ impl fmt::Display for Key {
 
 /// The key that a header line begins with.
 #[tactic(auto, unfolding(crate::specs::Keys::key_of))]
-pub(crate) fn key_of(field: &[u8]) -> Option<Key>
+pub fn key_of(field: &[u8]) -> Option<Key>
     ensures { result ≡ key_of field.now }
 {
     beside(KEYS, field)

@@ -23,7 +23,7 @@ impl Section {
 
 /// The section that a line begins, by its first field.
 #[tactic(auto, unfolding(crate::specs::Model::section_of))]
-pub(crate) fn section_of(field: &[u8]) -> Option<Section>
+pub fn section_of(field: &[u8]) -> Option<Section>
     ensures { result ≡ section_of field.now }
 {
     if field == b"OBJECTIVE_FUNCTION".as_slice() {

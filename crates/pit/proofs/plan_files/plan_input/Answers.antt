@@ -1,11 +1,11 @@
-use Rattle.std.proofs.Common.{◌≡◌, List, ℕ, is_some, map, ap, subst, sym, ◌∙◌, arith}
+use Rattle.std.proofs.Common.{◌≡◌, List, is_some, map, ap, subst, sym, ◌∙◌, arith}
 use Rattle.std.proofs.lemmas.List.{length-map}
 use Rattle.pit_step.specs.declared.input.Input.{Input}
 use Rattle.pit_step.specs.declared.input.Input.TheVariants.{Blocks, Start}
 use Rattle.pit_step.proofs.CallerLemmas.{handed_on}
 use Rattle.pit_step.specs.declared.fault.CliFault.TheVariants.{NoMemory}
 use Rattle.pit_step.specs.Steps.{in_turn, may_step}
-use Rattle.pit.specs.Asked.{path_of}
+use Rattle.pit_command.specs.Asked.{path_of}
 use Rattle.pit.specs.Files.{open_each}
 use Rattle.pit.specs.Inside.Files.{still}
 use Rattle.pit.specs.Runs.{file_bytes, file_opens}

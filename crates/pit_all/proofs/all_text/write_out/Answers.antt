@@ -1,8 +1,8 @@
 use Rattle.std.proofs.Common.{ℕ, ◌++◌, ◌∷◌, [], codes, decimal, subst}
 use Rattle.std.specs.Io.KnownBytes.{Appends}
 use Rattle.pit_num.proofs.CallerLemmas.{appends_more, map_ok}
-use Rattle.pit_step.specs.LineTexts.{field_text}
-use Rattle.pit_all.specs.AllText.{period_text, out_text}
+use Rattle.pit_step.specs.LineTexts.{field_text, period_text}
+use Rattle.pit_all.specs.AllText.{out_text}
 use Rattle.pit_all.proofs.all_text.write_out.Goals as goal
 
 pub returns : goal.returns

@@ -7,7 +7,7 @@ pub loop-cell-preserved : goal.loop-cell-preserved
 loop-cell-preserved g c =
     let pit = c.args.pit.now in
     let cell = c.loop-cell.cell in
-    let each = c.blocks-blocks.ensures.sound.each_bound in
+    let each = c.shows_sound.ensures.each_bound in
     let cells : c.periods.result * c.resources.result ≡ pit.periods * pit.resources = ap₂ ◌*◌ c.periods.ensures c.resources.ensures in
     let within : cell < length pit.bounds = omega (arith, cells, each) in
     let here : cell / c.resources-in-loop-cell-2.result * pit.resources + cell % c.resources-in-loop-cell.result ≡ cell =

@@ -1,4 +1,4 @@
-use Rattle.std.proofs.Common.{◌++◌, ℤ, subst}
+use Rattle.std.proofs.Common.{◌++◌, ◌∷◌, [], ℕ, ℤ, decimal, subst}
 use Rattle.std.specs.Int.{w128}
 use Rattle.std.specs.Io.KnownBytes.{Appends}
 use Rattle.std.proofs.lemmas.Int.{to_z-of_z}
@@ -18,8 +18,10 @@ returns g c =
     let load = micro_text c.args.load 32 in
     let limit = fixed_text 6 c.args.limit in
     map_ok c.write_micro.result
-    (λ after. appends_more start first end (field_text c.args.resource 32) (field_text c.args.period 32 ++ (load ++ limit)) c.in_ok-write_field.ensures
-    (appends_more first second end (field_text c.args.period 32) (load ++ limit) c.in_ok-write_field-2.ensures
+    (λ after. appends_more start first end (field_text c.args.resource 32) (field_text c.args.period 32 ++ (load ++ limit))
+    (subst (λ (n : ℕ). Appends start first (decimal n ++ 32 ∷ [])) c.from.ensures c.in_ok-write_field.ensures)
+    (appends_more first second end (field_text c.args.period 32) (load ++ limit)
+    (subst (λ (n : ℕ). Appends first second (decimal n ++ 32 ∷ [])) c.from-2.ensures c.in_ok-write_field-2.ensures)
     (appends_more second third end load limit
     (subst (λ (z : ℤ). Appends second third (micro_text z 32)) (to_z-of_z w128 c.args.load c.ranges.load) c.in_ok-write_amount.ensures)
     (subst (λ (z : ℤ). Appends third end (fixed_text 6 z)) (to_z-of_z w128 c.args.limit c.ranges.limit) after))))

@@ -12,7 +12,7 @@ shift_kept-requires-clause-room g c =
     let pit = c.args.pit.now in
     let tally = subst (IsTally pit) (sym c.self.view_is) c.requires.tally in
     let none = subst (λ (s : Tallied). by_block s.periods c.args.b ≡ None) (sym c.self.view_is) c.requires.none in
-    room-for pit (by_block c.self.inside.periods.items) c.args.b c.args.period true (at_cell pit (cell_load c.self.inside.loads.items)) c.blocks-blocks.ensures.sound c.requires.known none
+    room-for pit (by_block c.self.inside.periods.items) c.args.b c.args.period true (at_cell pit (cell_load c.self.inside.loads.items)) c.shows_sound.ensures c.requires.known none
     tally.totals.each c.requires.in_range
 
 pub plus-self-inside-requires : goal.plus-self-inside-requires
@@ -21,7 +21,7 @@ plus-self-inside-requires g c =
     let tally = subst (IsTally pit) (sym c.self.view_is) c.requires.tally in
     let none = subst (λ (s : Tallied). by_block s.periods c.args.b ≡ None) (sym c.self.view_is) c.requires.none in
     rw (to_z-of_z w128 c.self.inside.worth (search rules), to_z-of_z w128 c.earned.result (search rules), c.earned.ensures)
-    (sum-in pit (by_block c.self.inside.periods.items) c.args.b c.args.period c.self.inside.worth c.blocks-blocks.ensures.sound c.requires.known none tally.totals.value)
+    (sum-in pit (by_block c.self.inside.periods.items) c.args.b c.args.period c.self.inside.worth c.shows_sound.ensures c.requires.known none tally.totals.value)
 
 pub returns-clause-tally : goal.returns-clause-tally
 returns-clause-tally g c =

@@ -20,7 +20,7 @@ shift_kept-requires-clause-room g c =
     let pit = c.args.pit.now in
     let tally = subst (IsTally pit) (sym c.self.view_is) c.requires.tally in
     let is = get_or_default c.self.inside.periods.items c.args.b None c.index-old.result.now (omega (arith, c.requires.known, tally.each_period)) ∙ sym c.index-old.ensures in
-    room-for pit (by_block c.self.inside.periods.items) c.args.b c.index-old.result.now false (at_cell pit (cell_load c.self.inside.loads.items)) c.blocks-blocks.ensures.sound c.requires.known is
+    room-for pit (by_block c.self.inside.periods.items) c.args.b c.index-old.result.now false (at_cell pit (cell_load c.self.inside.loads.items)) c.shows_sound.ensures c.requires.known is
     tally.totals.each (period-in_range pit _ c.args.b c.index-old.result.now tally c.requires.known is)
 
 pub earned-requires-clause-period : goal.earned-requires-clause-period
@@ -36,7 +36,7 @@ minus-self-inside-requires g c =
     let tally = subst (IsTally pit) (sym c.self.view_is) c.requires.tally in
     let is = get_or_default c.self.inside.periods.items c.args.b None c.index-old.result.now (omega (arith, c.requires.known, tally.each_period)) ∙ sym c.index-old.ensures in
     rw (to_z-of_z w128 c.self.inside.worth (search rules), to_z-of_z w128 c.earned.result (search rules), c.earned.ensures)
-    (sum-out pit (by_block c.self.inside.periods.items) c.args.b c.index-old.result.now c.self.inside.worth c.blocks-blocks.ensures.sound c.requires.known is tally.totals.value)
+    (sum-out pit (by_block c.self.inside.periods.items) c.args.b c.index-old.result.now c.self.inside.worth c.shows_sound.ensures c.requires.known is tally.totals.value)
 
 pub returns-clause-tally : goal.returns-clause-tally
 returns-clause-tally g c =

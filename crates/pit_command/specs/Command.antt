@@ -1,0 +1,131 @@
+-- What the command line is.
+use Rattle.std.specs.Prelude.{◌≡◌, ◌⊎◌, ℕ, true, false, List, [], ◌∷◌, Option, Some, map, codes, pos}
+use Rattle.std.specs.List.{All}
+use Rattle.clap.specs.Walk.{Row, Rule}
+use Rattle.clap.specs.Takes.{is_given}
+use Rattle.clap.specs.Simple.{App, Shape, app_of, new_rule, new_shape}
+use Rattle.clap.specs.declared.builder.command.Command.{Command}
+use Rattle.clap.specs.declared.builder.command.Command.TheViews.{out-Command}
+use Rattle.clap.specs.Lexer.{usize_max}
+use Rattle.clap.specs.declared.builder.action.ArgAction.TheVariants.{Append, SetTrue}
+use Rattle.clap.specs.declared.builder.value_parser.ValueParser.TheVariants.{Signed}
+use Rattle.pit_step.specs.declared.input.Input.{Input}
+use Rattle.pit_step.specs.declared.input.Input.TheVariants.{Model, Precedence, Blocks, Start, Script, Schedule}
+use Rattle.pit_command.specs.declared.engine.Engine.TheVariants.{Value, Check, Table, Diff, Info, Show, Plan, Replay}
+use Rattle.pit_command.specs.Asked.{argument_of, inputs_of}
+
+-- the argument for an input: a positional that is required
+abbrev pub file_rule : Input → Rule
+file_rule input = record (new_rule (argument_of input)) { required = true }
+
+-- a subcommand with an argument for each of its inputs, in the order of the words
+abbrev pub engine_shape : List ℕ → List Input → Shape
+engine_shape name inputs = record (new_shape name) { rules = map file_rule inputs }
+
+abbrev pub value_shape : Shape
+value_shape = engine_shape (codes "value") (inputs_of Value)
+
+-- `--all`
+abbrev pub all_rule : Rule
+all_rule = record (new_rule (codes "all")) { action = Some SetTrue; long = Some (codes "all") }
+
+-- `check` with its flag
+abbrev pub check_flags_shape : Shape
+check_flags_shape = record (new_shape (codes "check")) { rules = all_rule ∷ [] }
+
+abbrev pub check_shape : Shape
+check_shape = record (new_shape (codes "check")) { rules = all_rule ∷ map file_rule (inputs_of Check) }
+
+abbrev pub replay_shape : Shape
+replay_shape = engine_shape (codes "replay") (inputs_of Replay)
+
+-- the option for an input: `--name FILE`
+abbrev pub option_rule : Input → Rule
+option_rule input = record (new_rule (argument_of input)) { long = Some (argument_of input); value_names = 1 }
+
+-- the argument for a schedule, which help calls by another name
+abbrev pub schedule_rule : Rule
+schedule_rule = record (new_rule (argument_of Schedule)) { value_names = 1; required = true }
+
+-- `--at N`, a whole number of 32 bits
+abbrev pub at_rule : Rule
+at_rule = record (new_rule (codes "at")) { long = Some (codes "at"); value_names = 1; parser = Some (Signed (pos 0) (pos 4294967295)) }
+
+abbrev pub table_shape : Shape
+table_shape = record (new_shape (codes "table")) { rules = file_rule Model ∷ schedule_rule ∷ [] }
+
+abbrev pub diff_shape : Shape
+diff_shape = engine_shape (codes "diff") (inputs_of Diff)
+
+abbrev pub info_shape : Shape
+info_shape = record (new_shape (codes "info")) { rules = file_rule Model ∷ file_rule Precedence ∷ option_rule Blocks ∷ [] }
+
+abbrev pub show_shape : Shape
+show_shape = record (new_shape (codes "show")) { rules = file_rule Model ∷ schedule_rule ∷ at_rule ∷ [] }
+
+-- `--history FILE`
+abbrev pub history_rule : Rule
+history_rule = record (new_rule (codes "history")) { long = Some (codes "history"); value_names = 1 }
+
+-- `--retries N`, a whole number up to 1,000, and 3 where it isn't given
+abbrev pub retries_rule : Rule
+retries_rule = record (new_rule (codes "retries")) {
+  long = Some (codes "retries");
+  value_names = 1;
+  defaults = codes "3" ∷ [];
+  parser = Some (Signed (pos 0) (pos 1000));
+}
+
+-- the scripts: positionals, of which one at least is required
+abbrev pub scripts_rule : Rule
+scripts_rule = record (new_rule (codes "SCRIPT")) {
+  action = Some Append;
+  range = Some (record { start_inclusive = 1; end_inclusive = usize_max });
+  required = true;
+}
+
+-- `plan` with the first of its arguments
+abbrev pub plan_files_shape : Shape
+plan_files_shape = record (new_shape (codes "plan")) { rules = file_rule Model ∷ file_rule Precedence ∷ option_rule Blocks ∷ [] }
+
+abbrev pub plan_shape : Shape
+plan_shape = record (new_shape (codes "plan")) {
+  rules = file_rule Model ∷ file_rule Precedence ∷ option_rule Blocks ∷ option_rule Start ∷ history_rule ∷ retries_rule ∷ scripts_rule ∷ [];
+}
+
+-- a subcommand, of which no argument is global
+abbrev pub IsSubcommand : Shape → Command → Type 0
+IsSubcommand shape c = (app_of c ≡ record { top = shape; subs = [] }) × ((out-Command c).has_globals ≡ false)
+
+-- `pit`, which wants one of these subcommands
+abbrev pub app_with : List Shape → App
+app_with shapes = record {
+  top = record (new_shape (codes "pit")) {
+    is_leaf = false;
+    has_version = true;
+    subcommand_required = true;
+  };
+  subs = shapes;
+}
+
+abbrev pub pit_app : App
+pit_app = app_with (value_shape ∷ check_shape ∷ table_shape ∷ diff_shape ∷ info_shape ∷ show_shape ∷ plan_shape ∷ replay_shape ∷ [])
+
+-- the words gave the argument of each input
+abbrev pub GivesEach : List Input → List Row → Type 0
+GivesEach inputs rows = All (λ input. is_given (argument_of input) rows ≡ true) inputs
+
+-- each subcommand, with the inputs that it requires
+abbrev pub subcommands : List (List ℕ × List Input)
+subcommands =
+    (codes "value", inputs_of Value) ∷ (codes "check", inputs_of Check) ∷ (codes "table", inputs_of Table) ∷ (codes "diff", inputs_of Diff)
+    ∷ (codes "info", inputs_of Info) ∷ (codes "show", inputs_of Show) ∷ (codes "plan", inputs_of Plan) ∷ (codes "replay", inputs_of Replay) ∷ []
+
+-- the words name one of these, and give what it requires; or they ask for help
+abbrev pub IsAmong : List (List ℕ × List Input) → List ℕ × List Row → Type 0
+IsAmong [] asked = asked.0 ≡ codes "help"
+IsAmong (one ∷ others) asked = ((asked.0 ≡ one.0) × GivesEach one.1 asked.1) ⊎ IsAmong others asked
+
+-- the words name a subcommand, and give all that it requires
+abbrev pub AsksAll : Option (List ℕ × List Row) → Type 0
+AsksAll found = (asked : List ℕ × List Row) × (found ≡ Some asked) × IsAmong subcommands asked

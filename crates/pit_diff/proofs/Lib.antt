@@ -1,0 +1,9 @@
+pub mod Ranges
+pub mod Same
+pub mod Counting
+pub mod LaidOver
+pub mod AddUp
+pub mod Lines
+pub mod Congruence
+pub mod Nothing
+pub mod Outcome

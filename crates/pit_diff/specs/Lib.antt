@@ -1,0 +1,5 @@
+pub mod Changes
+pub mod Laid
+pub mod DiffText
+pub mod Diff
+pub mod Inside

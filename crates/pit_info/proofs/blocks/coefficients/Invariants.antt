@@ -1,0 +1,8 @@
+use Rattle.std.proofs.Common.{◌≡◌, ◌*◌, ◌≤◌}
+use Rattle.std.specs.List.{range_with_len, sum_by}
+use Rattle.pit_model.specs.declared.counts.TheConstants.{RESOURCES_MAX}
+use Rattle.pit_info.specs.Figures.{coefs_at}
+use Rattle.pit_info.proofs.blocks.coefficients.Given as goal
+
+abbrev pub invariant-loop-b : goal.invariant-loop-b
+invariant-loop-b g l = (l.count ≡ sum_by (coefs_at l.pit) (range_with_len 0 l.b)) × (l.count ≤ l.b * RESOURCES_MAX)

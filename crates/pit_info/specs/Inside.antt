@@ -1,0 +1,2 @@
+pub mod Heights
+pub mod Spans

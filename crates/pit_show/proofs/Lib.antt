@@ -1,0 +1,6 @@
+pub mod Fronts
+pub mod Mined
+pub mod Schedules
+pub mod Sums
+pub mod OneFront
+pub mod Outcome

@@ -1,0 +1,4 @@
+pub mod Fronts
+pub mod ShowText
+pub mod Show
+pub mod Inside

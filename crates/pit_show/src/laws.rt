@@ -1,0 +1,47 @@
+//! Laws of the definitions, each as the contract of a function that does nothing.
+ghost use Rattle.std.specs.Prelude.{◌≡◌, ◌≢◌, ◌↔◌, ℕ, ◌≤◌, List, [], ◌∷◌, ◌++◌, length, take, Option, Some, None, IsSome};
+ghost use Rattle.std.specs.Io.KnownBytes.{Keeps};
+ghost use Rattle.pit_model.specs.Pit.{Pit};
+ghost use Rattle.pit_plan.specs.Schedule.{Commit};
+ghost use Rattle.pit_desk.specs.History.{Answered, commit_of, commits_by, commits_of};
+ghost use Rattle.pit_step.specs.Steps.{HasOneOutcome};
+ghost use Rattle.pit_step.specs.Devices.{Reading, Writing};
+ghost use Rattle.pit_state.specs.States.{IsStateOf};
+ghost use Rattle.pit_show.specs.Fronts.{IsFront};
+ghost use Rattle.pit_show.specs.Show.{IsShown, show_run};
+
+use pit_lines::laws::{one_history, one_result};
+use pit_step::{CliFault, Status};
+
+/// A law of fronts: where there are so many commits, the entries have one front up to the last of them. Its commits are the first ones, and
+/// it ends with the entry that made the last.
+pub fn one_front()
+    ensures some { (entries : List Answered) (count : ℕ) → count ≤ length (commits_of entries) → (front : List Answered) × IsFront entries count front }
+    ensures once { (entries : List Answered) (count : ℕ) (front other : List Answered) → IsFront entries count front → IsFront entries count other → front ≡ other }
+    ensures commits { (entries : List Answered) (count : ℕ) (front : List Answered) → IsFront entries count front → commits_of front ≡ take count (commits_of entries) }
+    ensures last { (entries : List Answered) (count : ℕ) (before : List Answered) (e : Answered) → IsFront entries count (before ++ e ∷ []) → commits_by e ≡ commit_of e.call ∷ [] }
+{}
+
+/// A law of what is shown: after as many commits as there are it is what is shown where no number is asked for.
+pub fn shown_at_all()
+    ensures { (pit : Pit) (text answer : List ℕ) (commits : List Commit) → IsStateOf pit text commits
+        → IsShown None pit text answer ↔ IsShown (Some (length commits)) pit text answer }
+{
+    one_history();
+    one_result();
+}
+
+/// A law of runs: where devices tell their bytes, these say how a run ended. Of a solution that mines no block nothing is written, so that then
+/// they don't show whether memory was wanted.
+pub fn one_outcome()
+    ensures written { (at : Option ℕ) (model schedule : Reading) (out : Writing) → IsSome model.before → IsSome schedule.before
+        → (Keeps out.before out.after → ⊥) → HasOneOutcome CliFault.NoMemory (show_run at model schedule out) }
+    ensures apart { (at : Option ℕ) (model schedule : Reading) (out : Writing) (status : Status) (fault : CliFault) → IsSome model.before → IsSome schedule.before
+        → fault ≢ CliFault.NoMemory → (show_run at model schedule out).Gives tt status → (show_run at model schedule out).Fails tt fault → ⊥ }
+    ensures faults { (at : Option ℕ) (model schedule : Reading) (out : Writing) (fault other : CliFault) → IsSome model.before → IsSome schedule.before
+        → fault ≢ CliFault.NoMemory → other ≢ CliFault.NoMemory
+        → (show_run at model schedule out).Fails tt fault → (show_run at model schedule out).Fails tt other → fault ≡ other }
+{
+    one_history();
+    one_result();
+}

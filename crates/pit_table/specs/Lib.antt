@@ -1,0 +1,4 @@
+pub mod Rows
+pub mod CsvText
+pub mod Table
+pub mod Inside
