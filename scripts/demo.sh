@@ -24,6 +24,7 @@ if [ -x pit ]; then
         $hill/deep.script $hill/top.script $hill/east.script $hill/west.script)
     printf '\n$ %s >demo/new.sol\n' "${plan[*]}"
     "${plan[@]}" >demo/new.sol
+    run ./pit table $hill/hill.cpit demo/hill.history
     run ./pit replay $hill/hill.cpit $hill/hill.prec demo/hill.history
     exit
 fi
