@@ -6,3 +6,4 @@ pub mod Longest
 pub mod Lines
 pub mod Runs
 pub mod Outcome
+pub mod Joined

@@ -4,3 +4,4 @@ pub mod Schedules
 pub mod Sums
 pub mod OneFront
 pub mod Outcome
+pub mod Written

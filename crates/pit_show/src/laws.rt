@@ -1,13 +1,16 @@
 //! Laws of the definitions, each as the contract of a function that does nothing.
-ghost use Rattle.std.specs.Prelude.{◌≡◌, ◌≢◌, ◌↔◌, ℕ, ◌≤◌, List, [], ◌∷◌, ◌++◌, length, take, Option, Some, None, IsSome};
+ghost use Rattle.std.specs.Prelude.{◌≡◌, ◌≢◌, ◌↔◌, ℕ, ◌≤◌, List, [], ◌∷◌, ◌++◌, length, take, Option, Some, None, IsSome, All};
 ghost use Rattle.std.specs.Io.KnownBytes.{Keeps};
 ghost use Rattle.pit_model.specs.Pit.{Pit};
 ghost use Rattle.pit_plan.specs.Schedule.{Commit};
 ghost use Rattle.pit_desk.specs.History.{Answered, commit_of, commits_by, commits_of};
+ghost use Rattle.pit_lines.specs.Ranges.{IsInRange};
+ghost use Rattle.pit_lines.specs.Texts.{history_text};
 ghost use Rattle.pit_step.specs.Steps.{HasOneOutcome};
 ghost use Rattle.pit_step.specs.Devices.{Reading, Writing};
 ghost use Rattle.pit_state.specs.States.{IsStateOf};
 ghost use Rattle.pit_show.specs.Fronts.{IsFront};
+ghost use Rattle.pit_show.specs.ShowText.{history_comment, left_text};
 ghost use Rattle.pit_show.specs.Show.{IsShown, show_run};
 
 use pit_lines::laws::{one_history, one_result};
@@ -29,6 +32,15 @@ pub fn shown_at_all()
 {
     one_history();
     one_result();
+}
+
+/// A law of histories: of the text of one whose numbers are in the ranges of their types the comment is shown, on its entries up to the last
+/// commit, and then the solution that all its commits leave.
+pub fn shown_history()
+    ensures { (pit : Pit) (history : List Answered) (answer : List ℕ) → All IsInRange history → IsShown None pit (history_text history) answer
+        → (front : List Answered) × IsFront history (length (commits_of history)) front × (answer ≡ history_comment front ++ left_text pit (commits_of history)) }
+{
+    one_history();
 }
 
 /// A law of runs: where devices tell their bytes, these say how a run ended. Of a solution that mines no block nothing is written, so that then

@@ -13,4 +13,4 @@ mod left;
 mod shown;
 
 pub use engine::show;
-pub use laws::{one_front, one_outcome, shown_at_all};
+pub use laws::{one_front, one_outcome, shown_at_all, shown_history};
