@@ -42,6 +42,12 @@ pub enum CliFault {
     CannotRead(Input),
     #[error("pit: cannot write")]
     CannotWrite,
+    /// Another program holds the lock of the history's file.
+    #[error("pit: history is in use")]
+    HistoryInUse,
+    /// The file of the history is one that is read as another input.
+    #[error("pit: history is an input")]
+    HistoryIsInput,
     #[error("pit: no memory")]
     NoMemory,
     /// A planner can't be given a place to read the schedule from.
@@ -59,7 +65,7 @@ impl CliFault {
     ghost use Rattle.pit_step.specs.Statuses.{fault_status};
 
     /// The status that the program ends with: 2 where an input, the start or the number of planners is refused; 3 where memory, a device, a thread or a
-    /// place is wanting, where a planner stopped, or where the logs don't close the workspace.
+    /// place is wanting, where the history's file is in use, where a planner stopped, or where the logs don't close the workspace.
     pub fn status(&self) -> u8
         ensures is { result ≡ fault_status self.now }
         ensures range { (2 ≤ result) × (result ≤ 3) }
@@ -67,6 +73,7 @@ impl CliFault {
         match self {
             CliFault::CannotRead(_)
             | CliFault::CannotWrite
+            | CliFault::HistoryInUse
             | CliFault::NoMemory
             | CliFault::NoPlace
             | CliFault::NotClosed
