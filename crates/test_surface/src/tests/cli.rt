@@ -231,6 +231,8 @@ const FAULTS: &[(CliFault, u8)] = &[
     (CliFault::PlannerCount, 2),
     (CliFault::CannotRead(Input::Solution), 3),
     (CliFault::CannotWrite, 3),
+    (CliFault::HistoryInUse, 3),
+    (CliFault::HistoryIsInput, 2),
     (CliFault::NoMemory, 3),
     (CliFault::NoPlace, 3),
     (CliFault::NotClosed, 3),

@@ -88,6 +88,8 @@ const FAULTS: &[(CliFault, &str, u8)] = &[
         3,
     ),
     (CliFault::CannotWrite, "pit: cannot write", 3),
+    (CliFault::HistoryInUse, "pit: history is in use", 3),
+    (CliFault::HistoryIsInput, "pit: history is an input", 2),
     (CliFault::NoMemory, "pit: no memory", 3),
 ];
 
