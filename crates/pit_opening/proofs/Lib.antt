@@ -1,0 +1,3 @@
+mod OneBeginning
+mod OneOpening
+pub mod CallerLemmas

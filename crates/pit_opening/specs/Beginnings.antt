@@ -1,0 +1,65 @@
+-- What the text of a beginning stands for, and its first fault.
+use Rattle.std.specs.Prelude.{◌≡◌, ℕ, Bool, true, false, List, []}
+use Rattle.pit_model.specs.Pit.{Pit}
+use Rattle.pit_desk.specs.History.{Answered}
+use Rattle.pit_lines.specs.Lines.{StandsForHistory}
+use Rattle.pit_state.specs.States.{is_history}
+use Rattle.pit_step.specs.declared.input.Input.{Input}
+use Rattle.pit_step.specs.declared.input.Input.TheVariants.{Start, History}
+use Rattle.pit_step.specs.declared.fault.CliFault.{CliFault}
+use Rattle.pit_step.specs.Inputs.{IsSolutionOf, IsSolutionFault, IsHistoryFault}
+use Rattle.pit_opening.specs.Openings.{Opened, started, resumed}
+
+-- nothing, the text of a schedule, that of a history which is carried on, or a history that is to be carried on and isn't there yet
+pub data Begun : Type 0 where
+  nothing : Begun
+  scheduled : List ℕ → Begun
+  carried_on : List ℕ → Begun
+  unbegun : Begun
+
+-- whether a history is carried on
+abbrev pub is_carried_on : Begun → Bool
+is_carried_on nothing = false
+is_carried_on (scheduled text) = false
+is_carried_on (carried_on text) = true
+is_carried_on unbegun = true
+
+-- whether it isn't there yet
+abbrev pub is_unbegun : Begun → Bool
+is_unbegun unbegun = true
+is_unbegun other = false
+
+-- ---- what it stands for
+
+pub record IsResumedOf (file : Input) (text : List ℕ) (opening : Opened) : Type 0 where
+  pub entries : List Answered
+  pub stands : StandsForHistory text entries
+  pub is : opening ≡ resumed file entries
+
+pub record IsStartedOf (pit : Pit) (text : List ℕ) (opening : Opened) : Type 0 where
+  pub schedule : List (ℕ × ℕ)
+  pub stands : IsSolutionOf pit text schedule
+  pub is : opening ≡ started schedule
+
+-- a schedule's text is that of a history or of a solution
+abbrev pub IsStartOf : Bool → Pit → List ℕ → Opened → Type 0
+IsStartOf true pit text = IsResumedOf Start text
+IsStartOf false pit text = IsStartedOf pit text
+
+abbrev pub IsOpeningOf : Pit → Begun → Opened → Type 0
+IsOpeningOf pit nothing opening = opening ≡ started []
+IsOpeningOf pit (scheduled text) opening = IsStartOf (is_history text) pit text opening
+IsOpeningOf pit (carried_on text) opening = IsResumedOf History text opening
+IsOpeningOf pit unbegun opening = opening ≡ started []
+
+-- ---- its fault
+
+abbrev pub IsStartFault : Bool → Pit → List ℕ → CliFault → Type 0
+IsStartFault true pit text = IsHistoryFault Start text
+IsStartFault false pit text = IsSolutionFault Start pit text
+
+abbrev pub IsOpeningFault : Pit → Begun → CliFault → Type 0
+IsOpeningFault pit nothing fault = ⊥
+IsOpeningFault pit (scheduled text) fault = IsStartFault (is_history text) pit text fault
+IsOpeningFault pit (carried_on text) fault = IsHistoryFault History text fault
+IsOpeningFault pit unbegun fault = ⊥
