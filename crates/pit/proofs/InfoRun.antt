@@ -6,9 +6,9 @@ use Rattle.pit_step.specs.declared.input.Input.TheVariants.{Model, Precedence, B
 use Rattle.pit_step.specs.declared.status.Status.{Status}
 use Rattle.pit_step.specs.declared.fault.CliFault.{CliFault}
 use Rattle.pit_step.specs.declared.fault.CliFault.TheVariants.{CannotRead}
-use Rattle.pit_step.specs.Devices.{Reading, Writing}
+use Rattle.pit_step.specs.Devices.{Reading, Writing, known_if}
 use Rattle.pit_step.specs.Steps.{Step, in_turn, each, run_step, IsResultOf}
-use Rattle.pit_info.specs.Info.{reading_if, info_run}
+use Rattle.pit_info.specs.Info.{info_run}
 use Rattle.pit_command.specs.declared.engine.Engine.TheVariants.{Info}
 use Rattle.pit_command.specs.Asked.{path_of}
 use Rattle.pit.specs.Files.{open_step, open_each}
@@ -41,7 +41,7 @@ module _ (given : ArgMatches) (opens : Input → Option Bool) (holds : Input →
   with_them model precedence blocks (Err fault) first second third is = inr (model ∷ precedence ∷ blocks ∷ [], (first, (second, (third, refl))), is)
 
   by_source : {S : Type 0} (of : S → S → Reading) (model precedence : Reading) (with_blocks : Bool) (old new : Option S) (result : Result Status CliFault) → is_some old ≡ with_blocks → is_some new ≡ is_some old
-      → IsOpen Model model → IsOpen Precedence precedence → ((a b : S) → old ≡ Some a → IsOpen Blocks (of a b)) → IsResultOf (info_run model precedence (reading_if of old new) out) tt result
+      → IsOpen Model model → IsOpen Precedence precedence → ((a b : S) → old ≡ Some a → IsOpen Blocks (of a b)) → IsResultOf (info_run model precedence (known_if of old new) out) tt result
       → IsResultOf (run_if with_blocks) tt result
   by_source of model precedence false None new result named same first second third is = without model precedence result first second is
   by_source of model precedence true None new result named same first second third is = cc
@@ -50,7 +50,7 @@ module _ (given : ArgMatches) (opens : Input → Option Bool) (holds : Input →
   by_source of model precedence true (Some a) None result named same first second third is = cc
 
   pub info_ran : {S : Type 0} (of : S → S → Reading) (model precedence : Reading) (old new : Option S) (result : Result Status CliFault) → is_some old ≡ is_some (path_of given Blocks) → is_some new ≡ is_some old
-      → IsOpen Model model → IsOpen Precedence precedence → ((a b : S) → old ≡ Some a → IsOpen Blocks (of a b)) → IsResultOf (info_run model precedence (reading_if of old new) out) tt result
+      → IsOpen Model model → IsOpen Precedence precedence → ((a b : S) → old ≡ Some a → IsOpen Blocks (of a b)) → IsResultOf (info_run model precedence (known_if of old new) out) tt result
       → IsResultOf (engine_run Info None given opens holds out IsUntouched) tt result
   info_ran of model precedence old new result named same first second third is =
       by_source of model precedence (is_some (path_of given Blocks)) old new result named same first second third is

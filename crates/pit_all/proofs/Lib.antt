@@ -1,6 +1,5 @@
 pub mod Pieces
 pub mod Counted
-pub mod Rising
 pub mod First
 pub mod FirstBreach
 pub mod Found

@@ -16,7 +16,7 @@ use Rattle.pit_step.specs.declared.fault.CliFault.TheVariants as cli
 use Rattle.pit_step.specs.Devices.{IsTextFault}
 use Rattle.pit_step.specs.Inputs.{IsModel, IsModelFault, IsOrder, IsOrderFault}
 use Rattle.pit_step.specs.Steps.{in_turn, beside, judge_step, may_step, run_step, each}
-use Rattle.pit_step.proofs.CallerLemmas.{IsSeen, IsOfInputs, never_two, inputs-seen, IsDecided, IsDecidedText, FailsOnly, judge-decided, in_turn-decided, in_turn-only, beside-decided, run-decided, may-decided, each-decided, each-untouched, each-only, model_text, order_text, places_text, solution_text}
+use Rattle.pit_step.proofs.CallerLemmas.{IsSeen, IsOfInputs, never_two, inputs-seen, IsDecided, IsDecidedText, FailsOnly, judge-decided, in_turn-decided, in_turn-only, beside-decided, run-decided, may-decided, each-decided, each-untouched, each-only, decided-model, decided-order, decided-places, decided-solution}
 use Rattle.pit_cli.specs.Texts.{Texts, ArePlacesOf, IsPlacedFault, IsStartOf, IsStartFault, IsScriptOf, IsBadScript, IsScriptFault, pit_judged, script_judged, scripts_judged, texts_judged}
 
 pub never_memory : IsOfInputs cli.NoMemory → ⊥
@@ -33,7 +33,7 @@ places_decided given None = record {
     faults = λ fault other seen also p q. absurd (seen p);
   };
 }
-places_decided given (Some bytes) = places_text given bytes
+places_decided given (Some bytes) = decided-places given bytes
 
 start_decided : (pit : Pit) (start : Option (List ℕ)) → IsDecidedText (IsStartOf pit start) (IsStartFault pit start)
 start_decided pit None = record {
@@ -44,7 +44,7 @@ start_decided pit None = record {
     faults = λ fault other seen also p q. absurd p;
   };
 }
-start_decided pit (Some bytes) = solution_text Start pit bytes
+start_decided pit (Some bytes) = decided-solution Start pit bytes
 
 module _ (pit : Pit) (number : ℕ) (bytes : List ℕ) where
   script_in : (fault : CliFault) → IsSeen fault → IsScriptFault pit number bytes fault → (error : ScriptError) × (fault ≡ cli.Script number error) × IsBadScript pit bytes error
@@ -87,11 +87,11 @@ module _ (model precedence : List ℕ) (blocks : Option (List ℕ)) where
       in_turn-decided IsOfInputs (judge_step (λ _. IsModel model) (λ _. IsModelFault model))
       (in_turn (judge_step (λ bare. IsOrder bare precedence) (λ bare. IsOrderFault bare precedence))
       (judge_step (λ ordered. ArePlacesOf ordered blocks) (λ ordered. IsPlacedFault ordered blocks)))
-      tt (tt, tt) (judge-decided (λ _. IsModel model) (λ _. IsModelFault model) tt (model_text model))
+      tt (tt, tt) (judge-decided (λ _. IsModel model) (λ _. IsModelFault model) tt (decided-model model))
       (λ (bare : Pit).
       in_turn-decided IsOfInputs (judge_step (λ (given : Pit). IsOrder given precedence) (λ given. IsOrderFault given precedence))
       (judge_step (λ (given : Pit). ArePlacesOf given blocks) (λ given. IsPlacedFault given blocks)) bare tt
-      (judge-decided (λ (given : Pit). IsOrder given precedence) (λ given. IsOrderFault given precedence) bare (order_text bare precedence))
+      (judge-decided (λ (given : Pit). IsOrder given precedence) (λ given. IsOrderFault given precedence) bare (decided-order bare precedence))
       (λ (ordered : Pit). judge-decided (λ (given : Pit). ArePlacesOf given blocks) (λ given. IsPlacedFault given blocks) ordered (places_decided ordered blocks)))
 
 script_judged-decided : (pit : Pit) (number : ℕ) (bytes : List ℕ) → IsDecided IsOfInputs (script_judged pit number bytes) tt

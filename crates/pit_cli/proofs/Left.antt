@@ -3,36 +3,28 @@ use Rattle.std.proofs.Common.{◌≡◌, inl, inr, ℕ, Bool, List, Option, Some
 use Rattle.std.specs.Result.{is_err}
 use Rattle.std.proofs.lemmas.Bool.{false≢true}
 use Rattle.pit_num.specs.Printed.{WritesIfAny}
-use Rattle.pit_plan.specs.Schedule.{Commit, by_block, held_period}
+use Rattle.pit_plan.specs.Schedule.{by_block}
 use Rattle.pit_plan.specs.Standing.{Standing, IsPlanOf}
 use Rattle.pit_text.specs.Solution.{schedule_of}
 use Rattle.pit_text.specs.SolutionText.{solution_text}
 use Rattle.pit_desk.specs.History.{commits_of}
 use Rattle.pit_desk.specs.State.{State, IsDeskKept}
-use Rattle.pit_step.specs.Devices.{Writing, writing_of, write_step, write_if_step}
-use Rattle.pit_step.proofs.CallerLemmas.{keeps_itself}
+use Rattle.pit_step.specs.Devices.{Writing, writing_of, known_if, write_step, write_if_step}
+use Rattle.pit_step.specs.LineTexts.{left_text}
+use Rattle.pit_step.proofs.CallerLemmas.{keeps_itself, left_text-of_periods}
 use Rattle.pit_step.specs.declared.status.Status.{Status}
 use Rattle.pit_step.specs.declared.fault.CliFault.{CliFault}
-use Rattle.pit_text.proofs.CallerLemmas.{schedule_of-same}
 use Rattle.pit_step.specs.declared.fault.CliFault.TheVariants.{NoMemory}
 use Rattle.pit_step.specs.Steps.{in_turn, IsResultOf}
 use Rattle.pit_cli.specs.Texts.{Texts}
 use Rattle.pit_cli.specs.Planning.{Ran, plan_judged, planners_step}
-use Rattle.pit_cli.specs.Output.{left_text, writing_if, IsLeft, IsUnwritten, Outputs, outputs_run, outputs_of, ran_end, plan_run}
+use Rattle.pit_cli.specs.Output.{IsLeft, IsUnwritten, Outputs, outputs_run, outputs_of, ran_end, plan_run}
 
-left_is : (plan : Standing) (commits : List Commit) → IsPlanOf plan commits → length plan.periods ≡ plan.pit.blocks
-    → solution_text (schedule_of (length plan.periods) (by_block plan.periods)) ≡ left_text plan.pit commits
-left_is plan commits is count =
-    ap (λ (pairs : List (ℕ × ℕ)). solution_text pairs)
-    (ap (λ (n : ℕ). schedule_of n (by_block plan.periods)) count ∙ schedule_of-same plan.pit.blocks (by_block plan.periods) (held_period commits) is.period)
-
--- the same of a desk's plan, as it is found
+-- of a desk's plan, as it is found
 pub left_as : (closed desk : State) (plan : Standing) (periods : List (Option ℕ)) → desk ≡ closed → plan ≡ desk.plan → IsDeskKept desk → periods ≡ plan.periods → length periods ≡ plan.pit.blocks
     → solution_text (schedule_of (length periods) (by_block periods)) ≡ left_text closed.plan.pit (commits_of closed.history)
 left_as closed desk plan periods is at kept same count =
-    ap (λ (qs : List (Option ℕ)). solution_text (schedule_of (length qs) (by_block qs))) same
-    ∙ left_is plan (commits_of desk.history) (subst (λ (p : Standing). IsPlanOf p (commits_of desk.history)) (sym at) kept.follows.stands)
-    (ap (λ (qs : List (Option ℕ)). length qs) (sym same) ∙ count)
+    left_text-of_periods plan periods (commits_of desk.history) same count (subst (λ (p : Standing). IsPlanOf p (commits_of desk.history)) (sym at) kept.follows.stands)
     ∙ ap (λ (p : Standing). left_text p.pit (commits_of desk.history)) at
     ∙ ap (λ (d : State). left_text d.plan.pit (commits_of d.history)) is
 
@@ -40,18 +32,18 @@ left_as closed desk plan periods is at kept same count =
 
 -- where nothing was called, a device was left alone
 pub left_itself : {S : Type 0} (contents : S → Option (List ℕ)) (failed : S → Bool) (device : Option S)
-    → IsLeft (writing_if (λ old new. writing_of (contents old) (contents new) (failed new)) device device)
+    → IsLeft (known_if (λ old new. writing_of (contents old) (contents new) (failed new)) device device)
 left_itself contents failed None = tt
 left_itself contents failed (Some device) = keeps_itself (contents device)
 
 -- the same as a step leaves it
 pub if_itself : {S : Type 0} (contents : S → Option (List ℕ)) (failed : S → Bool) (device : Option S) (text : List ℕ)
-    → (write_if_step {A = Unit {0}} (writing_if (λ old new. writing_of (contents old) (contents new) (failed new)) device device) (λ _. text)).IsUntouched
+    → (write_if_step {A = Unit {0}} (known_if (λ old new. writing_of (contents old) (contents new) (failed new)) device device) (λ _. text)).IsUntouched
 if_itself contents failed None text = tt
 if_itself contents failed (Some device) text = keeps_itself (contents device)
 
 -- a device that is known of was there before
-pub was_there : {S : Type 0} (of : S → S → Writing) (old new : Option S) → is_some (writing_if of old new) ≡ true → is_some old ≡ true
+pub was_there : {S : Type 0} (of : S → S → Writing) (old new : Option S) → is_some (known_if of old new) ≡ true → is_some old ≡ true
 was_there of (Some old) new h = refl
 was_there of None new h = cc
 

@@ -6,14 +6,12 @@ use Rattle.pit_model.specs.Pit.{Pit}
 use Rattle.pit_plan.specs.Schedule.{Commit, held_period, value_of}
 use Rattle.pit_plan.specs.Shortfalls.{shortfalls_of}
 use Rattle.pit_plan.specs.declared.short.Short.{Short}
-use Rattle.pit_text.specs.Solution.{schedule_of}
-use Rattle.pit_text.specs.SolutionText.{solution_text}
 use Rattle.pit_desk.specs.History.{commits_of}
 use Rattle.pit_job.specs.declared.outcome.RunEnd.{RunEnd}
 use Rattle.pit_job.specs.declared.outcome.RunEnd.TheVariants as end
 use Rattle.pit_run.specs.Reports.{RunState}
 use Rattle.pit_cli.specs.ReportText.{runs_text}
-use Rattle.pit_step.specs.LineTexts.{value_text, shorts_text}
+use Rattle.pit_step.specs.LineTexts.{value_text, shorts_text, left_text}
 use Rattle.pit_step.specs.Steps.{Step, in_turn, judge_step, may_step, run_step}
 use Rattle.pit_step.specs.Devices.{Writing, write_step, write_if_step}
 use Rattle.pit_lines.specs.Texts.{history_text}
@@ -50,16 +48,6 @@ report_text pit commits runs =
 -- a report's text is gathered, or memory is wanting for it; and then it is written
 abbrev pub report_step : List ℕ → Writing → Step CliFault (Unit {0}) (Unit {0})
 report_step text out = in_turn (may_step NoMemory) (write_step out (λ _. text) (λ _. tt {0}))
-
--- the solution that commits leave
-abbrev pub left_text : Pit → List Commit → List ℕ
-left_text pit commits = solution_text (schedule_of pit.blocks (held_period commits))
-
--- what is known of a device that may be left out, by what is known of it before and after
-abbrev pub writing_if : {S : Type 0} → (S → S → Writing) → Option S → Option S → Option Writing
-writing_if {S} of (Some old) (Some new) = Some (of old new)
-writing_if {S} of (Some old) None = None
-writing_if {S} of None new = None
 
 -- the device, if there is one, has the whole text, or was left alone
 abbrev pub HasWhole : Option Writing → List ℕ → Type 0

@@ -9,22 +9,22 @@ use Rattle.std.proofs.lemmas.List.FromFn.{length-range_with_len}
 use Rattle.std.proofs.lemmas.List.Sums.{count_by-le-length}
 use Rattle.pit_model.proofs.CallerLemmas.{cells_apart, same_resource}
 use Rattle.pit_diff.specs.Changes.{is_same, goes, moved}
-use Rattle.pit_diff.specs.Inside.Table.{row_of, table_cell, IsPeriodOrNone, IsTableOf}
-use Rattle.pit_diff.proofs.Ranges.{count-more}
+use Rattle.pit_diff.specs.Inside.Table.{table_place, table_cell, IsPeriodOrNone, IsTableOf}
+use Rattle.pit_step.proofs.CallerLemmas.{count-more}
 use Rattle.pit_diff.proofs.Same.{period-decides, tells}
 
 -- ---- cells
 
-pub row-within : (periods : ℕ) (p : Option ℕ) → IsPeriodOrNone periods p → row_of periods p < periods + 1
+pub row-within : (periods : ℕ) (p : Option ℕ) → IsPeriodOrNone periods p → table_place periods p < periods + 1
 row-within periods None is = omega arith
 row-within periods (Some t) is = omega (arith, is)
 
 pub cell-within : (periods : ℕ) (from to : Option ℕ) → IsPeriodOrNone periods from → IsPeriodOrNone periods to → table_cell periods from to < (periods + 1) * (periods + 1)
 cell-within periods from to is also =
-    mul-add-lt (row_of periods from) (periods + 1) (row_of periods to) (periods + 1) (row-within periods from is) (row-within periods to also)
+    mul-add-lt (table_place periods from) (periods + 1) (table_place periods to) (periods + 1) (row-within periods from is) (row-within periods to also)
 
 -- another period stands in another place
-pub row-apart : (periods : ℕ) (p q : Option ℕ) → IsPeriodOrNone periods p → IsPeriodOrNone periods q → row_of periods p ≡ row_of periods q → p ≡ q
+pub row-apart : (periods : ℕ) (p q : Option ℕ) → IsPeriodOrNone periods p → IsPeriodOrNone periods q → table_place periods p ≡ table_place periods q → p ≡ q
 row-apart periods None None is also same = refl
 row-apart periods None (Some t) is also same = absurd (omega (arith, also, same))
 row-apart periods (Some s) None is also same = absurd (omega (arith, is, same))
@@ -34,10 +34,10 @@ row-apart periods (Some s) (Some t) is also same = ap Some same
 pub cell-apart : (periods : ℕ) (from to other more : Option ℕ) → IsPeriodOrNone periods from → IsPeriodOrNone periods to → IsPeriodOrNone periods other → IsPeriodOrNone periods more
     → table_cell periods from to ≡ table_cell periods other more → (from ≡ other) × (to ≡ more)
 cell-apart periods from to other more lf lt lo lm same =
-    let rows : row_of periods from ≡ row_of periods other =
-    cells_apart (periods + 1) (row_of periods to) (row_of periods more) (row_of periods from) (row_of periods other) (row-within periods to lt) (row-within periods more lm) same in (
+    let rows : table_place periods from ≡ table_place periods other =
+    cells_apart (periods + 1) (table_place periods to) (table_place periods more) (table_place periods from) (table_place periods other) (row-within periods to lt) (row-within periods more lm) same in (
       row-apart periods from other lf lo rows,
-      row-apart periods to more lt lm (sym (same_resource (periods + 1) (row_of periods to) (row_of periods more) (row_of periods from) (row_of periods other) same rows)),
+      row-apart periods to more lt lm (sym (same_resource (periods + 1) (table_place periods to) (table_place periods more) (table_place periods from) (table_place periods other) same rows)),
     )
 
 -- ---- one more block

@@ -1,28 +1,20 @@
 -- The run of `diff` has one outcome.
-use Rattle.std.proofs.Common.{◌≡◌, ℕ, List, IsSome, inl, inr, sym, ap, subst, ◌∙◌}
+use Rattle.std.proofs.Common.{◌≡◌, ℕ, List, IsSome, inl, inr, subst}
 use Rattle.std.specs.Io.KnownBytes.{Keeps}
 use Rattle.pit_model.specs.Pit.{Pit}
 use Rattle.pit_plan.specs.Schedule.{Commit}
 use Rattle.pit_step.specs.declared.input.Input.TheVariants.{Old, New}
 use Rattle.pit_step.specs.declared.status.Status.{Status}
 use Rattle.pit_step.specs.declared.fault.CliFault.TheVariants.{NoMemory}
-use Rattle.pit_step.specs.Steps.{Step, in_turn, beside, HasOneOutcome}
+use Rattle.pit_step.specs.Steps.{in_turn, beside, want_aside, HasOneOutcome}
 use Rattle.pit_step.specs.Devices.{Reading, Writing, answer_step}
 use Rattle.pit_step.specs.Inputs.{model_step}
-use Rattle.pit_step.proofs.CallerLemmas.{IsDetermined, IsNeverBoth, IsSeen, IsOneHistory, IsNeverBad, IsOneFault, shown_run, in_turn-determined, input-determined, write-determined, write-never_both, model-determined}
+use Rattle.pit_step.proofs.CallerLemmas.{IsDetermined, IsNeverBoth, IsSeen, IsOneHistory, IsNeverBad, IsOneFault, seen_run, shown_run, in_turn-determined, beside-determined, input-determined, write-determined, write-never_both, model-determined}
 use Rattle.pit_state.specs.States.{IsStateOf, IsStateFault, state_step}
 use Rattle.pit_state.specs.Views.{IsViewed}
 use Rattle.pit_state.proofs.CallerLemmas.{state_text, view_text}
 use Rattle.pit_diff.specs.DiffText.{diff_answer}
-use Rattle.pit_diff.specs.Diff.{new_step, schedules_run, diff_run, want_aside}
-
-beside-determined : {F A B : Type 0} (Due : F → Type 0) (step : Step F A B) (given : A) → IsDetermined Due step given → IsDetermined Due (beside step) given
-beside-determined {F} {A} {B} Due step given one = record {
-  values = λ value other p q.
-      ap (λ (a : A). (a, value.1)) (p.0 ∙ sym q.0) ∙ ap (λ (b : B). (other.0, b)) (one.values value.1 other.1 p.1 q.1);
-  apart = λ value fault due p q. one.apart value.1 fault due p.1 q;
-  faults = one.faults;
-}
+use Rattle.pit_diff.specs.Diff.{new_step, schedules_run, diff_run}
 
 module _ (one_history : IsOneHistory) (never_bad : IsNeverBad) (one_fault : IsOneFault) (model old new : Reading) (out : Writing) (told_model : IsSome model.before) (told_old : IsSome old.before) (told_new : IsSome new.before) where
   one-old : (pit : Pit) → IsDetermined IsSeen (beside (state_step Old old)) pit
@@ -49,12 +41,8 @@ module _ (one_history : IsOneHistory) (never_bad : IsNeverBad) (one_fault : IsOn
 
   -- ---- want of memory aside
 
-  pub seen-outcome : HasOneOutcome NoMemory (want_aside (diff_run model old new out))
-  seen-outcome = record {
-    values = one-run.values;
-    apart = λ value fault p q. one-run.apart value fault q.0 p q.1;
-    faults = λ fault other some also p q. one-run.faults fault other some also p.1 q.1;
-  }
+  pub seen-outcome : HasOneOutcome NoMemory (want_aside NoMemory (diff_run model old new out))
+  seen-outcome = seen_run NoMemory (diff_run model old new out) one-run
 
   -- ---- where something was written
 

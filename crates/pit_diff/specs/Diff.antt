@@ -1,9 +1,8 @@
 -- The run of `diff`.
-use Rattle.std.specs.Prelude.{◌≢◌, ℕ, List}
+use Rattle.std.specs.Prelude.{ℕ, List}
 use Rattle.pit_model.specs.Pit.{Pit}
 use Rattle.pit_plan.specs.Schedule.{Commit}
 use Rattle.pit_step.specs.declared.fault.CliFault.{CliFault}
-use Rattle.pit_step.specs.declared.fault.CliFault.TheVariants.{NoMemory}
 use Rattle.pit_step.specs.declared.input.Input.TheVariants.{Old, New}
 use Rattle.pit_step.specs.declared.status.Status.{Status}
 use Rattle.pit_step.specs.Steps.{Step, in_turn, beside}
@@ -24,11 +23,3 @@ schedules_run old new out = in_turn (beside (state_step Old old)) (in_turn (new_
 -- the model, and then these
 abbrev pub diff_run : Reading → Reading → Reading → Writing → Step CliFault (Unit {0}) Status
 diff_run model old new out = in_turn (model_step model) (schedules_run old new out)
-
--- the run, where its fault isn't want of memory
-abbrev pub want_aside : {A B : Type 0} → Step CliFault A B → Step CliFault A B
-want_aside step = record {
-  Gives = step.Gives;
-  Fails = λ given fault. (fault ≢ NoMemory) × step.Fails given fault;
-  IsUntouched = step.IsUntouched;
-}

@@ -3,7 +3,7 @@ ghost use Rattle.std.specs.Prelude.{◌≡◌, ◌+◌, ◌*◌, ◌<◌, ◌≤
 ghost use Rattle.pit_num.specs.declared.limits.TheConstants.{PERIODS_MAX};
 ghost use Rattle.pit_plan.specs.Standing.{period_of};
 ghost use Rattle.pit_diff.specs.Changes.{moved};
-ghost use Rattle.pit_diff.specs.Inside.Table.{row_of, table_cell, IsPeriodOrNone, IsTableOf};
+ghost use Rattle.pit_diff.specs.Inside.Table.{table_place, table_cell, IsPeriodOrNone, IsTableOf};
 
 use pit_num::NoMemory;
 use pit_plan::Plan;
@@ -53,7 +53,7 @@ pub(crate) fn cell(periods: u32, old: Option<u32>, new: Option<u32>) -> usize
 
 fn row(periods: u32, period: Option<u32>) -> usize
     requires { IsPeriodOrNone periods period }
-    ensures is { result ≡ row_of periods period }
+    ensures is { result ≡ table_place periods period }
     ensures within { result ≤ periods }
 {
     match period {

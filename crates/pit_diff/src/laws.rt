@@ -4,12 +4,12 @@ ghost use Rattle.std.specs.Io.KnownBytes.{Keeps};
 ghost use Rattle.pit_model.specs.Pit.{Pit};
 ghost use Rattle.pit_plan.specs.Schedule.{Commit};
 ghost use Rattle.pit_step.specs.declared.status.Status.TheVariants.{Fine, Failed};
-ghost use Rattle.pit_step.specs.Steps.{HasOneOutcome};
+ghost use Rattle.pit_step.specs.Steps.{HasOneOutcome, want_aside};
 ghost use Rattle.pit_step.specs.Devices.{Reading, Writing};
 ghost use Rattle.pit_diff.specs.Changes.{changes_of, moves_of};
 ghost use Rattle.pit_diff.specs.Laid.{LeadOver, LeaveTheSame, all_moved};
 ghost use Rattle.pit_diff.specs.DiffText.{diff_text, diff_answer};
-ghost use Rattle.pit_diff.specs.Diff.{diff_run, want_aside};
+ghost use Rattle.pit_diff.specs.Diff.{diff_run};
 
 use pit_lines::laws::{one_history, one_result};
 use pit_step::CliFault;
@@ -37,7 +37,7 @@ pub fn moves_add_up()
 pub fn one_outcome()
     ensures seen { (model old new : Reading) (out : Writing)
         → IsSome model.before → IsSome old.before → IsSome new.before
-        → HasOneOutcome CliFault.NoMemory (want_aside (diff_run model old new out)) }
+        → HasOneOutcome CliFault.NoMemory (want_aside CliFault.NoMemory (diff_run model old new out)) }
     ensures written { (model old new : Reading) (out : Writing)
         → IsSome model.before → IsSome old.before → IsSome new.before → (Keeps out.before out.after → ⊥)
         → HasOneOutcome CliFault.NoMemory (diff_run model old new out) }

@@ -1,37 +1,14 @@
--- Lists that rise below a bound.
-use Rattle.std.proofs.Common.{ℕ, ℤ, zero, suc, ◌<◌, ◌≤◌, List, length, map, get_or, All, arith, inl, inr}
-use Rattle.std.specs.List.Sorted.{IsStrictlyIncreasing}
+-- How many coefficients a block has.
+use Rattle.std.proofs.Common.{ℕ, ℤ, ◌<◌, ◌≤◌, List, length, map, All, arith}
 use Rattle.std.proofs.lemmas.List.{length-map}
 use Rattle.std.proofs.lemmas.List.Elements.{All-map}
-use Rattle.std.proofs.lemmas.Bool.Decides.{leb_tells}
-use Rattle.std.proofs.lemmas.List.Kept.{AllPairs-from_increasing}
-use Rattle.pit_model.specs.Pit.{ArePreds, AreCoefs}
-
-rank-le : (xs : List ℕ) (k : ℕ) → ((i j : ℕ) → i < j → j < length xs → get_or xs i 0 < get_or xs j 0) → k < length xs → k ≤ get_or xs k 0
-rank-le xs zero rises below = omega arith
-rank-le xs (suc k) rises below =
-    let before = rank-le xs k rises (omega (arith, below)) in
-    let next = rises k (suc k) (omega arith) below in
-    omega (arith, before, next)
-
-few : (xs : List ℕ) (n : ℕ) → IsStrictlyIncreasing xs → All (λ x. x < n) xs → length xs ≤ n
-few xs n rising below =
-    elim (leb_tells (length xs) n) [
-      | inl is ↦ is.1
-      | inr many ↦
-          let rank = rank-le xs n (λ i j less within. AllPairs-from_increasing xs rising i j 0 less within) (omega (arith, many.1)) in
-          let last = below n 0 (omega (arith, many.1)) in
-          absurd (omega (arith, rank, last))
-    ]
-
--- there are no more predecessors than blocks
-pub few-preds : (blocks b : ℕ) (preds : List ℕ) → ArePreds blocks b preds → length preds ≤ blocks
-few-preds blocks b preds are = few preds blocks are.rising are.in_range
+use Rattle.pit_model.specs.Pit.{AreCoefs}
+use Rattle.pit_step.proofs.CallerLemmas.{few-rising}
 
 -- there are no more coefficients than resources
 pub few-coefs : (resources : ℕ) (pairs : List (ℕ × ℤ)) → AreCoefs resources pairs → length pairs ≤ resources
 few-coefs resources pairs are =
     let long = length-map pairs (λ (pair : ℕ × ℤ). pair.0) in
     let within : All (λ x. x < resources) (map (λ (pair : ℕ × ℤ). pair.0) pairs) = All-map (λ (x : ℕ). x < resources) (λ (pair : ℕ × ℤ). pair.0) pairs are.in_range in
-    let short = few (map (λ (pair : ℕ × ℤ). pair.0) pairs) resources are.rising within in
+    let short = few-rising (map (λ (pair : ℕ × ℤ). pair.0) pairs) resources are.rising within in
     omega (arith, long, short)

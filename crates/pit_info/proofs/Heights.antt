@@ -18,7 +18,7 @@ use Rattle.indexmap.specs.IndexSet.{insert_key, insert_all}
 use Rattle.pit_model.specs.Pit.{Pit, place_of}
 use Rattle.pit_info.specs.Figures.{height_of, heights_in}
 use Rattle.pit_info.specs.Inside.Heights.{with_height}
-use Rattle.pit_info.proofs.Ranges.{range-more}
+use Rattle.pit_step.proofs.CallerLemmas.{range-more}
 
 -- ---- one more block
 

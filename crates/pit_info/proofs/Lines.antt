@@ -5,7 +5,7 @@ use Rattle.std.proofs.lemmas.List.{append-nil}
 use Rattle.std.proofs.lemmas.List.Concat.{flat_map-append}
 use Rattle.std.proofs.lemmas.List.Elements.{filter-append}
 use Rattle.pit_info.specs.InfoText.{unlimited_line, unlimited_text, unless_text}
-use Rattle.pit_info.proofs.Ranges.{range-more}
+use Rattle.pit_step.proofs.CallerLemmas.{range-more}
 
 pub unlimited-none : unlimited_text [] ≡ []
 unfolding unlimited_text

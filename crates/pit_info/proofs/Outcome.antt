@@ -6,12 +6,12 @@ use Rattle.pit_model.specs.Pit.{Pit, IsUnmeetable, IsMeetable, IsFirstUnmeetable
 use Rattle.pit_step.specs.declared.fault.CliFault.TheVariants.{NoMemory}
 use Rattle.pit_step.specs.declared.input.Input.TheVariants.{Model, Precedence, Blocks}
 use Rattle.pit_step.specs.declared.status.Status.TheVariants.{Fine}
-use Rattle.pit_step.specs.Steps.{Step, HasOneOutcome}
+use Rattle.pit_step.specs.Steps.{carrying, HasOneOutcome}
 use Rattle.pit_step.specs.Devices.{Reading, Writing, write_step}
 use Rattle.pit_step.specs.Inputs.{IsModelFault, IsOrder, IsOrderFault, IsPlaced, IsPlacesFault, order_step}
-use Rattle.pit_step.proofs.CallerLemmas.{IsSeen, IsDetermined, IsOneText, shown_run, in_turn-determined, input-determined, model_text, order_text, places_text, write-determined, write-shown, write-never_both}
+use Rattle.pit_step.proofs.CallerLemmas.{IsSeen, IsDetermined, IsOneText, shown_run, in_turn-determined, carrying-determined, input-determined, decided-model, decided-order, decided-places, write-determined, write-shown, write-never_both}
 use Rattle.pit_info.specs.InfoText.{size_text, info_text}
-use Rattle.pit_info.specs.Info.{IsHeaded, IsInfo, IsToldIf, carrying, headed_step, places_if_step, ordered_step, inputs_step, told_step, info_run}
+use Rattle.pit_info.specs.Info.{IsHeaded, IsInfo, IsToldIf, headed_step, places_if_step, ordered_step, inputs_step, told_step, info_run}
 
 -- ---- the inputs
 
@@ -19,9 +19,9 @@ use Rattle.pit_info.specs.Info.{IsHeaded, IsInfo, IsToldIf, carrying, headed_ste
 headed_text : (bytes : List ℕ) → IsOneText (IsHeaded bytes) (IsModelFault bytes)
 headed_text bytes = record {
   values = λ value other p q.
-      ap (λ (pit : Pit). (pit, value.1)) ((model_text bytes).once.values value.0 other.0 p.stands q.stands) ∙ ap (λ (xs : List ℕ). (other.0, xs)) (p.unknown ∙ sym q.unknown);
-  apart = λ value fault some p q. (model_text bytes).once.apart value.0 fault some p.stands q;
-  faults = (model_text bytes).once.faults;
+      ap (λ (pit : Pit). (pit, value.1)) ((decided-model bytes).once.values value.0 other.0 p.stands q.stands) ∙ ap (λ (xs : List ℕ). (other.0, xs)) (p.unknown ∙ sym q.unknown);
+  apart = λ value fault some p q. (decided-model bytes).once.apart value.0 fault some p.stands q;
+  faults = (decided-model bytes).once.faults;
 }
 
 headed-determined : (model : Reading) → IsSome model.before → IsDetermined IsSeen (headed_step model) tt
@@ -33,20 +33,12 @@ places-determined None given told = record {
   apart = λ value fault due p q. q;
   faults = λ fault other due also p q. absurd p;
 }
-places-determined (Some blocks) given told = input-determined Blocks blocks IsPlaced IsPlacesFault given told (λ bytes. (places_text given bytes).once)
+places-determined (Some blocks) given told = input-determined Blocks blocks IsPlaced IsPlacesFault given told (λ bytes. (decided-places given bytes).once)
 
 ordered-determined : (precedence : Reading) (blocks : Option Reading) (given : Pit) → IsSome precedence.before → IsToldIf blocks → IsDetermined IsSeen (ordered_step precedence blocks) given
 ordered-determined precedence blocks given told also =
     in_turn-determined IsSeen (order_step precedence) (places_if_step blocks) given
-    (input-determined Precedence precedence IsOrder IsOrderFault given told (λ bytes. (order_text given bytes).once)) (λ between. places-determined blocks between also)
-
-carrying-determined : {F A B C : Type 0} (Due : F → Type 0) (step : Step F A B) (given : A × C) → IsDetermined Due step given.0 → IsDetermined Due (carrying {C = C} step) given
-carrying-determined {F} {A} {B} {C} Due step given one = record {
-  values = λ value other p q.
-      ap (λ (b : B). (b, value.1)) (one.values value.0 other.0 p.0 q.0) ∙ ap (λ (c : C). (other.0, c)) (p.1 ∙ sym q.1);
-  apart = λ value fault due p q. one.apart value.0 fault due p.0 q;
-  faults = one.faults;
-}
+    (input-determined Precedence precedence IsOrder IsOrderFault given told (λ bytes. (decided-order given bytes).once)) (λ between. places-determined blocks between also)
 
 inputs-determined : (model precedence : Reading) (blocks : Option Reading) → IsSome model.before → IsSome precedence.before → IsToldIf blocks → IsDetermined IsSeen (inputs_step model precedence blocks) tt
 inputs-determined model precedence blocks told_model told_precedence told_blocks =

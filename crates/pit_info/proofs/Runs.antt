@@ -1,14 +1,14 @@
 -- What the calls of the engine answer, as the steps of its run.
 use Rattle.std.proofs.Common.{◌≡◌, inr, ℕ, Bool, List, Option, Some, None, is_some, Result, Ok, Err, refl, sym, subst}
 use Rattle.pit_model.specs.Pit.{Pit}
-use Rattle.pit_step.specs.Devices.{Reading}
+use Rattle.pit_step.specs.Devices.{Reading, known_if}
 use Rattle.pit_step.specs.Steps.{Step, in_turn, IsResultOf}
-use Rattle.pit_info.specs.Info.{IsInfo, reading_if}
+use Rattle.pit_info.specs.Info.{IsInfo}
 
 -- ---- a source that may be left out
 
 -- it is known of where it is there
-pub is_some-reading : {S : Type 0} (of : S → S → Reading) (old new : Option S) → is_some new ≡ is_some old → is_some (reading_if of old new) ≡ is_some new
+pub is_some-reading : {S : Type 0} (of : S → S → Reading) (old new : Option S) → is_some new ≡ is_some old → is_some (known_if of old new) ≡ is_some new
 is_some-reading of (Some old) (Some new) same = refl
 is_some-reading of (Some old) None same = refl
 is_some-reading of None (Some new) same = sym same

@@ -11,7 +11,7 @@ use Rattle.pit_num.proofs.CallerLemmas.{appends_nothing, appends_more}
 use Rattle.pit_text.specs.Cutting.{Cut}
 use Rattle.pit_info.specs.Unknown.{key_field, has_known_key, begins_section, header_of, unknown_runs, run_text, runs_text, unknown_text}
 use Rattle.pit_info.specs.declared.unknown.Span.{Span}
-use Rattle.pit_info.specs.Inside.Spans.{IsSpanAt, IsSpanOf, Goes, pending_text}
+use Rattle.pit_info.specs.Inside.Spans.{IsSpanAt, IsSpanOf, IsNextSpan, pending_text}
 use Rattle.pit_info.proofs.Ranges.{last-push}
 
 -- ---- the header
@@ -67,7 +67,7 @@ longer-more (l ∷ others) line old span is first last key =
 
 -- a known key ends the run
 pub goes-known : (before after : Option (List ℕ)) (run : List Cut) (line : Cut) (span : Option Span) → has_known_key line ≡ true → IsSpanOf run span → Appends before after (pending_text span)
-    → Goes before after run line None
+    → IsNextSpan before after run line None
 goes-known before after run line span known is written = record {
   text = pending_text span;
   written = written;
@@ -78,7 +78,7 @@ goes-known before after run line span known is written = record {
 
 -- any other goes on with it
 pub goes-on : (here : Option (List ℕ)) (run : List Cut) (line : Cut) (span next : Option Span) → has_known_key line ≡ false → IsSpanOf run span → IsSpanAt (run ++ line ∷ []) next
-    → Goes here here run line next
+    → IsNextSpan here here run line next
 goes-on here run line span next other is longer = record {
   text = [];
   written = appends_nothing here;
@@ -108,7 +108,7 @@ reads-none here lines left same = record {
 }
 
 pub reads-more : (before between after : Option (List ℕ)) (lines left rest : List Cut) (line : Cut) (span next : Option Span) → IsReadSo before between lines left span → left ≡ line ∷ rest
-    → begins_section line ≡ false → ((run : List Cut) → IsSpanOf run span → Goes between after run line next) → IsReadSo before after lines rest next
+    → begins_section line ≡ false → ((run : List Cut) → IsSpanOf run span → IsNextSpan between after run line next) → IsReadSo before after lines rest next
 reads-more before between after lines left rest line span next so is other goes =
     let step = goes so.run so.spans in
     record {

@@ -7,7 +7,7 @@ use Rattle.pit_step.specs.declared.fault.CliFault.TheVariants.{NoMemory}
 use Rattle.pit_step.specs.declared.input.Input.TheVariants.{Model, Blocks}
 use Rattle.pit_step.specs.declared.status.Status.{Status}
 use Rattle.pit_step.specs.declared.status.Status.TheVariants.{Fine}
-use Rattle.pit_step.specs.Steps.{Step, in_turn, judge_step}
+use Rattle.pit_step.specs.Steps.{Step, in_turn, carrying, judge_step}
 use Rattle.pit_step.specs.Devices.{Reading, Writing, input_step, write_step}
 use Rattle.pit_step.specs.Inputs.{IsModel, IsModelFault, IsPlaced, IsPlacesFault, order_step}
 use Rattle.pit_info.specs.Unknown.{unknown_text}
@@ -28,24 +28,10 @@ abbrev pub places_if_step : Option Reading → Step CliFault Pit Pit
 places_if_step None = judge_step (λ given value. value ≡ given) (λ given fault. ⊥)
 places_if_step (Some blocks) = input_step Blocks blocks IsPlaced IsPlacesFault
 
--- what is known of a source that may be left out, by what is known of it before and after
-abbrev pub reading_if : {S : Type 0} → (S → S → Reading) → Option S → Option S → Option Reading
-reading_if {S} of (Some old) (Some new) = Some (of old new)
-reading_if {S} of (Some old) None = None
-reading_if {S} of None new = None
-
 -- the source, if there is one, tells its bytes
 abbrev pub IsToldIf : Option Reading → Type 0
 IsToldIf None = ⊤
 IsToldIf (Some blocks) = IsSome blocks.before
-
--- a step to which something is added that is carried along
-abbrev pub carrying : {F A B C : Type 0} → Step F A B → Step F (A × C) (B × C)
-carrying step = record {
-  Gives = λ given value. step.Gives given.0 value.0 × (value.1 ≡ given.1);
-  Fails = λ given fault. step.Fails given.0 fault;
-  IsUntouched = step.IsUntouched;
-}
 
 -- the precedences and the places of a pit
 abbrev pub ordered_step : Reading → Option Reading → Step CliFault Pit Pit

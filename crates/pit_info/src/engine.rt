@@ -1,8 +1,8 @@
 ghost use Rattle.std.specs.Prelude.{◌≡◌, Some, IfOk, MatchResult, is_some};
 ghost use Rattle.pit_step.specs.Steps.{IsResultOf};
-ghost use Rattle.pit_step.specs.Devices.{reading_of, writing_of};
+ghost use Rattle.pit_step.specs.Devices.{reading_of, writing_of, known_if};
 ghost use Rattle.pit_step.specs.Inputs.{IsModelFault};
-ghost use Rattle.pit_info.specs.Info.{IsHeaded, IsInfo, headed_step, ordered_step, inputs_step, places_if_step, reading_if, info_run};
+ghost use Rattle.pit_info.specs.Info.{IsHeaded, IsInfo, headed_step, ordered_step, inputs_step, places_if_step, info_run};
 
 use crate::benches::benches_if;
 use crate::info_text::write_info;
@@ -27,7 +27,7 @@ pub fn info<A: Allocator + Copy + Drop, M: Source, P: Source, B: Source, W: Sink
 ) -> Result<Status, CliFault>
     ensures done { let model_read = reading_of (M.remaining model.old) (M.remaining model.new) (M.has_failed model.new) in
         let precedence_read = reading_of (P.remaining precedence.old) (P.remaining precedence.new) (P.has_failed precedence.new) in
-        let blocks_read = reading_if (λ old new. reading_of (B.remaining old) (B.remaining new) (B.has_failed new)) blocks.old blocks.new in
+        let blocks_read = known_if (λ old new. reading_of (B.remaining old) (B.remaining new) (B.has_failed new)) blocks.old blocks.new in
         let written = writing_of (W.contents out.old) (W.contents out.new) (W.has_failed out.new) in
         IsResultOf (info_run model_read precedence_read blocks_read written) tt result }
     ensures same { is_some blocks.new ≡ is_some blocks.old }
@@ -52,7 +52,7 @@ fn read_inputs<A: Allocator + Copy + Drop, M: Source, P: Source, B: Source>(
 ) -> Result<(Builder<A>, Vec<u8, A>), CliFault>
     ensures done { let model_read = reading_of (M.remaining model.old) (M.remaining model.new) (M.has_failed model.new) in
         let precedence_read = reading_of (P.remaining precedence.old) (P.remaining precedence.new) (P.has_failed precedence.new) in
-        let blocks_read = reading_if (λ old new. reading_of (B.remaining old) (B.remaining new) (B.has_failed new)) blocks.old blocks.new in
+        let blocks_read = known_if (λ old new. reading_of (B.remaining old) (B.remaining new) (B.has_failed new)) blocks.old blocks.new in
         let step = inputs_step model_read precedence_read blocks_read in
         MatchResult result (λ read. step.Gives tt (read.0, read.1.items)) (step.Fails tt) }
     ensures same { is_some blocks.new ≡ is_some blocks.old }
@@ -101,7 +101,7 @@ fn read_ordered<A: Allocator + Copy + Drop, P: Source, B: Source>(
     given: Builder<A>,
 ) -> Result<Builder<A>, CliFault>
     ensures done { let precedence_read = reading_of (P.remaining precedence.old) (P.remaining precedence.new) (P.has_failed precedence.new) in
-        let blocks_read = reading_if (λ old new. reading_of (B.remaining old) (B.remaining new) (B.has_failed new)) blocks.old blocks.new in
+        let blocks_read = known_if (λ old new. reading_of (B.remaining old) (B.remaining new) (B.has_failed new)) blocks.old blocks.new in
         IsResultOf (ordered_step precedence_read blocks_read) given result }
     ensures same { is_some blocks.new ≡ is_some blocks.old }
 {
@@ -118,7 +118,7 @@ fn read_places_if<A: Allocator + Copy + Drop, B: Source>(
     blocks: &mut Option<B>,
     given: Builder<A>,
 ) -> Result<Builder<A>, CliFault>
-    ensures done { let read = reading_if (λ old new. reading_of (B.remaining old) (B.remaining new) (B.has_failed new)) blocks.old blocks.new in
+    ensures done { let read = known_if (λ old new. reading_of (B.remaining old) (B.remaining new) (B.has_failed new)) blocks.old blocks.new in
         IsResultOf (places_if_step read) given result }
     ensures same { is_some blocks.new ≡ is_some blocks.old }
 {

@@ -4,7 +4,7 @@ ghost use Rattle.std.specs.Io.KnownBytes.{Appends};
 ghost use Rattle.pit_text.specs.Cutting.{Cut, cut_of};
 ghost use Rattle.pit_text.specs.Left.{cut_seen};
 ghost use Rattle.pit_info.specs.Unknown.{is_known as known, key_field as key_at, shown_byte as shown_as, unknown_text};
-ghost use Rattle.pit_info.specs.Inside.Spans.{IsSpanAt, IsSpanOf, Goes, pending_text};
+ghost use Rattle.pit_info.specs.Inside.Spans.{IsSpanAt, IsSpanOf, IsNextSpan, pending_text};
 
 use pit_num::{NoMemory, Sink, WriteFault, write_text};
 use pit_step::{empty_text, gathered, write_field};
@@ -68,7 +68,7 @@ fn next_span<'a, W: Sink>(
     key: &'a [u8],
 ) -> Result<Option<Span<'a>>, WriteFault>
     ensures { IfOk result (λ next. (run : List Cut) (line : Cut) → line.number ≡ number → key_at line ≡ key.now → IsSpanOf run span.entry
-        → Goes (W.contents w.old) (W.contents w.new) run line next) }
+        → IsNextSpan (W.contents w.old) (W.contents w.new) run line next) }
 {
     if is_known(key) {
         write_span(w, span)?;

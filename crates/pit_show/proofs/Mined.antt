@@ -1,5 +1,5 @@
 -- The solution that commits leave, by the periods that a plan keeps.
-use Rattle.std.proofs.Common.{◌≡◌, ℕ, zero, suc, ◌+◌, List, [], ◌++◌, Option, None, length, refl, ap, sym, ◌∙◌}
+use Rattle.std.proofs.Common.{◌≡◌, ℕ, zero, suc, ◌+◌, List, [], ◌++◌, Option, None, length, refl, ap, ◌∙◌}
 use Rattle.std.specs.List.{filter_map, range_with_len}
 use Rattle.pit_model.specs.Pit.{Pit}
 use Rattle.pit_plan.specs.Schedule.{Commit, by_block, held_period}
@@ -8,21 +8,14 @@ use Rattle.pit_plan.proofs.CallerLemmas.{held_period-nil}
 use Rattle.pit_text.specs.Solution.{schedule_of, pair_of}
 use Rattle.pit_text.specs.SolutionText.{solution_text}
 use Rattle.pit_text.proofs.CallerLemmas.{schedule_of-same}
-use Rattle.pit_show.specs.ShowText.{left_text}
+use Rattle.pit_step.specs.LineTexts.{left_text}
+use Rattle.pit_step.proofs.CallerLemmas.{left_text-of_periods}
 
-left_is : (plan : Standing) (commits : List Commit) → IsPlanOf plan commits → length plan.periods ≡ plan.pit.blocks
-    → solution_text (schedule_of (length plan.periods) (by_block plan.periods)) ≡ left_text plan.pit commits
-left_is plan commits is count =
-    ap (λ (pairs : List (ℕ × ℕ)). solution_text pairs)
-    (ap (λ (n : ℕ). schedule_of n (by_block plan.periods)) count ∙ schedule_of-same plan.pit.blocks (by_block plan.periods) (held_period commits) is.period)
-
--- the same of the periods as they are found, behind a comment
+-- behind a comment
 pub left_as : (plan : Standing) (periods : List (Option ℕ)) (comment text : List ℕ) (commits : List Commit) → periods ≡ plan.periods → length periods ≡ plan.pit.blocks → IsPlanOf plan commits
     → text ≡ comment ++ solution_text (schedule_of (length periods) (by_block periods)) → text ≡ comment ++ left_text plan.pit commits
 left_as plan periods comment text commits same count stands is =
-    is
-    ∙ ap (λ (xs : List ℕ). comment ++ xs)
-    (ap (λ (ps : List (Option ℕ)). solution_text (schedule_of (length ps) (by_block ps))) same ∙ left_is plan commits stands (ap length (sym same) ∙ count))
+    is ∙ ap (λ (xs : List ℕ). comment ++ xs) (left_text-of_periods plan periods commits same count stands)
 
 -- ---- after no commit
 

@@ -9,14 +9,15 @@ use Rattle.pit_step.specs.declared.status.Status.{Status}
 use Rattle.pit_step.specs.declared.status.Status.TheVariants.{Fine}
 use Rattle.pit_step.specs.declared.fault.CliFault.{CliFault}
 use Rattle.pit_step.specs.declared.fault.CliFault.TheVariants.{FewCommits, NoMemory}
-use Rattle.pit_step.specs.Steps.{in_turn, HasOneOutcome}
+use Rattle.pit_step.specs.LineTexts.{left_text}
+use Rattle.pit_step.specs.Steps.{in_turn, want_aside, HasOneOutcome}
 use Rattle.pit_step.specs.Devices.{Reading, Writing, write_step}
 use Rattle.pit_step.specs.Inputs.{model_step}
-use Rattle.pit_step.proofs.CallerLemmas.{IsDetermined, IsOneHistory, IsNeverBad, IsOneFault, IsOneText, IsSeen, shown_run, in_turn-determined, input-determined, write-determined, write-never_both, model-determined}
+use Rattle.pit_step.proofs.CallerLemmas.{IsDetermined, IsOneHistory, IsNeverBad, IsOneFault, IsOneText, IsSeen, seen_run, shown_run, in_turn-determined, input-determined, write-determined, write-never_both, model-determined}
 use Rattle.pit_state.specs.States.{is_history, IsStateOf}
 use Rattle.pit_state.proofs.CallerLemmas.{state_text}
 use Rattle.pit_show.specs.Fronts.{IsFront}
-use Rattle.pit_show.specs.ShowText.{left_text, history_comment}
+use Rattle.pit_show.specs.ShowText.{history_comment}
 use Rattle.pit_show.specs.Show.{shown_count, IsHistoryComment, IsCommentBy, IsComment, IsShown, IsTooFew, IsShowFault, show_step, show_run}
 use Rattle.pit_show.proofs.OneFront.{one-front}
 
@@ -107,12 +108,15 @@ module _ (one_history : IsOneHistory) (never_bad : IsNeverBad) (one_fault : IsOn
     out_determined : (answer : List ℕ) → IsDetermined {B = Status} IsSeen (write_step out (λ (text : List ℕ). text) (λ text. Fine)) answer
     out_determined answer = write-determined out (λ (text : List ℕ). text) (λ text. Fine) answer
 
-    pub show_determined : IsDetermined IsSeen (show_run at model schedule out) tt
+    show_determined : IsDetermined IsSeen (show_run at model schedule out) tt
     show_determined =
         in_turn-determined IsSeen (model_step model) (in_turn (show_step at schedule) (write_step out (λ (text : List ℕ). text) (λ text. Fine))) tt (model-determined model told_model)
         (λ pit. in_turn-determined IsSeen (show_step at schedule) (write_step out (λ (text : List ℕ). text) (λ text. Fine)) pit (schedule_determined pit) out_determined)
 
-    pub show_outcome : (Keeps out.before out.after → ⊥) → HasOneOutcome NoMemory (show_run at model schedule out)
-    show_outcome grown =
+    pub seen-outcome : HasOneOutcome NoMemory (want_aside NoMemory (show_run at model schedule out))
+    seen-outcome = seen_run NoMemory (show_run at model schedule out) show_determined
+
+    pub written-outcome : (Keeps out.before out.after → ⊥) → HasOneOutcome NoMemory (show_run at model schedule out)
+    written-outcome grown =
         shown_run NoMemory (model_step model) (show_step at schedule) (write_step out (λ (text : List ℕ). text) (λ text. Fine)) (model-determined model told_model) schedule_determined out_determined
         (λ pit answer p value gives untouched. grown untouched) (λ answer. write-never_both out (λ (text : List ℕ). text) (λ text. Fine) answer)

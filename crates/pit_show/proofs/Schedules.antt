@@ -13,7 +13,8 @@ use Rattle.pit_step.specs.Inputs.{IsSolutionOf, IsSolutionFault, IsHistoryFault}
 use Rattle.pit_state.specs.States.{is_history, commits_of_schedule, EachFits, IsUnfit, IsStateOf}
 use Rattle.pit_state.proofs.CallerLemmas.{history-state, history-unfit, history-bad, solution-state, solution-bad, solution-wants, fit-or-unfit}
 use Rattle.pit_show.specs.Fronts.{IsFront}
-use Rattle.pit_show.specs.ShowText.{left_text, history_comment}
+use Rattle.pit_step.specs.LineTexts.{left_text}
+use Rattle.pit_show.specs.ShowText.{history_comment}
 use Rattle.pit_show.specs.Show.{shown_count, IsHistoryComment, IsComment, IsShown, IsTooFew, IsShowFault}
 use Rattle.pit_show.specs.Inside.Shown.{IsFrontShown, AreEntriesShown, AreNotShown, ArePairsShown, IsWantOrFew}
 use Rattle.pit_show.proofs.Fronts.{front-commits}
@@ -82,14 +83,20 @@ front-shown pit left entries front count comment answer is told same leaves said
       ∙ ap (λ (commits : List Commit). history_comment front ++ left_text pit commits) (front-commits entries count front is)));
 }
 
+-- so many are shown, and there are enough
+same-count : (at : Option ℕ) (commits : List Commit) (total count : ℕ) → total ≡ length commits → count ≡ unwrap_or at total → count ≡ shown_count at commits
+same-count at commits total count all is = is ∙ ap (λ (n : ℕ). unwrap_or at n) all
+
+pub enough-shown : (at : Option ℕ) (commits : List Commit) (total count : ℕ) → total ≡ length commits → (count ≡ unwrap_or at total) × (count ≤ total) → shown_count at commits ≤ length commits
+enough-shown at commits total count all is = subst (λ (n : ℕ). n ≤ length commits) (same-count at commits total count all is.0) (omega (arith, is.1, all))
+
 pub fitting-shown : (at : Option ℕ) (pit : Pit) (entries : List Answered) (commits count : ℕ) (answer : List ℕ) → commits ≡ length (commits_of entries) → EachFits pit entries
     → (count ≡ unwrap_or at commits) × (count ≤ commits) → IsFrontShown pit entries count answer → AreEntriesShown at pit entries answer
 fitting-shown at pit entries commits count answer total fits is shown =
-    let same : count ≡ shown_count at (commits_of entries) = is.0 ∙ ap (λ (n : ℕ). unwrap_or at n) total in
     record {
       fits = fits;
-      enough = subst (λ (n : ℕ). n ≤ length (commits_of entries)) same (omega (arith, is.1, total));
-      shown = subst (λ (n : ℕ). IsFrontShown pit entries n answer) same shown;
+      enough = enough-shown at (commits_of entries) commits count total is;
+      shown = subst (λ (n : ℕ). IsFrontShown pit entries n answer) (same-count at (commits_of entries) commits count total is.0) shown;
     }
 
 pub fitting-wants : (at : Option ℕ) (pit : Pit) (entries : List Answered) (fault : CliFault) → fault ≡ NoMemory → AreNotShown at pit entries fault
@@ -116,7 +123,7 @@ module _ (at : Option ℕ) (pit : Pit) (text : List ℕ) (pairs : List (ℕ × �
   }
 
   pub solution-not_shown : (fault : CliFault) → IsWantOrFew at (commits_of_schedule pairs) fault → IsShowFault at pit text fault
-  solution-not_shown fault (inl wants) = inl (solution-wants Schedule pit text pairs fault kind stands wants)
+  solution-not_shown fault (inl wants) = inl (solution-wants Schedule pit text pairs fault kind stands wants.0)
   solution-not_shown fault (inr few) = inr (commits_of_schedule pairs, stand-as, few)
 
 pub solution-unread : (at : Option ℕ) (pit : Pit) (text : List ℕ) (fault : CliFault) → is_history text ≡ false → IsSolutionFault Schedule pit text fault → IsShowFault at pit text fault
@@ -125,8 +132,7 @@ solution-unread at pit text fault kind is = inl (solution-bad Schedule pit text 
 pub pairs-shown : (at : Option ℕ) (pit : Pit) (pairs : List (ℕ × ℕ)) (commits count : ℕ) (answer : List ℕ) → commits ≡ length (commits_of_schedule pairs)
     → (count ≡ unwrap_or at commits) × (count ≤ commits) → answer ≡ left_text pit (take count (commits_of_schedule pairs)) → ArePairsShown at pit pairs answer
 pairs-shown at pit pairs commits count answer total is shown =
-    let same : count ≡ shown_count at (commits_of_schedule pairs) = is.0 ∙ ap (λ (n : ℕ). unwrap_or at n) total in
     record {
-      enough = subst (λ (n : ℕ). n ≤ length (commits_of_schedule pairs)) same (omega (arith, is.1, total));
-      says = shown ∙ ap (λ (n : ℕ). left_text pit (take n (commits_of_schedule pairs))) same;
+      enough = enough-shown at (commits_of_schedule pairs) commits count total is;
+      says = shown ∙ ap (λ (n : ℕ). left_text pit (take n (commits_of_schedule pairs))) (same-count at (commits_of_schedule pairs) commits count total is.0);
     }

@@ -14,7 +14,8 @@ use Rattle.pit_step.specs.Devices.{Reading, Writing, input_step, write_step}
 use Rattle.pit_step.specs.Inputs.{model_step}
 use Rattle.pit_state.specs.States.{is_history, IsStateOf, IsStateFault}
 use Rattle.pit_show.specs.Fronts.{IsFront}
-use Rattle.pit_show.specs.ShowText.{left_text, history_comment}
+use Rattle.pit_step.specs.LineTexts.{left_text}
+use Rattle.pit_show.specs.ShowText.{history_comment}
 
 -- how many of the commits are shown: as many as were asked for, or all
 abbrev pub shown_count : Option ℕ → List Commit → ℕ

@@ -1,19 +1,11 @@
--- What `show` prints.
+-- The comment that `show` prints of a history.
 use Rattle.std.specs.Prelude.{ℕ, List, [], ◌∷◌, ◌++◌, length, codes}
 use Rattle.hex.specs.Hex.{encode_lower}
 use Rattle.sha2.specs.Sha256.{sha256}
-use Rattle.pit_model.specs.Pit.{Pit}
-use Rattle.pit_plan.specs.Schedule.{Commit, held_period}
-use Rattle.pit_text.specs.Solution.{schedule_of}
-use Rattle.pit_text.specs.SolutionText.{solution_text}
 use Rattle.pit_desk.specs.History.{Answered, commits_of}
 use Rattle.pit_lines.specs.Texts.{entries_text}
 use Rattle.pit_lines.specs.declared.format.Format.TheVariants.{Two}
 use Rattle.pit_step.specs.LineTexts.{field_text}
-
--- the solution that commits leave
-abbrev pub left_text : Pit → List Commit → List ℕ
-left_text pit commits = solution_text (schedule_of pit.blocks (held_period commits))
 
 -- the SHA-256 of the lines of entries in format 2
 abbrev pub sum_of : List Answered → List ℕ

@@ -1,20 +1,21 @@
 //! Laws of the definitions, each as the contract of a function that does nothing.
-ghost use Rattle.std.specs.Prelude.{◌≡◌, ◌≢◌, ◌↔◌, ℕ, ◌≤◌, List, [], ◌∷◌, ◌++◌, length, take, Option, Some, None, IsSome, All};
+ghost use Rattle.std.specs.Prelude.{◌≡◌, ◌↔◌, ℕ, ◌≤◌, List, [], ◌∷◌, ◌++◌, length, take, Option, Some, None, IsSome, All};
 ghost use Rattle.std.specs.Io.KnownBytes.{Keeps};
 ghost use Rattle.pit_model.specs.Pit.{Pit};
 ghost use Rattle.pit_plan.specs.Schedule.{Commit};
 ghost use Rattle.pit_desk.specs.History.{Answered, commit_of, commits_by, commits_of};
 ghost use Rattle.pit_lines.specs.Ranges.{IsInRange};
 ghost use Rattle.pit_lines.specs.Texts.{history_text};
-ghost use Rattle.pit_step.specs.Steps.{HasOneOutcome};
+ghost use Rattle.pit_step.specs.LineTexts.{left_text};
+ghost use Rattle.pit_step.specs.Steps.{HasOneOutcome, want_aside};
 ghost use Rattle.pit_step.specs.Devices.{Reading, Writing};
-ghost use Rattle.pit_state.specs.States.{IsStateOf};
+ghost use Rattle.pit_state.specs.States.{EachFits, IsStateOf};
 ghost use Rattle.pit_show.specs.Fronts.{IsFront};
-ghost use Rattle.pit_show.specs.ShowText.{history_comment, left_text};
+ghost use Rattle.pit_show.specs.ShowText.{history_comment};
 ghost use Rattle.pit_show.specs.Show.{IsShown, show_run};
 
 use pit_lines::laws::{one_history, one_result};
-use pit_step::{CliFault, Status};
+use pit_step::CliFault;
 
 /// A law of fronts: where there are so many commits, the entries have one front up to the last of them. Its commits are the first ones, and
 /// it ends with the entry that made the last.
@@ -35,10 +36,12 @@ pub fn shown_at_all()
 }
 
 /// A law of histories: of the text of one whose numbers are in the ranges of their types the comment is shown, on its entries up to the last
-/// commit, and then the solution that all its commits leave.
+/// commit, and then the solution that all its commits leave. This is shown of each such history whose entries fit the pit.
 pub fn shown_history()
-    ensures { (pit : Pit) (history : List Answered) (answer : List ℕ) → All IsInRange history → IsShown None pit (history_text history) answer
+    ensures is { (pit : Pit) (history : List Answered) (answer : List ℕ) → All IsInRange history → IsShown None pit (history_text history) answer
         → (front : List Answered) × IsFront history (length (commits_of history)) front × (answer ≡ history_comment front ++ left_text pit (commits_of history)) }
+    ensures shown { (pit : Pit) (history front : List Answered) → All IsInRange history → EachFits pit history → IsFront history (length (commits_of history)) front
+        → IsShown None pit (history_text history) (history_comment front ++ left_text pit (commits_of history)) }
 {
     one_history();
 }
@@ -46,13 +49,10 @@ pub fn shown_history()
 /// A law of runs: where devices tell their bytes, these say how a run ended. Of a solution that mines no block nothing is written, so that then
 /// they don't show whether memory was wanted.
 pub fn one_outcome()
+    ensures seen { (at : Option ℕ) (model schedule : Reading) (out : Writing) → IsSome model.before → IsSome schedule.before
+        → HasOneOutcome CliFault.NoMemory (want_aside CliFault.NoMemory (show_run at model schedule out)) }
     ensures written { (at : Option ℕ) (model schedule : Reading) (out : Writing) → IsSome model.before → IsSome schedule.before
         → (Keeps out.before out.after → ⊥) → HasOneOutcome CliFault.NoMemory (show_run at model schedule out) }
-    ensures apart { (at : Option ℕ) (model schedule : Reading) (out : Writing) (status : Status) (fault : CliFault) → IsSome model.before → IsSome schedule.before
-        → fault ≢ CliFault.NoMemory → (show_run at model schedule out).Gives tt status → (show_run at model schedule out).Fails tt fault → ⊥ }
-    ensures faults { (at : Option ℕ) (model schedule : Reading) (out : Writing) (fault other : CliFault) → IsSome model.before → IsSome schedule.before
-        → fault ≢ CliFault.NoMemory → other ≢ CliFault.NoMemory
-        → (show_run at model schedule out).Fails tt fault → (show_run at model schedule out).Fails tt other → fault ≡ other }
 {
     one_history();
     one_result();

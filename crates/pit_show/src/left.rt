@@ -5,7 +5,7 @@ ghost use Rattle.pit_text.specs.Solution.{schedule_of};
 ghost use Rattle.pit_text.specs.SolutionText.{solution_text};
 ghost use Rattle.pit_plan.specs.Schedule.{Commit, by_block};
 ghost use Rattle.pit_plan.specs.Standing.{IsPlanOf};
-ghost use Rattle.pit_show.specs.ShowText.{left_text as left_by};
+ghost use Rattle.pit_step.specs.LineTexts.{left_text as left_by};
 
 use pit_num::{NoMemory, Sink, WriteFault, write_text};
 use pit_plan::Plan;

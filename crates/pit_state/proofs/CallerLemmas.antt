@@ -1,4 +1,6 @@
--- For the crates above: what a text of a schedule determines, which of the two it is, and where memory is wanted for it.
+-- For the crates above: what a text of a schedule determines, which of the two it is, where memory is wanted for it, and the commits of one history
+-- behind another.
+pub use Rattle.pit_desk.proofs.Legal.{commits_of-append}
 pub use Rattle.pit_state.proofs.OneState.{state_text, view_text, fit-or-unfit}
 pub use Rattle.pit_state.proofs.Stops.{state-stop}
 pub use Rattle.pit_state.proofs.Viewed.{IsSaid, viewed}

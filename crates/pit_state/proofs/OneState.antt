@@ -11,7 +11,7 @@ use Rattle.pit_step.specs.declared.status.Status.{Status}
 use Rattle.pit_step.specs.declared.fault.CliFault.{CliFault}
 use Rattle.pit_step.specs.declared.fault.CliFault.TheVariants.{NoMemory, Illegal}
 use Rattle.pit_step.specs.Inputs.{IsSolutionFault}
-use Rattle.pit_step.proofs.CallerLemmas.{IsOneText, IsOneHistory, IsNeverBad, IsOneFault, history_text, solution_text}
+use Rattle.pit_step.proofs.CallerLemmas.{IsOneText, IsOneHistory, IsNeverBad, IsOneFault, one-history_text, decided-solution}
 use Rattle.pit_state.specs.States.{is_history, commits_of_schedule, EachFits, IsFirstUnfit, IsUnfit, IsHistoryState, IsSolutionState, IsHistoryStateFault, IsStateBy, IsStateFaultBy, IsStateOf, IsStateFault}
 use Rattle.pit_state.specs.Views.{IsViewed}
 
@@ -66,14 +66,14 @@ module _ (one_history : IsOneHistory) (never_bad : IsNeverBad) (one_fault : IsOn
   history_once commits other p q = p.are ∙ ap commits_of (one_history text p.entries q.entries p.stands q.stands) ∙ sym q.are
 
   history_apart : (commits : List Commit) (fault : CliFault) → fault ≢ NoMemory → IsHistoryState pit text commits → IsHistoryStateFault file pit text fault → ⊥
-  history_apart commits fault some p (inl q) = (history_text one_history never_bad one_fault file text).apart p.entries fault some p.stands q
+  history_apart commits fault some p (inl q) = (one-history_text one_history never_bad one_fault file text).apart p.entries fault some p.stands q
   history_apart commits fault some p (inr q) =
       fit-fault file pit q.0 fault some (subst (EachFits pit) (one_history text p.entries q.0 p.stands q.1) p.fits) q.2
 
   history_faults : (fault other : CliFault) → fault ≢ NoMemory → other ≢ NoMemory → IsHistoryStateFault file pit text fault → IsHistoryStateFault file pit text other → fault ≡ other
-  history_faults fault other some also (inl p) (inl q) = (history_text one_history never_bad one_fault file text).faults fault other some also p q
-  history_faults fault other some also (inl p) (inr q) = absurd ((history_text one_history never_bad one_fault file text).apart q.0 fault some q.1 p)
-  history_faults fault other some also (inr p) (inl q) = absurd ((history_text one_history never_bad one_fault file text).apart p.0 other also p.1 q)
+  history_faults fault other some also (inl p) (inl q) = (one-history_text one_history never_bad one_fault file text).faults fault other some also p q
+  history_faults fault other some also (inl p) (inr q) = absurd ((one-history_text one_history never_bad one_fault file text).apart q.0 fault some q.1 p)
+  history_faults fault other some also (inr p) (inl q) = absurd ((one-history_text one_history never_bad one_fault file text).apart p.0 other also p.1 q)
   history_faults fault other some also (inr p) (inr q) =
       one-unfit_fault file pit q.0 fault other some also (subst (λ (entries : List Answered). IsUnfit file pit entries fault) (one_history text p.0 q.0 p.1 q.1) p.2) q.2
 
@@ -81,16 +81,16 @@ module _ (one_history : IsOneHistory) (never_bad : IsNeverBad) (one_fault : IsOn
 
   solution_once : (commits other : List Commit) → IsSolutionState pit text commits → IsSolutionState pit text other → commits ≡ other
   solution_once commits other p q =
-      p.are ∙ ap commits_of_schedule ((solution_text file pit text).once.values p.schedule q.schedule p.stands q.stands) ∙ sym q.are
+      p.are ∙ ap commits_of_schedule ((decided-solution file pit text).once.values p.schedule q.schedule p.stands q.stands) ∙ sym q.are
 
   solution_apart : (commits : List Commit) (fault : CliFault) → fault ≢ NoMemory → IsSolutionState pit text commits → IsSolutionFault file pit text fault → ⊥
-  solution_apart commits fault some p q = (solution_text file pit text).once.apart p.schedule fault some p.stands q
+  solution_apart commits fault some p q = (decided-solution file pit text).once.apart p.schedule fault some p.stands q
 
   -- ---- either
 
   by_kind : (kind : Bool) → IsOneText (IsStateBy kind pit text) (IsStateFaultBy kind file pit text)
   by_kind true = record { values = history_once; apart = history_apart; faults = history_faults }
-  by_kind false = record { values = solution_once; apart = solution_apart; faults = (solution_text file pit text).once.faults }
+  by_kind false = record { values = solution_once; apart = solution_apart; faults = (decided-solution file pit text).once.faults }
 
   pub state_text : IsOneText (IsStateOf pit text) (IsStateFault file pit text)
   unfolding IsStateOf IsStateFault

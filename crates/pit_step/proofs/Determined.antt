@@ -1,7 +1,7 @@
 -- Steps that give one value or have one fault, one behind the other.
 use Rattle.std.proofs.Common.{◌≡◌, ◌≢◌, ◌⊎◌, inl, inr, ℕ, ◌+◌, List, [], ◌∷◌, refl, sym, ap, subst, ◌∙◌}
 use Rattle.std.specs.Prelude.{⊤}
-use Rattle.pit_step.specs.Steps.{Step, in_turn, beside, pass_step, may_step, run_step, each, HasOneOutcome}
+use Rattle.pit_step.specs.Steps.{Step, in_turn, beside, carrying, pass_step, may_step, run_step, each, want_aside, HasOneOutcome}
 
 -- it gives one value or has one fault that is due; faults of another kind are left aside
 pub record IsDetermined {F A B : Type 0} (Due : F → Type 0) (step : Step F A B) (given : A) : Type 0 where
@@ -97,22 +97,30 @@ pub in_turn-only : {F A B C : Type 0} (Kind : F → Type 0) (first : Step F A B)
 in_turn-only Kind first next given one then fault (inl p) = one fault p.0
 in_turn-only Kind first next given one then fault (inr p) = then p.0 fault p.2
 
--- ---- beside what was given
+-- ---- beside what was given, and with what is carried along
+
+pub beside-determined : {F A B : Type 0} (Due : F → Type 0) (step : Step F A B) (given : A) → IsDetermined Due step given → IsDetermined Due (beside step) given
+beside-determined {F} {A} {B} Due step given one = record {
+  values = λ value other p q.
+      ap (λ (a : A). (a, value.1)) (p.0 ∙ sym q.0) ∙ ap (λ (b : B). (other.0, b)) (one.values value.1 other.1 p.1 q.1);
+  apart = λ value fault due p q. one.apart value.1 fault due p.1 q;
+  faults = one.faults;
+}
 
 pub beside-decided : {F A B : Type 0} (Due : F → Type 0) (step : Step F A B) (given : A) → IsDecided Due step given → IsDecided Due (beside step) given
-beside-decided {F} {A} {B} Due step given one = record {
-  some = some one.some;
-  once = record {
-    values = λ value other p q.
-        ap (λ (a : A). (a, value.1)) (p.0 ∙ sym q.0) ∙ ap (λ (b : B). (other.0, b)) (one.once.values value.1 other.1 p.1 q.1);
-    apart = λ value fault due p q. one.once.apart value.1 fault due p.1 q;
-    faults = one.once.faults;
-  };
-}
+beside-decided {F} {A} {B} Due step given one = record { some = some one.some; once = beside-determined Due step given one.once }
   where
     some : HasSome Due step given → HasSome Due (beside step) given
     some (inl found) = inl ((given, found.0), (refl, found.1))
     some (inr bad) = inr bad
+
+pub carrying-determined : {F A B C : Type 0} (Due : F → Type 0) (step : Step F A B) (given : A × C) → IsDetermined Due step given.0 → IsDetermined Due (carrying {C = C} step) given
+carrying-determined {F} {A} {B} {C} Due step given one = record {
+  values = λ value other p q.
+      ap (λ (b : B). (b, value.1)) (one.values value.0 other.0 p.0 q.0) ∙ ap (λ (c : C). (other.0, c)) (p.1 ∙ sym q.1);
+  apart = λ value fault due p q. one.apart value.0 fault due p.0 q;
+  faults = one.faults;
+}
 
 -- ---- what is given, where it passes
 
@@ -201,6 +209,14 @@ each-only Kind step only number (item ∷ items) fault (inl p) = only number ite
 each-only Kind step only number (item ∷ items) fault (inr p) = each-only Kind step only (number + 1) items fault p.2
 
 -- ---- a run
+
+-- want of memory aside
+pub seen_run : {F B : Type 0} (no_memory : F) (run : Step F (Unit {0}) B) → IsDetermined (λ fault. fault ≢ no_memory) run tt → HasOneOutcome no_memory (want_aside no_memory run)
+seen_run no_memory run one = record {
+  values = one.values;
+  apart = λ value fault p q. one.apart value fault q.0 p q.1;
+  faults = λ fault other some also p q. one.faults fault other some also p.1 q.1;
+}
 
 -- a run whose last step shows at its devices that it gave a value
 pub shown_run : {F A B C : Type 0} (no_memory : F) (first : Step F (Unit {0}) A) (next : Step F A B) (last : Step F B C) → IsDetermined (λ fault. fault ≢ no_memory) first tt

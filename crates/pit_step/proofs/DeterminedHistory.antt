@@ -38,5 +38,5 @@ module _ (one_history : IsOneHistory) (never_bad : IsNeverBad) (one_fault : IsOn
   history_faults NoMemory other some also p q = absurd (some refl)
   history_faults fault other some also p q = absurd p
 
-  pub history_text : IsOneText (StandsForHistory bytes) (IsHistoryFault file bytes)
-  history_text = record { values = λ entries other p q. one_history bytes entries other p q; apart = history_apart; faults = history_faults }
+  pub one-history_text : IsOneText (StandsForHistory bytes) (IsHistoryFault file bytes)
+  one-history_text = record { values = λ entries other p q. one_history bytes entries other p q; apart = history_apart; faults = history_faults }

@@ -15,31 +15,31 @@ use Rattle.pit_step.specs.Inputs.{IsModel, IsModelStop, IsModelFault, IsOrder, I
 use Rattle.pit_step.proofs.Determined.{IsDetermined, in_turn-determined}
 use Rattle.pit_step.proofs.DeterminedSteps.{IsSeen, IsDecidedText, text-decided, input-determined}
 
-pub model_text : (bytes : List ℕ) → IsDecidedText (IsModel bytes) (IsModelFault bytes)
-model_text bytes =
+pub decided-model : (bytes : List ℕ) → IsDecidedText (IsModel bytes) (IsModelFault bytes)
+decided-model bytes =
     text-decided Model (StandsWhole model_line model_end (cut_of bytes)) (FailsWhole model_line model_end (cut_of bytes) (end_line bytes)) (IsModelStop bytes) pit_of
     (one_whole_result model_line model_end (cut_of bytes) (end_line bytes))
 
-pub order_text : (given : Pit) (bytes : List ℕ) → IsDecidedText (IsOrder given bytes) (IsOrderFault given bytes)
-order_text given bytes =
+pub decided-order : (given : Pit) (bytes : List ℕ) → IsDecidedText (IsOrder given bytes) (IsOrderFault given bytes)
+decided-order given bytes =
     text-decided Precedence (StandsFor (precedence_line given) (cut_of bytes)) (FailsFirst (precedence_line given) (cut_of bytes)) (IsOrderStop given bytes) (pit_with_preds given)
     (one_result (precedence_line given) (cut_of bytes))
 
-pub places_text : (given : Pit) (bytes : List ℕ) → IsDecidedText (IsPlaced given bytes) (IsPlacesFault given bytes)
-places_text given bytes =
+pub decided-places : (given : Pit) (bytes : List ℕ) → IsDecidedText (IsPlaced given bytes) (IsPlacesFault given bytes)
+decided-places given bytes =
     text-decided Blocks (StandsFor (block_line given) (cut_of bytes)) (FailsFirst (block_line given) (cut_of bytes)) (IsPlacesStop given bytes) (pit_with_places given)
     (one_result (block_line given) (cut_of bytes))
 
-pub solution_text : (file : Input) (pit : Pit) (bytes : List ℕ) → IsDecidedText (IsSolutionOf pit bytes) (IsSolutionFault file pit bytes)
-solution_text file pit bytes =
+pub decided-solution : (file : Input) (pit : Pit) (bytes : List ℕ) → IsDecidedText (IsSolutionOf pit bytes) (IsSolutionFault file pit bytes)
+decided-solution file pit bytes =
     text-decided file (StandsFor (solution_line pit.blocks pit.periods) (cut_of bytes)) (FailsFirst (solution_line pit.blocks pit.periods) (cut_of bytes)) (IsSolutionStop pit bytes)
     (λ facts. schedule_of pit.blocks (period_in facts)) (one_result (solution_line pit.blocks pit.periods) (cut_of bytes))
 
 pub model-determined : (model : Reading) → IsSome model.before → IsDetermined IsSeen (model_step model) tt
-model-determined model told = input-determined Model model (λ _. IsModel) (λ _. IsModelFault) tt told (λ bytes. (model_text bytes).once)
+model-determined model told = input-determined Model model (λ _. IsModel) (λ _. IsModelFault) tt told (λ bytes. (decided-model bytes).once)
 
 order-determined : (precedence : Reading) (given : Pit) → IsSome precedence.before → IsDetermined IsSeen (order_step precedence) given
-order-determined precedence given told = input-determined Precedence precedence IsOrder IsOrderFault given told (λ bytes. (order_text given bytes).once)
+order-determined precedence given told = input-determined Precedence precedence IsOrder IsOrderFault given told (λ bytes. (decided-order given bytes).once)
 
 pub ordered_pit-determined : (model precedence : Reading) → IsSome model.before → IsSome precedence.before → IsDetermined IsSeen (ordered_pit_step model precedence) tt
 ordered_pit-determined model precedence told also =

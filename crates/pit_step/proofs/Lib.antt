@@ -1,6 +1,9 @@
 pub mod Known
 pub mod HandedOn
 pub mod Shorts
+pub mod LeftText
+pub mod Ranges
+pub mod Rising
 pub mod Determined
 pub mod Each
 pub mod DeterminedSteps

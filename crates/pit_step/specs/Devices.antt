@@ -28,6 +28,12 @@ reading_of before after failed = record { before = before; after = after; failed
 abbrev pub writing_of : Option (List ℕ) → Option (List ℕ) → Bool → Writing
 writing_of before after failed = record { before = before; after = after; failed = failed }
 
+-- what is known of a device that may be left out, by what is known of it before and after
+abbrev pub known_if : {S K : Type 0} → (S → S → K) → Option S → Option S → Option K
+known_if {S} {K} of (Some old) (Some new) = Some (of old new)
+known_if {S} {K} of (Some old) None = None
+known_if {S} {K} of None new = None
+
 -- ---- an input
 
 -- it was read whole, these are its bytes, and it is no longer than inputs may be

@@ -1,10 +1,14 @@
--- The lines that engines print: values, breaches and shortfalls.
+-- The lines that engines print: values, breaches, shortfalls and solutions.
 use Rattle.std.specs.Prelude.{ℕ, ℤ, List, [], ◌∷◌, ◌++◌, Option, Some, None, codes, decimal}
 use Rattle.std.specs.List.{flat_map}
 use Rattle.pit_num.specs.Printed.{fixed_text}
+use Rattle.pit_model.specs.Pit.{Pit}
+use Rattle.pit_plan.specs.Schedule.{Commit, held_period}
 use Rattle.pit_plan.specs.declared.breach.Breach.{Breach}
 use Rattle.pit_plan.specs.declared.breach.Breach.TheVariants.{Precedence, Over}
 use Rattle.pit_plan.specs.declared.short.Short.{Short}
+use Rattle.pit_text.specs.Solution.{schedule_of}
+use Rattle.pit_text.specs.SolutionText.{solution_text}
 
 -- a value, and a line feed
 abbrev pub value_text : ℤ → List ℕ
@@ -47,3 +51,7 @@ short_text short = codes "short " ++ (load_words short.resource short.period sho
 
 unfoldable pub shorts_text : List Short → List ℕ
 shorts_text shorts = flat_map short_text shorts
+
+-- the solution that commits leave
+abbrev pub left_text : Pit → List Commit → List ℕ
+left_text pit commits = solution_text (schedule_of pit.blocks (held_period commits))

@@ -25,6 +25,14 @@ beside step = record {
   IsUntouched = step.IsUntouched;
 }
 
+-- a step to which something is added that is carried along
+abbrev pub carrying : {F A B C : Type 0} → Step F A B → Step F (A × C) (B × C)
+carrying step = record {
+  Gives = λ given value. step.Gives given.0 value.0 × (value.1 ≡ given.1);
+  Fails = λ given fault. step.Fails given.0 fault;
+  IsUntouched = step.IsUntouched;
+}
+
 -- what is given decides which run it is; where there is none, its devices are left alone so
 abbrev pub run_step : {F A B : Type 0} → (A → Step F (Unit {0}) B) → Type 0 → Step F A B
 run_step run IsUntouched = record {
@@ -64,6 +72,14 @@ each {F} {A} {B} step number (item ∷ items) = record {
 -- the result is a value that the step gives, or a fault that it has
 abbrev pub IsResultOf : {F A B : Type 0} → Step F A B → A → Result B F → Type 0
 IsResultOf step given result = MatchResult result (step.Gives given) (step.Fails given)
+
+-- the step, where its fault isn't want of memory
+abbrev pub want_aside : {F A B : Type 0} → F → Step F A B → Step F A B
+want_aside no_memory step = record {
+  Gives = step.Gives;
+  Fails = λ given fault. (fault ≢ no_memory) × step.Fails given fault;
+  IsUntouched = step.IsUntouched;
+}
 
 -- A run gives a value or has a fault, never both, and never two of either. Want of memory is shown by no device, so it is left out of two
 -- faults.

@@ -12,7 +12,8 @@ use Rattle.pit_table.specs.declared.mined.Mined.{Mined}
 use Rattle.pit_table.specs.Rows.{addend}
 use Rattle.pit_table.specs.Inside.Mined.{AreMined, mined_at, nothing_mined}
 use Rattle.pit_table.proofs.Totals.{total-more}
-use Rattle.pit_table.proofs.Counts.{count-more, count-le}
+use Rattle.pit_step.proofs.CallerLemmas.{count-more}
+use Rattle.pit_table.proofs.Counts.{count-le}
 use Rattle.pit_table.proofs.Bounds.{total-within, addend-bounded}
 
 pub none-mined : (pit : Pit) (schedule : ℕ → Option ℕ) → AreMined pit schedule 0 (replicate pit.periods nothing_mined)

@@ -14,7 +14,7 @@ use Rattle.pit_table.specs.declared.mined.Mined.{Mined}
 use Rattle.pit_table.specs.Rows.{Row, Loading, addend, loading_of, row_of, value_in, value_up_to, blocks_in}
 use Rattle.pit_table.specs.Inside.Mined.{AreMined, mined_at}
 use Rattle.pit_table.proofs.Totals.{total-more}
-use Rattle.pit_table.proofs.Counts.{count-more}
+use Rattle.pit_step.proofs.CallerLemmas.{count-more}
 use Rattle.pit_table.proofs.Bounds.{IsWithin, total-within, cond-within, zero-within, within-64}
 use Rattle.pit_table.proofs.Adding.{values-fit}
 

@@ -1,3 +1,3 @@
 -- Definitions that no public contract cites.
 pub mod Mined
-pub mod Left
+pub mod OfCommits

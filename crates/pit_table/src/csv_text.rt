@@ -9,7 +9,7 @@ ghost use Rattle.pit_plan.specs.Standing.{IsPlanOf, period_of};
 ghost use Rattle.pit_table.specs.Rows.{loading_of, row_of};
 ghost use Rattle.pit_table.specs.CsvText.{behind_commas, row_text, amount_cell, room_below as room_by, loading_cells, row_cells, names_of, name_cells, table_text};
 ghost use Rattle.pit_table.specs.Inside.Mined.{AreMined};
-ghost use Rattle.pit_table.specs.Inside.Left.{IsLeft};
+ghost use Rattle.pit_table.specs.Inside.OfCommits.{IsOfCommits};
 
 use crate::mined::Mined;
 use pit_num::{Sink, WriteFault, write_micro, write_text, write_value, write_whole};
@@ -22,7 +22,7 @@ pub(crate) fn write_table<W: Sink, A: Allocator + Copy + Drop>(
     plan: &Plan<A>,
     mined: &[Mined],
 ) -> Result<(), WriteFault>
-    requires left { IsLeft plan.now }
+    requires left { IsOfCommits plan.now }
     requires mined { AreMined plan.now.pit (period_of plan.now) plan.now.pit.blocks mined.now }
     ensures { OnOk result ((commits : List Commit) → IsPlanOf plan.now commits
         → Appends (W.contents w.old) (W.contents w.new) (table_text plan.now.pit (held_period commits) (limit_of plan.now.pit commits))) }
@@ -74,7 +74,7 @@ fn write_rows<W: Sink, A: Allocator + Copy + Drop>(
     plan: &Plan<A>,
     mined: &[Mined],
 ) -> Result<(), WriteFault>
-    requires left { IsLeft plan.now }
+    requires left { IsOfCommits plan.now }
     requires mined { AreMined plan.now.pit (period_of plan.now) plan.now.pit.blocks mined.now }
     ensures { OnOk result ((commits : List Commit) → IsPlanOf plan.now commits
         → Appends (W.contents w.old) (W.contents w.new)
@@ -105,7 +105,7 @@ fn write_row<W: Sink, A: Allocator + Copy + Drop>(
     mined: Mined,
     cumulative: i128,
 ) -> Result<(), WriteFault>
-    requires left { IsLeft plan.now }
+    requires left { IsOfCommits plan.now }
     requires period { t < plan.now.pit.periods }
     ensures { OnOk result ((commits : List Commit) → IsPlanOf plan.now commits
         → Appends (W.contents w.old) (W.contents w.new)
@@ -142,7 +142,7 @@ fn write_loadings<W: Sink, A: Allocator + Copy + Drop>(
     plan: &Plan<A>,
     t: u32,
 ) -> Result<(), WriteFault>
-    requires left { IsLeft plan.now }
+    requires left { IsOfCommits plan.now }
     requires period { t < plan.now.pit.periods }
     ensures { OnOk result ((commits : List Commit) → IsPlanOf plan.now commits
         → Appends (W.contents w.old) (W.contents w.new)
@@ -161,7 +161,7 @@ fn write_loading_of<W: Sink, A: Allocator + Copy + Drop>(
     r: u32,
     t: u32,
 ) -> Result<(), WriteFault>
-    requires left { IsLeft plan.now }
+    requires left { IsOfCommits plan.now }
     requires resource { r < plan.now.pit.resources }
     requires period { t < plan.now.pit.periods }
     ensures { OnOk result ((commits : List Commit) → IsPlanOf plan.now commits

@@ -7,7 +7,7 @@ ghost use Rattle.pit_step.specs.Devices.{reading_of, writing_of};
 ghost use Rattle.pit_state.specs.Views.{view_step};
 ghost use Rattle.pit_table.specs.CsvText.{table_text, table_answer};
 ghost use Rattle.pit_table.specs.Table.{table_run};
-ghost use Rattle.pit_table.specs.Inside.Left.{IsLeft};
+ghost use Rattle.pit_table.specs.Inside.OfCommits.{IsOfCommits};
 
 use crate::csv_text::write_table;
 use crate::mined::by_period;
@@ -62,7 +62,7 @@ fn read_table<A: Allocator + Copy + Drop, S: Source>(
 
 /// The text of the table of a plan, which is freed.
 fn table_of<A: Allocator + Copy + Drop>(alloc: A, plan: Plan<A>) -> Result<Vec<u8, A>, CliFault>
-    requires { IsLeft plan }
+    requires { IsOfCommits plan }
     ensures { MatchResult result
         (λ text. (commits : List Commit) → IsPlanOf plan commits → (text.items, Fine) ≡ table_answer plan.pit commits)
         (λ fault. fault ≡ CliFault.NoMemory) }
@@ -77,7 +77,7 @@ fn table_of<A: Allocator + Copy + Drop>(alloc: A, plan: Plan<A>) -> Result<Vec<u
 
 /// The text of the table of a plan.
 fn text_of<A: Allocator + Copy + Drop>(alloc: A, plan: &Plan<A>) -> Result<Vec<u8, A>, NoMemory>
-    requires { IsLeft plan.now }
+    requires { IsOfCommits plan.now }
     ensures { IfOk result (λ text. (commits : List Commit) → IsPlanOf plan.now commits
         → text.items ≡ table_text plan.now.pit (held_period commits) (limit_of plan.now.pit commits)) }
 {

@@ -15,7 +15,7 @@ use Rattle.pit_step.specs.LineTexts.{value_text}
 use Rattle.pit_step.specs.Steps.{HasOneOutcome}
 use Rattle.pit_step.specs.Devices.{Reading, Writing, answer_step}
 use Rattle.pit_step.specs.Inputs.{IsSolutionFault, model_step, ordered_pit_step}
-use Rattle.pit_step.proofs.CallerLemmas.{IsSeen, IsDetermined, IsOneText, shown_run, input-determined, write-determined, write-shown, write-never_both, model-determined, ordered_pit-determined, solution_text}
+use Rattle.pit_step.proofs.CallerLemmas.{IsSeen, IsDetermined, IsOneText, shown_run, input-determined, write-determined, write-shown, write-never_both, model-determined, ordered_pit-determined, decided-solution}
 use Rattle.pit_view.specs.CheckText.{check_text, check_status}
 use Rattle.pit_view.specs.Value.{IsValued, value_step, fine_step, value_run}
 use Rattle.pit_view.specs.Check.{Checks, IsChecked, check_step, check_run}
@@ -24,7 +24,7 @@ use Rattle.pit_view.specs.Check.{Checks, IsChecked, check_step, check_run}
 
 valued_text : (pit : Pit) (bytes : List ℕ) → IsOneText (IsValued pit bytes) (IsSolutionFault Solution pit bytes)
 valued_text pit bytes =
-    let one = (solution_text Solution pit bytes).once in record {
+    let one = (decided-solution Solution pit bytes).once in record {
       values = λ text other p q.
           p.says ∙ ap (λ (schedule : List (ℕ × ℕ)). value_text (value_of pit (held_period (commit_of_schedule schedule ∷ [])))) (one.values p.schedule q.schedule p.stands q.stands) ∙ sym q.says;
       apart = λ text fault some p q. one.apart p.schedule fault some p.stands q;
@@ -63,7 +63,7 @@ checks_once pit commits answer other p q =
 
 checked_text : (pit : Pit) (bytes : List ℕ) → IsOneText (IsChecked pit bytes) (IsSolutionFault Solution pit bytes)
 checked_text pit bytes =
-    let one = (solution_text Solution pit bytes).once in record {
+    let one = (decided-solution Solution pit bytes).once in record {
       values = λ answer other p q.
           checks_once pit (commit_of_schedule q.schedule ∷ []) answer other
           (subst (λ (schedule : List (ℕ × ℕ)). Checks pit (commit_of_schedule schedule ∷ []) answer.0 answer.1) (one.values p.schedule q.schedule p.stands q.stands) p.checks) q.checks;

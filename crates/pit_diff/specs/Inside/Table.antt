@@ -2,12 +2,12 @@
 use Rattle.std.specs.Prelude.{◌≡◌, ℕ, ◌+◌, ◌*◌, ◌<◌, List, Option, Some, None, slice_index_or, IfSome}
 
 -- the row and the column of a period, of so many, or of none
-abbrev pub row_of : ℕ → Option ℕ → ℕ
-row_of periods None = periods
-row_of periods (Some t) = t
+abbrev pub table_place : ℕ → Option ℕ → ℕ
+table_place periods None = periods
+table_place periods (Some t) = t
 
 abbrev pub table_cell : ℕ → Option ℕ → Option ℕ → ℕ
-table_cell periods from to = row_of periods from * (periods + 1) + row_of periods to
+table_cell periods from to = table_place periods from * (periods + 1) + table_place periods to
 
 abbrev pub table_number : ℕ → List ℕ → Option ℕ → Option ℕ → ℕ
 table_number periods counts from to = slice_index_or counts (table_cell periods from to) 0

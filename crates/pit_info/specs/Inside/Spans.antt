@@ -25,7 +25,7 @@ pending_text None = []
 pending_text (Some span) = span_text span.first span.last span.key.now
 
 -- What one more line behind a run makes of it: this is written, and another run stands then.
-pub record Goes (before after : Option (List ℕ)) (run : List Cut) (line : Cut) (span : Option Span) : Type 0 where
+pub record IsNextSpan (before after : Option (List ℕ)) (run : List Cut) (line : Cut) (span : Option Span) : Type 0 where
   pub text : List ℕ
   pub written : Appends before after text
   pub left : List Cut

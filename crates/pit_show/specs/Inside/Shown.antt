@@ -8,7 +8,8 @@ use Rattle.pit_step.specs.declared.fault.CliFault.{CliFault}
 use Rattle.pit_step.specs.declared.fault.CliFault.TheVariants.{NoMemory}
 use Rattle.pit_state.specs.States.{EachFits, IsUnfit, commits_of_schedule}
 use Rattle.pit_show.specs.Fronts.{IsFront}
-use Rattle.pit_show.specs.ShowText.{left_text, history_comment}
+use Rattle.pit_step.specs.LineTexts.{left_text}
+use Rattle.pit_show.specs.ShowText.{history_comment}
 use Rattle.pit_show.specs.Show.{shown_count, IsTooFew}
 
 -- after so many commits of these entries
@@ -31,5 +32,6 @@ pub record ArePairsShown (at : Option ℕ) (pit : Pit) (pairs : List (ℕ × ℕ
   pub enough : shown_count at (commits_of_schedule pairs) ≤ length (commits_of_schedule pairs)
   pub says : answer ≡ left_text pit (take (shown_count at (commits_of_schedule pairs)) (commits_of_schedule pairs))
 
+-- there are enough commits, and memory is wanted; or there are too few
 abbrev pub IsWantOrFew : Option ℕ → List Commit → CliFault → Type 0
-IsWantOrFew at commits fault = (fault ≡ NoMemory) ⊎ IsTooFew at commits fault
+IsWantOrFew at commits fault = ((fault ≡ NoMemory) × (shown_count at commits ≤ length commits)) ⊎ IsTooFew at commits fault

@@ -1,7 +1,7 @@
 use Rattle.std.proofs.Common.{ℕ, List, length, ap, arith}
 use Rattle.pit_info.specs.Figures.{preds_at}
 use Rattle.pit_info.proofs.Ranges.{sum_with}
-use Rattle.pit_info.proofs.Few.{few-preds}
+use Rattle.pit_step.proofs.CallerLemmas.{few-preds}
 use Rattle.pit_info.proofs.blocks.pairs.Goals as goal
 
 pub overflow_add-count : goal.overflow_add-count

@@ -1,9 +1,9 @@
 use Rattle.std.proofs.Common.{inl, inr, ℕ, List, is_some, sym, subst, ◌∙◌}
-use Rattle.pit_step.specs.Devices.{reading_of, writing_of, write_step}
+use Rattle.pit_step.specs.Devices.{reading_of, writing_of, known_if, write_step}
 use Rattle.pit_step.specs.declared.status.Status.TheVariants.{Fine}
 use Rattle.pit_step.specs.Steps.{IsResultOf}
 use Rattle.pit_step.proofs.CallerLemmas.{keeps_itself}
-use Rattle.pit_info.specs.Info.{reading_if, inputs_step, told_step}
+use Rattle.pit_info.specs.Info.{inputs_step, told_step}
 use Rattle.pit_info.proofs.Runs.{is_some-reading, told-as, ends}
 use Rattle.pit_info.proofs.engine.info.Goals as goal
 
@@ -18,7 +18,7 @@ pub returns-clause-done : goal.returns-clause-done
 returns-clause-done g c =
     let model = reading_of (g.M.Source.remaining c.args.model.now) (g.M.Source.remaining c.read_inputs.new.model) (g.M.Source.has_failed c.read_inputs.new.model) in
     let precedence = reading_of (g.P.Source.remaining c.args.precedence.now) (g.P.Source.remaining c.read_inputs.new.precedence) (g.P.Source.has_failed c.read_inputs.new.precedence) in
-    let blocks = reading_if (λ old new. reading_of (g.B.Source.remaining old) (g.B.Source.remaining new) (g.B.Source.has_failed new)) c.args.blocks.now c.read_inputs.new.blocks in
+    let blocks = known_if (λ old new. reading_of (g.B.Source.remaining old) (g.B.Source.remaining new) (g.B.Source.has_failed new)) c.args.blocks.now c.read_inputs.new.blocks in
     let out = writing_of (g.W.Sink.contents c.args.out.now) (g.W.Sink.contents c.write_answer.new.out) (g.W.Sink.has_failed c.write_answer.new.out) in
     let unknown = c.in-Ok.read.1.items in
     let text = c.in-Ok-told.text.items in

@@ -5,7 +5,7 @@ use Rattle.pit_model.specs.Pit.{Pit, preds_of}
 use Rattle.pit_plan.specs.Schedule.{held_period}
 use Rattle.pit_all.specs.Breaches.{out_at}
 use Rattle.pit_all.specs.Outs.{Notes}
-use Rattle.pit_all.proofs.Rising.{few-preds}
+use Rattle.pit_step.proofs.CallerLemmas.{few-preds}
 use Rattle.pit_all.proofs.Counted.{notes-step}
 use Rattle.pit_all.proofs.outs.Outs.note_block.Goals as goal
 
