@@ -15,8 +15,9 @@ use Rattle.pit_job.specs.declared.outcome.Outcome.TheVariants as outcome
 use Rattle.pit_job.specs.declared.outcome.RunEnd.{RunEnd}
 use Rattle.pit_job.specs.declared.outcome.RunEnd.TheVariants as end
 use Rattle.pit_run.specs.Reports.{RunState}
-use Rattle.pit_cli.specs.ReportText.{numbered_text, refused_text, outcome_text, job_text, jobs_text, stopped_text, run_end_text, run_text, runs_text}
+use Rattle.pit_cli.specs.ReportText.{outcome_text, job_text, jobs_text, stopped_text, run_end_text, run_text, runs_text}
 use Rattle.pit_step.specs.LineTexts.{value_text, field_text, micro_text, load_words, short_text, shorts_text}
+use Rattle.pit_step.specs.RefusalText.{numbered_text, refused_text}
 use Rattle.pit_step.specs.declared.status.Status.{Status}
 use Rattle.pit_step.specs.declared.status.Status.TheVariants.{Fine, Failed}
 use Rattle.pit_step.specs.declared.fault.CliFault.{CliFault}

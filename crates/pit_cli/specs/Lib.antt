@@ -9,6 +9,7 @@ pub use Rattle.pit_step.specs.Devices
 pub use Rattle.pit_step.specs.Inputs
 pub use Rattle.pit_step.specs.Statuses
 pub use Rattle.pit_step.specs.LineTexts
+pub use Rattle.pit_step.specs.RefusalText
 pub use Rattle.pit_view.specs.CheckText
 pub use Rattle.pit_view.specs.Value
 pub use Rattle.pit_view.specs.Check

@@ -1,14 +1,11 @@
-ghost use Rattle.std.specs.Prelude.{◌++◌, OnOk, codes};
+ghost use Rattle.std.specs.Prelude.{OnOk};
 ghost use Rattle.std.specs.Io.KnownBytes.{Appends};
-ghost use Rattle.pit_cli.specs.ReportText.{numbered_text, refused_text, outcome_text, job_text, jobs_text, run_end_text, stopped_text, run_text, runs_text};
+ghost use Rattle.pit_cli.specs.ReportText.{outcome_text, job_text, jobs_text, run_end_text, stopped_text, run_text, runs_text};
 
-use itoa::Buffer;
-use pit_desk::Refusal;
 use pit_job::{Outcome, RunEnd};
 use pit_num::{Sink, WriteFault, write_text};
-use pit_plan::Breach;
 use pit_run::PlannerRun;
-use pit_step::write_breach_words;
+use pit_step::{write_numbered, write_refusal};
 use std::alloc::Allocator;
 
 /// A line for each outcome, by rising planner and job, and one for each planner whose run isn't whole.
@@ -68,33 +65,6 @@ fn write_outcome<W: Sink>(w: &mut W, outcome: Outcome) -> Result<(), WriteFault>
     }
 }
 
-fn write_refusal<W: Sink>(w: &mut W, refusal: Refusal) -> Result<(), WriteFault>
-    ensures { OnOk result (Appends (W.contents w.old) (W.contents w.new) (refused_text refusal)) }
-{
-    match refusal {
-        Refusal::Ahead { start, commits } => write_two(w, b"ahead ", start, commits),
-        Refusal::Moved { block, version } => write_two(w, b"moved ", block, version),
-        Refusal::Misread { block } => write_numbered(w, b"misread ", u64::from(block)),
-        Refusal::Precedence { block, before } => {
-            write_breach_words(w, Breach::Precedence { block, before })
-        }
-        Refusal::Over {
-            resource,
-            period,
-            load,
-            limit,
-        } => write_breach_words(
-            w,
-            Breach::Over {
-                resource,
-                period,
-                load,
-                limit,
-            },
-        ),
-    }
-}
-
 #[tactic(auto, unfolding(crate::specs::ReportText::run_end_text))]
 fn write_end<W: Sink>(w: &mut W, planner: u32, ended: RunEnd) -> Result<(), WriteFault>
     ensures { OnOk result (Appends (W.contents w.old) (W.contents w.new) (run_end_text planner ended)) }
@@ -120,21 +90,4 @@ fn write_stopped<W: Sink>(w: &mut W, planner: u32, job: u32, why: &[u8]) -> Resu
     write_numbered(w, b" stopped at job ", u64::from(job))?;
     write_text(w, why)?;
     Ok(())
-}
-
-fn write_two<W: Sink>(w: &mut W, word: &[u8], first: u32, second: u32) -> Result<(), WriteFault>
-    ensures { OnOk result (Appends (W.contents w.old) (W.contents w.new) (numbered_text word.now first ++ numbered_text (codes " ") second)) }
-{
-    write_numbered(w, word, u64::from(first))?;
-    write_numbered(w, b" ", u64::from(second))
-}
-
-/// A word, and a whole number.
-#[tactic(auto, unfolding(crate::specs::ReportText::numbered_text))]
-fn write_numbered<W: Sink>(w: &mut W, word: &[u8], n: u64) -> Result<(), WriteFault>
-    ensures { OnOk result (Appends (W.contents w.old) (W.contents w.new) (numbered_text word.now n)) }
-{
-    write_text(w, word)?;
-    let mut buffer = Buffer::new();
-    write_text(w, buffer.format(n).as_bytes())
 }

@@ -3,3 +3,4 @@ pub mod Devices
 pub mod Inputs
 pub mod Statuses
 pub mod LineTexts
+pub mod RefusalText

@@ -15,6 +15,7 @@ mod lines;
 mod parsed;
 mod plans;
 mod read;
+mod refusal_words;
 mod status;
 mod text;
 mod value_text;
@@ -31,6 +32,7 @@ pub use parsed::{
 };
 pub use plans::planned;
 pub use read::{INPUT_BYTES_MAX, ReadError, read_all};
+pub use refusal_words::{write_numbered, write_refusal};
 pub use status::Status;
 pub use text::{Text, empty_text, gathered};
 pub use value_text::{write_line, write_value_lines};
