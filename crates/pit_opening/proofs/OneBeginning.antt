@@ -10,7 +10,7 @@ use Rattle.pit_step.specs.declared.input.Input.TheVariants.{Start, History}
 use Rattle.pit_step.specs.declared.fault.CliFault.{CliFault}
 use Rattle.pit_step.specs.declared.fault.CliFault.TheVariants.{Lines}
 use Rattle.pit_step.specs.Inputs.{IsHistoryFault, IsSolutionOf, IsSolutionFault}
-use Rattle.pit_step.proofs.CallerLemmas.{IsOfInputs, IsOneText, IsDecidedText, IsOneHistory, IsNeverBad, IsOneFault, history_text, solution_text}
+use Rattle.pit_step.proofs.CallerLemmas.{IsOfInputs, IsOneText, IsDecidedText, IsOneHistory, IsNeverBad, IsOneFault, one-history_text, decided-solution}
 use Rattle.pit_opening.specs.Beginnings.{Begun, nothing, scheduled, carried_on, unbegun, IsResumedOf, IsStartedOf, IsStartOf, IsStartFault, IsOpeningOf, IsOpeningFault}
 use Rattle.pit_opening.specs.Openings.{Opened, started, resumed}
 
@@ -39,7 +39,7 @@ module _ (some_history : IsSomeHistory) (one_history : IsOneHistory) (never_bad 
     }
 
     resumed_decided : IsDecidedText (IsResumedOf file text) (IsHistoryFault file text)
-    resumed_decided = record { some = some_resumed (some_history text); once = once_resumed (history_text one_history never_bad one_fault file text) }
+    resumed_decided = record { some = some_resumed (some_history text); once = once_resumed (one-history_text one_history never_bad one_fault file text) }
 
   module _ (pit : Pit) (text : List ℕ) where
     some_started : ((schedule : List (ℕ × ℕ)) × IsSolutionOf pit text schedule) ⊎ ((fault : CliFault) × IsOfInputs fault × IsSolutionFault Start pit text fault)
@@ -56,7 +56,7 @@ module _ (some_history : IsSomeHistory) (one_history : IsOneHistory) (never_bad 
 
     start_decided : (kind : Bool) → IsDecidedText (IsStartOf kind pit text) (IsStartFault kind pit text)
     start_decided true = resumed_decided Start text
-    start_decided false = record { some = some_started (solution_text Start pit text).some; once = once_started (solution_text Start pit text).once }
+    start_decided false = record { some = some_started (decided-solution Start pit text).some; once = once_started (decided-solution Start pit text).once }
 
   pub beginning_decided : (pit : Pit) (begun : Begun) → IsDecidedText (IsOpeningOf pit begun) (IsOpeningFault pit begun)
   beginning_decided pit nothing = no_text
