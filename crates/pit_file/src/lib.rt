@@ -1,0 +1,32 @@
+//! The file of a history, which is replaced whole or not at all.
+//!
+//! Such a history has two names: its own, and that of the new file beside it, `NAME.pit-new`. The new file is opened and locked, written from
+//! empty, synced, and only then renamed to the history's name. `TwoNames` has the steps, each with what it does to what stands at the history's
+//! name: nothing, but for the renaming, which needs a new file that is whole and synced. So whoever takes these steps, in whatever order, leaves
+//! at each moment the old history there or the whole new one.
+//!
+//! `HistoryFile` takes them in their order. `HistoryOut` is an output that is such a file, or a stream. `found` tells where a path leads, and
+//! `is_among` whether a file is one of the inputs. `HostNames` has the steps over the system's files, of which nothing is told.
+#![tactic(auto)]
+
+mod fault;
+mod history_file;
+mod hold;
+mod host_names;
+mod host_paths;
+mod identity;
+mod out;
+mod paths;
+mod replace;
+mod stage;
+mod two_names;
+
+pub use fault::FileFault;
+pub use history_file::HistoryFile;
+pub use host_names::HostNames;
+pub use host_paths::{identity_at, identity_of, open_stream};
+pub use identity::{FileIdentity, is_among};
+pub use out::{HistoryOut, HistoryOutput, Stream};
+pub use paths::{Kind, Paths, Place, found};
+pub use stage::{Look, Stage};
+pub use two_names::TwoNames;

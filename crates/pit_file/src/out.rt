@@ -1,0 +1,54 @@
+ghost use Rattle.std.specs.Prelude.{OnOk, OnErr};
+ghost use Rattle.pit_file.specs.Shown.{Shown, IsKept, IsNotKept};
+
+use super::history_file::HistoryFile;
+use super::two_names::TwoNames;
+use pit_num::{Failed, Sink, write_text};
+
+/// An output of a history: a stream, of which a beginning may be written, or a file that stays as it was until all of it is there.
+pub trait HistoryOut {
+    /// What it shows.
+    ghost shows: { Self → Shown };
+
+    /// Writes the whole text of a history.
+    fn keep(&mut self, text: &[u8]) -> Result<(), Failed>
+        ensures ok { OnOk result (IsKept text.now (shows self.old) (shows self.new)) }
+        ensures err { OnErr result (IsNotKept text.now (shows self.old) (shows self.new)) };
+}
+
+/// A device as the output of a history.
+#[derive(Drop)]
+pub struct Stream<S: Sink + Drop> {
+    pub sink: S,
+}
+
+impl<S: Sink + Drop> HistoryOut for Stream<S> {
+    ghost shows = { λ stream. Shown.stream (S.contents stream.sink) (S.has_failed stream.sink) };
+
+    fn keep(&mut self, text: &[u8]) -> Result<(), Failed> {
+        match write_text(&mut self.sink, text) {
+            Ok(()) => Ok(()),
+            Err(_) => Err(Failed),
+        }
+    }
+}
+
+/// A stream or a file.
+#[derive(Drop)]
+pub enum HistoryOutput<S: Sink + Drop, P: TwoNames + Drop> {
+    Stream(Stream<S>),
+    File(HistoryFile<P>),
+}
+
+impl<S: Sink + Drop, P: TwoNames + Drop> HistoryOut for HistoryOutput<S, P> {
+    ghost use Rattle.pit_file.specs.Outputs.{output_shows};
+
+    ghost shows = { output_shows S.contents S.has_failed P.stood };
+
+    fn keep(&mut self, text: &[u8]) -> Result<(), Failed> {
+        match self {
+            HistoryOutput::Stream(stream) => stream.keep(text),
+            HistoryOutput::File(file) => file.keep(text),
+        }
+    }
+}
