@@ -1,6 +1,6 @@
 pub mod Stages
 pub mod Stood
-pub mod Shown
+pub mod OutputState
 pub mod Found
 pub mod Inputs
 pub mod Outputs

@@ -1,5 +1,5 @@
 ghost use Rattle.std.specs.Prelude.{OnOk, OnErr};
-ghost use Rattle.pit_file.specs.Shown.{Shown, IsKept, IsNotKept};
+ghost use Rattle.pit_file.specs.OutputState.{OutputState, HasKept, HasNotKept};
 
 use super::history_file::HistoryFile;
 use super::two_names::TwoNames;
@@ -7,13 +7,13 @@ use pit_num::{Failed, Sink, write_text};
 
 /// An output of a history: a stream, of which a beginning may be written, or a file that stays as it was until all of it is there.
 pub trait HistoryOut {
-    /// What it shows.
-    ghost shows: { Self → Shown };
+    /// What is known of it.
+    ghost state: { Self → OutputState };
 
     /// Writes the whole text of a history.
     fn keep(&mut self, text: &[u8]) -> Result<(), Failed>
-        ensures ok { OnOk result (IsKept text.now (shows self.old) (shows self.new)) }
-        ensures err { OnErr result (IsNotKept text.now (shows self.old) (shows self.new)) };
+        ensures ok { OnOk result (HasKept text.now (state self.old) (state self.new)) }
+        ensures err { OnErr result (HasNotKept text.now (state self.old) (state self.new)) };
 }
 
 /// A device as the output of a history.
@@ -23,7 +23,7 @@ pub struct Stream<S: Sink + Drop> {
 }
 
 impl<S: Sink + Drop> HistoryOut for Stream<S> {
-    ghost shows = { λ stream. Shown.stream (S.contents stream.sink) (S.has_failed stream.sink) };
+    ghost state = { λ stream. OutputState.stream (S.contents stream.sink) (S.has_failed stream.sink) };
 
     fn keep(&mut self, text: &[u8]) -> Result<(), Failed> {
         match write_text(&mut self.sink, text) {
@@ -41,9 +41,9 @@ pub enum HistoryOutput<S: Sink + Drop, P: TwoNames + Drop> {
 }
 
 impl<S: Sink + Drop, P: TwoNames + Drop> HistoryOut for HistoryOutput<S, P> {
-    ghost use Rattle.pit_file.specs.Outputs.{output_shows};
+    ghost use Rattle.pit_file.specs.Outputs.{output_state};
 
-    ghost shows = { output_shows S.contents S.has_failed P.stood };
+    ghost state = { output_state S.contents S.has_failed P.stood };
 
     fn keep(&mut self, text: &[u8]) -> Result<(), Failed> {
         match self {

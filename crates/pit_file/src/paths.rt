@@ -1,7 +1,7 @@
 //! Where a history's path leads.
 ghost use Rattle.std.specs.Prelude.{◌≡◌, ℕ, List, Option, IfOk, IfSome, IfErr, OnErr};
 ghost use Rattle.std.specs.String.{string_bytes};
-ghost use Rattle.pit_file.specs.Found.{IsAt, IsNamed};
+ghost use Rattle.pit_file.specs.Found.{IsPlaceOf, HasName, IsLost, IsLostLink};
 ghost use Rattle.pit_file.specs.declared.paths.Kind.{Kind};
 
 use super::fault::FileFault;
@@ -34,19 +34,23 @@ pub trait Paths {
 
     /// What a path leads to, with all links followed.
     fn leads_to(&self, path: &str) -> Result<Kind, Failed>
-        ensures { IfOk result (λ kind. IfSome (leads_to self.now path.now) (λ told. kind ≡ told)) };
+        ensures kind { IfOk result (λ kind. IfSome (leads_to self.now path.now) (λ told. kind ≡ told)) }
+        ensures fails { OnErr result (leads_to self.now path.now ≡ None) };
 
     /// What stands at a path, with no link followed at its end.
     fn stands_at(&self, path: &str) -> Result<Kind, Failed>
-        ensures { IfOk result (λ kind. IfSome (stands_at self.now path.now) (λ told. kind ≡ told)) };
+        ensures kind { IfOk result (λ kind. IfSome (stands_at self.now path.now) (λ told. kind ≡ told)) }
+        ensures fails { OnErr result (stands_at self.now path.now ≡ None) };
 
     /// The path with all links resolved.
     fn resolved(&self, path: &str) -> Result<String, Failed>
-        ensures { IfOk result (λ name. IfSome (resolved self.now path.now) (λ told. string_bytes name ≡ told)) };
+        ensures name { IfOk result (λ name. IfSome (resolved self.now path.now) (λ told. string_bytes name ≡ told)) }
+        ensures fails { OnErr result (resolved self.now path.now ≡ None) };
 
     /// The path in its folder, of which all links are resolved.
     fn in_folder(&self, path: &str) -> Result<String, Failed>
-        ensures { IfOk result (λ name. IfSome (in_folder self.now path.now) (λ told. string_bytes name ≡ told)) };
+        ensures name { IfOk result (λ name. IfSome (in_folder self.now path.now) (λ told. string_bytes name ≡ told)) }
+        ensures fails { OnErr result (in_folder self.now path.now ≡ None) };
 }
 
 /// Where a history is written.
@@ -61,8 +65,9 @@ pub enum Place {
 /// Where a history's path leads. A link that leads nowhere can't be written.
 pub fn found<D: Paths>(disk: &D, path: &str) -> Result<Place, FileFault>
     ensures place { IfOk result (λ place. IfSome (D.leads_to disk.now path.now) (λ leads. IfSome (D.stands_at disk.now path.now) (λ stands.
-        IsAt leads stands (D.resolved disk.now path.now) (D.in_folder disk.now path.now) place))) }
+        IsPlaceOf leads stands (D.resolved disk.now path.now) (D.in_folder disk.now path.now) place))) }
     ensures fault { IfErr result (λ fault. fault ≡ FileFault.CannotWrite) }
+    ensures lost { OnErr result (IsLost (D.leads_to disk.now path.now) (D.stands_at disk.now path.now) (D.resolved disk.now path.now) (D.in_folder disk.now path.now)) }
 {
     match disk.leads_to(path) {
         Ok(Kind::Regular) => match disk.resolved(path) {
@@ -77,8 +82,9 @@ pub fn found<D: Paths>(disk: &D, path: &str) -> Result<Place, FileFault>
 
 /// The name of a file that isn't there.
 fn unmade<D: Paths>(disk: &D, path: &str) -> Result<Place, FileFault>
-    ensures place { IfOk result (λ place. IfSome (D.stands_at disk.now path.now) (λ stands. stands ≡ Kind.Nothing) × IsNamed (D.in_folder disk.now path.now) place) }
+    ensures place { IfOk result (λ place. IfSome (D.stands_at disk.now path.now) (λ stands. stands ≡ Kind.Nothing) × HasName (D.in_folder disk.now path.now) place) }
     ensures fault { IfErr result (λ fault. fault ≡ FileFault.CannotWrite) }
+    ensures lost { OnErr result (IsLostLink (D.stands_at disk.now path.now) (D.in_folder disk.now path.now)) }
 {
     match disk.stands_at(path) {
         Ok(Kind::Nothing) => match disk.in_folder(path) {
