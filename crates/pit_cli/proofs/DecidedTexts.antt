@@ -10,14 +10,16 @@ use Rattle.pit_script.specs.declared.error.ScriptCause.{ScriptCause}
 use Rattle.pit_script.specs.declared.error.ScriptError.{ScriptError}
 use Rattle.pit_script.specs.declared.fact.ScriptFact.{ScriptFact}
 use Rattle.pit_step.specs.declared.input.Input.{Input}
-use Rattle.pit_step.specs.declared.input.Input.TheVariants.{Start}
 use Rattle.pit_step.specs.declared.fault.CliFault.{CliFault}
 use Rattle.pit_step.specs.declared.fault.CliFault.TheVariants as cli
 use Rattle.pit_step.specs.Devices.{IsTextFault}
 use Rattle.pit_step.specs.Inputs.{IsModel, IsModelFault, IsOrder, IsOrderFault}
 use Rattle.pit_step.specs.Steps.{in_turn, beside, judge_step, may_step, run_step, each}
 use Rattle.pit_step.proofs.CallerLemmas.{IsSeen, IsOfInputs, never_two, inputs-seen, IsDecided, IsDecidedText, FailsOnly, judge-decided, in_turn-decided, in_turn-only, beside-decided, run-decided, may-decided, each-decided, each-untouched, each-only, decided-model, decided-order, decided-places, decided-solution}
-use Rattle.pit_cli.specs.Texts.{Texts, ArePlacesOf, IsPlacedFault, IsStartOf, IsStartFault, IsScriptOf, IsBadScript, IsScriptFault, pit_judged, script_judged, scripts_judged, texts_judged}
+use Rattle.pit_opening.specs.Beginnings.{Begun, IsOpeningOf, IsOpeningFault}
+use Rattle.pit_opening.specs.Openings.{Opened}
+use Rattle.pit_opening.proofs.CallerLemmas.{IsEarly, text_early, beginning_early}
+use Rattle.pit_cli.specs.Texts.{Texts, ArePlacesOf, IsPlacedFault, IsScriptOf, IsBadScript, IsScriptFault, pit_judged, script_judged, scripts_judged, texts_judged}
 
 pub never_memory : IsOfInputs cli.NoMemory → ⊥
 never_memory due = never_two due
@@ -35,16 +37,9 @@ places_decided given None = record {
 }
 places_decided given (Some bytes) = decided-places given bytes
 
-start_decided : (pit : Pit) (start : Option (List ℕ)) → IsDecidedText (IsStartOf pit start) (IsStartFault pit start)
-start_decided pit None = record {
-  some = inl ([], refl);
-  once = record {
-    values = λ value other p q. p ∙ sym q;
-    apart = λ value fault seen p q. q;
-    faults = λ fault other seen also p q. absurd p;
-  };
-}
-start_decided pit (Some bytes) = decided-solution Start pit bytes
+-- what a plan begins with, by the law of its texts
+abbrev pub IsOneBeginning : Type 0
+IsOneBeginning = (pit : Pit) (begun : Begun) → IsDecidedText (IsOpeningOf pit begun) (IsOpeningFault pit begun)
 
 module _ (pit : Pit) (number : ℕ) (bytes : List ℕ) where
   script_in : (fault : CliFault) → IsSeen fault → IsScriptFault pit number bytes fault → (error : ScriptError) × (fault ≡ cli.Script number error) × IsBadScript pit bytes error
@@ -103,46 +98,33 @@ scripts_decided texts pit =
     (may-decided IsOfInputs cli.NoMemory tt never_memory)
     (λ given. each-decided IsOfInputs (script_judged pit) (λ number bytes. tt) (script_judged-decided pit) 1 texts)
 
-module _ (texts : Texts) where
-  start_judged-decided : (pit : Pit) → IsDecided IsOfInputs (beside (judge_step (λ (given : Pit). IsStartOf given texts.start) (λ given. IsStartFault given texts.start))) pit
+module _ (beginnings : IsOneBeginning) (texts : Texts) where
+  start_judged-decided : (pit : Pit) → IsDecided IsOfInputs (beside (judge_step (λ (given : Pit). IsOpeningOf given texts.beginning) (λ given. IsOpeningFault given texts.beginning))) pit
   start_judged-decided pit =
-      beside-decided IsOfInputs (judge_step (λ (given : Pit). IsStartOf given texts.start) (λ given. IsStartFault given texts.start)) pit
-      (judge-decided (λ (given : Pit). IsStartOf given texts.start) (λ given. IsStartFault given texts.start) pit (start_decided pit texts.start))
+      beside-decided IsOfInputs (judge_step (λ (given : Pit). IsOpeningOf given texts.beginning) (λ given. IsOpeningFault given texts.beginning)) pit
+      (judge-decided (λ (given : Pit). IsOpeningOf given texts.beginning) (λ given. IsOpeningFault given texts.beginning) pit (beginnings pit texts.beginning))
 
-  rest_decided : (given : Pit × List (ℕ × ℕ)) → IsDecided IsOfInputs (beside (run_step (λ (g : Pit × List (ℕ × ℕ)). scripts_judged texts.scripts g.0) (Unit {0}))) given
+  rest_decided : (given : Pit × Opened) → IsDecided IsOfInputs (beside (run_step (λ (g : Pit × Opened). scripts_judged texts.scripts g.0) (Unit {0}))) given
   rest_decided given =
-      beside-decided IsOfInputs (run_step (λ (g : Pit × List (ℕ × ℕ)). scripts_judged texts.scripts g.0) (Unit {0})) given
-      (run-decided IsOfInputs (λ (g : Pit × List (ℕ × ℕ)). scripts_judged texts.scripts g.0) (Unit {0}) given (scripts_decided texts.scripts given.0))
+      beside-decided IsOfInputs (run_step (λ (g : Pit × Opened). scripts_judged texts.scripts g.0) (Unit {0})) given
+      (run-decided IsOfInputs (λ (g : Pit × Opened). scripts_judged texts.scripts g.0) (Unit {0}) given (scripts_decided texts.scripts given.0))
 
   pub texts_decided : IsDecided IsOfInputs (texts_judged texts) tt
   texts_decided =
       in_turn-decided IsOfInputs (pit_judged texts.model texts.precedence texts.blocks)
-      (in_turn (beside (judge_step (λ (given : Pit). IsStartOf given texts.start) (λ given. IsStartFault given texts.start)))
-      (beside (run_step (λ (g : Pit × List (ℕ × ℕ)). scripts_judged texts.scripts g.0) (Unit {0}))))
+      (in_turn (beside (judge_step (λ (given : Pit). IsOpeningOf given texts.beginning) (λ given. IsOpeningFault given texts.beginning)))
+      (beside (run_step (λ (g : Pit × Opened). scripts_judged texts.scripts g.0) (Unit {0}))))
       tt (tt, tt) (pit_decided texts.model texts.precedence texts.blocks)
       (λ (pit : Pit).
-      in_turn-decided IsOfInputs (beside (judge_step (λ (given : Pit). IsStartOf given texts.start) (λ given. IsStartFault given texts.start)))
-      (beside (run_step (λ (g : Pit × List (ℕ × ℕ)). scripts_judged texts.scripts g.0) (Unit {0}))) pit tt
+      in_turn-decided IsOfInputs (beside (judge_step (λ (given : Pit). IsOpeningOf given texts.beginning) (λ given. IsOpeningFault given texts.beginning)))
+      (beside (run_step (λ (g : Pit × Opened). scripts_judged texts.scripts g.0) (Unit {0}))) pit tt
       (start_judged-decided pit) rest_decided)
 
 -- ---- no fault of theirs is of another kind
 
--- it is of the inputs, or memory is wanted
-abbrev pub IsEarly : CliFault → Type 0
-IsEarly fault = IsOfInputs fault ⊎ (fault ≡ cli.NoMemory)
-
-text_early : (file : Input) (IsBad : TextError → Type 0) (IsStop : Type 0) (fault : CliFault) → IsTextFault file IsBad IsStop fault → IsEarly fault
-text_early file IsBad IsStop (cli.Text f error) p = inl refl
-text_early file IsBad IsStop cli.NoMemory p = inr refl
-text_early file IsBad IsStop other p = absurd p
-
 places_early : (given : Pit) (blocks : Option (List ℕ)) (fault : CliFault) → IsPlacedFault given blocks fault → IsEarly fault
 places_early given None fault p = inr p
 places_early given (Some bytes) fault p = text_early _ _ _ fault p
-
-start_early : (pit : Pit) (start : Option (List ℕ)) (fault : CliFault) → IsStartFault pit start fault → IsEarly fault
-start_early pit None fault p = absurd p
-start_early pit (Some bytes) fault p = text_early _ _ _ fault p
 
 script_early : (pit : Pit) (number : ℕ) (bytes : List ℕ) (fault : CliFault) → IsScriptFault pit number bytes fault → IsEarly fault
 script_early pit number bytes (cli.Script n error) p = inl refl
@@ -160,5 +142,5 @@ scripts_early texts pit fault (inr p) = each-only IsEarly (script_judged pit) (s
 
 pub texts_early : (texts : Texts) (fault : CliFault) → (texts_judged texts).Fails tt fault → IsEarly fault
 texts_early texts fault (inl p) = pit_early texts.model texts.precedence texts.blocks fault p.0
-texts_early texts fault (inr (pit, stands, inl p)) = start_early pit texts.start fault p.0
+texts_early texts fault (inr (pit, stands, inl p)) = beginning_early pit texts.beginning fault p.0
 texts_early texts fault (inr (pit, stands, inr p)) = scripts_early texts.scripts p.0.0 fault p.2

@@ -9,7 +9,9 @@ use Rattle.pit_plan.specs.Shortfalls.{shortfalls_of}
 use Rattle.pit_desk.specs.History.{commits_of}
 use Rattle.pit_run.specs.Reports.{RunState}
 use Rattle.pit_step.specs.LineTexts.{value_text, shorts_text}
-use Rattle.pit_step.specs.Devices.{Writing, write_if_step}
+use Rattle.pit_step.specs.Devices.{Writing}
+use Rattle.pit_file.specs.OutputState.{OutputState, HasKept, HasNotKept}
+use Rattle.pit_file.specs.OutputState.OutputState.{stream, file}
 use Rattle.pit_step.specs.Steps.{IsResultOf}
 use Rattle.pit_step.specs.declared.fault.CliFault.{CliFault}
 use Rattle.pit_step.specs.declared.fault.CliFault.TheVariants as cli
@@ -18,13 +20,16 @@ use Rattle.pit_step.specs.declared.status.Status.TheVariants.{Fine}
 use Rattle.pit_step.specs.Statuses.{fault_status}
 use Rattle.pit_step.proofs.CallerLemmas.{IsOfInputs, never_two, write-shown}
 use Rattle.pit_cli.specs.ReportText.{runs_text}
+use Rattle.pit_opening.specs.Beginnings.{is_carried_on, is_unbegun}
+use Rattle.pit_cli.specs.declared.plan_options.PlanOptions.{PlanOptions}
 use Rattle.pit_cli.specs.Texts.{Texts, Setup}
 use Rattle.pit_cli.specs.Planning.{Ran, IsRan, IsRunFault, plan_judged}
-use Rattle.pit_cli.specs.Output.{status_by, all_whole, report_text, Outputs, outputs_run, outputs_of, ran_end, ran_run, HasWhole, IsLeft, IsUnwritten, plan_run}
-use Rattle.pit_cli.specs.Outcomes.{MayRun, AreRefused, IsWritten, IsDecisive, has_failed_if, HasFailed}
-use Rattle.pit_cli.proofs.DecidedTexts.{IsEarly}
+use Rattle.pit_cli.specs.Output.{status_by, all_whole, all_granted, new_line, report_text, Keeping, keep_step, Outputs, told_step, end_step, outputs_run, outputs_of, ran_end, ran_run, HasWhole, IsLeft, IsUnwritten, plan_run}
+use Rattle.pit_cli.specs.Outcomes.{MayRun, AreRefused, IsWritten, IsDecisive, has_failed, has_failed_if, HasFailed}
+use Rattle.pit_opening.proofs.CallerLemmas.{IsEarly}
+use Rattle.pit_cli.proofs.DecidedTexts.{IsOneBeginning}
 use Rattle.pit_cli.proofs.ReportEnd.{one_report}
-use Rattle.pit_cli.proofs.Refusals.{IsSomeStart, IsStartApart, IsOneStart, plan_early, never_refused, one_refusal}
+use Rattle.pit_cli.proofs.Refusals.{IsSomeOpening, IsOpeningApart, IsOneOpening, plan_early, never_refused, one_refusal}
 
 -- ---- results
 
@@ -42,15 +47,15 @@ only_stopped : (all : Bool) (status : Status) (fault : CliFault) → (if all the
 only_stopped true status fault is = let clash : ⊥ = cc in absurd clash
 only_stopped false status fault is = same_fault fault cli.Stopped (Err cli.Stopped) is refl
 
-end_stopped : (ran : Ran) (fault : CliFault) → ran_end ran ≡ Err fault → fault ≡ cli.Stopped
-end_stopped ran fault is = only_stopped (all_whole ran.1) (status_by (shortfalls_of ran.0.plan.pit (held_period (commits_of ran.0.history)))) fault is
+end_stopped : (is_strict : Bool) (ran : Ran) (fault : CliFault) → ran_end is_strict ran ≡ Err fault → fault ≡ cli.Stopped
+end_stopped is_strict ran fault is = only_stopped (all_whole ran.1) (status_by is_strict (all_granted ran.1) (shortfalls_of ran.0.plan.pit (held_period (commits_of ran.0.history)))) fault is
 
 -- ---- devices
 
-some_report : (pit : Pit) (commits : List Commit) (runs : List RunState) → 0 < length (report_text pit commits runs)
-some_report pit commits runs =
+some_report : (is_new : Bool) (pit : Pit) (commits : List Commit) (runs : List RunState) → 0 < length (new_line is_new ++ report_text pit commits runs)
+some_report is_new pit commits runs =
     let rest = codes "value " ++ (value_text (value_of pit (held_period commits)) ++ shorts_text (shortfalls_of pit (held_period commits))) in
-    omega (arith, length-append (runs_text runs) rest)
+    omega (arith, length-append (runs_text runs) rest, length-append (new_line is_new) (report_text pit commits runs))
 
 same_text : (before after : Option (List ℕ)) (text other : List ℕ) → IsSome before → Appends before after text → Appends before after other → text ≡ other
 same_text None after text other tells p q = absurd (false≢true tells)
@@ -62,75 +67,109 @@ shown : (device : Writing) (text : List ℕ) → IsSome device.before → 0 < le
 shown device text tells some appended sound kept =
     write-shown device (λ (xs : List ℕ). xs) (λ xs. Fine) text tells some Fine (refl, appended, λ more. sound) kept
 
-module _ (kept : Option Writing) (text : List ℕ) where
-  pub whole_if : (write_if_step {A = Unit {0}} kept (λ _. text)).Gives tt tt → HasWhole kept text
+-- an output that can't be written has failed
+not_kept : (text : List ℕ) (before after : OutputState) → HasNotKept text before after → has_failed after ≡ true
+not_kept text (stream held had) (stream holds failed) p = p.1
+not_kept text (file stood had) (file stands failed) p = p.1
+not_kept text (stream held had) (file stands failed) p = absurd p
+not_kept text (file stood had) (stream holds failed) p = absurd p
+
+module _ (kept : Option Keeping) (text : List ℕ) where
+  pub whole_if : (keep_step kept text).Gives tt tt → HasWhole kept text
   whole_if = by kept
     where
-      by : (k : Option Writing) → (write_if_step {A = Unit {0}} k (λ _. text)).Gives tt tt → HasWhole k text
+      by : (k : Option Keeping) → (keep_step k text).Gives tt tt → HasWhole k text
       by None p = tt
-      by (Some device) p = (p.1, p.2)
+      by (Some device) p = p.1
 
-  failed_if : (fault : CliFault) → (write_if_step {A = Unit {0}} kept (λ _. text)).Fails tt fault → (fault ≡ cli.CannotWrite) × (has_failed_if kept ≡ true)
+  failed_if : (fault : CliFault) → (keep_step kept text).Fails tt fault → (fault ≡ cli.CannotWrite) × (has_failed_if kept ≡ true)
   failed_if = by kept
     where
-      by : (k : Option Writing) (fault : CliFault) → (write_if_step {A = Unit {0}} k (λ _. text)).Fails tt fault → (fault ≡ cli.CannotWrite) × (has_failed_if k ≡ true)
+      by : (k : Option Keeping) (fault : CliFault) → (keep_step k text).Fails tt fault → (fault ≡ cli.CannotWrite) × (has_failed_if k ≡ true)
       by None fault p = absurd p
-      by (Some device) fault p = (p.0, p.2)
+      by (Some device) fault p = (p.0, not_kept text device.before device.after p.1)
 
-  left_if : (write_if_step {A = Unit {0}} kept (λ _. text)).IsUntouched → IsLeft kept
+  left_if : (keep_step kept text).IsUntouched → IsLeft kept
   left_if = by kept
     where
-      by : (k : Option Writing) → (write_if_step {A = Unit {0}} k (λ _. text)).IsUntouched → IsLeft k
+      by : (k : Option Keeping) → (keep_step k text).IsUntouched → IsLeft k
       by None p = tt
       by (Some device) p = p
 
 -- ---- the outputs
 
-module _ (out lines : Writing) (kept : Option Writing) where
+module _ (out lines : Writing) (kept : Option Keeping) where
   abbrev AllWritten : Outputs → Type 0
   AllWritten texts =
       Appends out.before out.after texts.solution × Appends lines.before lines.after texts.report × (0 < length texts.report → lines.failed ≡ false) × HasWhole kept texts.history
 
+  abbrev AreTold : Outputs → Type 0
+  AreTold texts = Appends out.before out.after texts.solution × Appends lines.before lines.after texts.report × (0 < length texts.report → lines.failed ≡ false)
+
   module _ (texts : Outputs) (ended : Result Status CliFault) where
-    outputs_given : (status : Status) → (outputs_run texts ended out lines kept).Gives tt status → (ended ≡ Ok status) × AllWritten texts
-    outputs_given status (a, p, (b, q, (c, r, is))) = (is, (p.1, q.1, q.2, whole_if kept texts.history r))
+    told : (told_step texts out lines).Gives tt tt → AreTold texts
+    told (a, p, q) = (p.1, q.1, q.2)
+
+    told_failed : (fault : CliFault) → (told_step texts out lines).Fails tt fault → (fault ≡ cli.CannotWrite) × HasFailed out lines kept
+    told_failed fault (inl (p, left)) = (p.0, inl p.2)
+    told_failed fault (inr (a, p, q)) = (q.0, inr (inl q.2))
+
+    kept_failed : (fault : CliFault) → (keep_step kept texts.history).Fails tt fault → (fault ≡ cli.CannotWrite) × HasFailed out lines kept
+    kept_failed fault p = let failed = failed_if kept texts.history fault p in (failed.0, inr (inr failed.1))
+
+    all_of : AreTold texts → HasWhole kept texts.history → AllWritten texts
+    all_of p q = (p.0, p.1, p.2, q)
+
+    outputs_given : (is_first : Bool) (status : Status) → (outputs_run is_first texts ended out lines kept).Gives tt status → (ended ≡ Ok status) × AllWritten texts
+    outputs_given false status (a, p, (b, q, is)) = (is, all_of (told p) (whole_if kept texts.history q))
+    outputs_given true status (a, p, (b, q, is)) = (is, all_of (told q) (whole_if kept texts.history p))
 
     -- a device failed; or all was written, and it ended so
-    outputs_failed : (fault : CliFault) → (outputs_run texts ended out lines kept).Fails tt fault
-        → ((fault ≡ cli.CannotWrite) × HasFailed out lines kept) ⊎ ((ended ≡ Err fault) × AllWritten texts)
-    outputs_failed fault (inl (p, left)) = inl (p.0, inl p.2)
-    outputs_failed fault (inr (a, p, inl (q, left))) = inl (q.0, inr (inl q.2))
-    outputs_failed fault (inr (a, p, inr (b, q, inl (r, left)))) =
-        let failed = failed_if kept texts.history fault r in inl (failed.0, inr (inr failed.1))
-    outputs_failed fault (inr (a, p, inr (b, q, inr (c, r, is)))) = inr (is, (p.1, q.1, q.2, whole_if kept texts.history r))
+    abbrev IsFailed : CliFault → Type 0
+    IsFailed fault = ((fault ≡ cli.CannotWrite) × HasFailed out lines kept) ⊎ ((ended ≡ Err fault) × AllWritten texts)
 
-    outputs_left : (outputs_run texts ended out lines kept).IsUntouched → IsUnwritten out lines kept
-    outputs_left (p, (q, (r, rest))) = (p, q, left_if kept texts.history r)
+    outputs_failed : (is_first : Bool) (fault : CliFault) → (outputs_run is_first texts ended out lines kept).Fails tt fault → IsFailed fault
+    outputs_failed false fault (inl (p, left)) = inl (told_failed fault p)
+    outputs_failed false fault (inr (a, p, inl (q, left))) = inl (kept_failed fault q)
+    outputs_failed false fault (inr (a, p, inr (b, q, is))) = inr (is, all_of (told p) (whole_if kept texts.history q))
+    outputs_failed true fault (inl (p, left)) = inl (kept_failed fault p)
+    outputs_failed true fault (inr (a, p, inl (q, left))) = inl (told_failed fault q)
+    outputs_failed true fault (inr (a, p, inr (b, q, is))) = inr (is, all_of (told q) (whole_if kept texts.history p))
 
-  -- how what stands behind a run fails
-  abbrev EndsLate : Ran → CliFault → Type 0
-  EndsLate ran fault =
-      ((fault ≡ cli.NoMemory) × IsUnwritten out lines kept)
-      ⊎ (((fault ≡ cli.CannotWrite) × HasFailed out lines kept) ⊎ ((ran_end ran ≡ Err fault) × AllWritten (outputs_of ran)))
+    outputs_left : (is_first : Bool) → (outputs_run is_first texts ended out lines kept).IsUntouched → IsUnwritten out lines kept
+    outputs_left false ((p, q), (r, rest)) = (p, q, left_if kept texts.history r)
+    outputs_left true (r, ((p, q), rest)) = (p, q, left_if kept texts.history r)
 
-  ran_failed : (ran : Ran) (fault : CliFault) → (ran_run out lines kept ran).Fails tt fault → EndsLate ran fault
-  ran_failed ran fault (inl (p, left)) = inl (p, outputs_left (outputs_of ran) (ran_end ran) left)
-  ran_failed ran fault (inr (a, p, q)) = inr (outputs_failed (outputs_of ran) (ran_end ran) fault q)
+  module _ (texts : Texts) (options : PlanOptions) where
+    abbrev outputs : Ran → Outputs
+    outputs ran = outputs_of (is_unbegun texts.beginning) ran
 
-  module _ (texts : Texts) (retries : ℕ) where
+    abbrev end_of : Ran → Result Status CliFault
+    end_of ran = ran_end options.is_strict ran
+
+    -- how what stands behind a run fails
+    abbrev EndsLate : Ran → CliFault → Type 0
+    EndsLate ran fault =
+        ((fault ≡ cli.NoMemory) × IsUnwritten out lines kept)
+        ⊎ (((fault ≡ cli.CannotWrite) × HasFailed out lines kept) ⊎ ((end_of ran ≡ Err fault) × AllWritten (outputs ran)))
+
+    ran_failed : (ran : Ran) (fault : CliFault) → (ran_run texts.beginning options.is_strict out lines kept ran).Fails tt fault → EndsLate ran fault
+    ran_failed ran fault (inl (p, left)) = inl (p, outputs_left (outputs ran) (end_of ran) (is_carried_on texts.beginning) left)
+    ran_failed ran fault (inr (a, p, q)) = inr (outputs_failed (outputs ran) (end_of ran) (is_carried_on texts.beginning) fault q)
+
     -- how a plan fails: before the run, in it, or behind it
     pub data Failure (fault : CliFault) : Type 0 where
       early : (plan_judged texts).Fails tt fault → IsUnwritten out lines kept → Failure fault
-      in_run : (setup : Setup) → (plan_judged texts).Gives tt setup → IsRunFault setup retries fault → IsUnwritten out lines kept → Failure fault
-      late : (setup : Setup) (ran : Ran) → (plan_judged texts).Gives tt setup → IsRan setup retries ran → EndsLate ran fault → Failure fault
+      in_run : (setup : Setup) → (plan_judged texts).Gives tt setup → IsRunFault setup options fault → IsUnwritten out lines kept → Failure fault
+      late : (setup : Setup) (ran : Ran) → (plan_judged texts).Gives tt setup → IsRan setup options ran → EndsLate ran fault → Failure fault
 
-    failure : (fault : CliFault) → (plan_run texts retries out lines kept).Fails tt fault → Failure fault
+    failure : (fault : CliFault) → (plan_run texts options out lines kept).Fails tt fault → Failure fault
     failure fault (inl (p, (a, left))) = early p left
     failure fault (inr (setup, judged, inl (p, left))) = in_run setup judged p left
     failure fault (inr (setup, judged, inr (ran, run, p))) = late setup ran judged run (ran_failed ran fault p)
 
-    written_of : (setup : Setup) (ran : Ran) (result : Result Status CliFault) → (plan_judged texts).Gives tt setup → IsRan setup retries ran → result ≡ ran_end ran → AllWritten (outputs_of ran)
-        → IsWritten texts retries out lines kept result
+    written_of : (setup : Setup) (ran : Ran) (result : Result Status CliFault) → (plan_judged texts).Gives tt setup → IsRan setup options ran → result ≡ end_of ran → AllWritten (outputs ran)
+        → IsWritten texts options out lines kept result
     written_of setup ran result judged run is all = record {
       setup = setup;
       ran = ran;
@@ -139,13 +178,13 @@ module _ (out lines : Writing) (kept : Option Writing) where
       ended = is;
       solution = all.0;
       report = all.1;
-      sound = all.2 (some_report ran.0.plan.pit (commits_of ran.0.history) ran.1);
+      sound = all.2 (some_report (is_unbegun texts.beginning) ran.0.plan.pit (commits_of ran.0.history) ran.1);
       history = all.3;
     }
 
-    pub given_written : (status : Status) → (plan_run texts retries out lines kept).Gives tt status → IsWritten texts retries out lines kept (Ok status)
+    pub given_written : (status : Status) → (plan_run texts options out lines kept).Gives tt status → IsWritten texts options out lines kept (Ok status)
     given_written status (setup, judged, (ran, run, (a, m, p))) =
-        let given = outputs_given (outputs_of ran) (ran_end ran) status p in written_of setup ran (Ok status) judged run (sym given.0) given.1
+        let given = outputs_given (outputs ran) (end_of ran) (is_carried_on texts.beginning) status p in written_of setup ran (Ok status) judged run (sym given.0) given.1
 
     -- ---- by the fault
 
@@ -153,7 +192,7 @@ module _ (out lines : Writing) (kept : Option Writing) where
     never_early fault three some (inl two) = never_two (sym three ∙ two)
     never_early fault three some (inr is) = some is
 
-    run_three : (setup : Setup) (fault : CliFault) → IsRunFault setup retries fault → fault_status fault ≡ 3
+    run_three : (setup : Setup) (fault : CliFault) → IsRunFault setup options fault → fault_status fault ≡ 3
     run_three setup cli.NoMemory p = refl
     run_three setup cli.NoPlace p = refl
     run_three setup cli.NotClosed p = refl
@@ -162,58 +201,59 @@ module _ (out lines : Writing) (kept : Option Writing) where
     late_three : (ran : Ran) (fault : CliFault) → EndsLate ran fault → fault_status fault ≡ 3
     late_three ran fault (inl p) = ap fault_status p.0
     late_three ran fault (inr (inl p)) = ap fault_status p.0
-    late_three ran fault (inr (inr p)) = ap fault_status (end_stopped ran fault p.0)
+    late_three ran fault (inr (inr p)) = ap fault_status (end_stopped options.is_strict ran fault p.0)
 
-    late_stopped : (setup : Setup) (ran : Ran) → (plan_judged texts).Gives tt setup → IsRan setup retries ran → EndsLate ran cli.Stopped
-        → IsWritten texts retries out lines kept (Err cli.Stopped)
+    late_stopped : (setup : Setup) (ran : Ran) → (plan_judged texts).Gives tt setup → IsRan setup options ran → EndsLate ran cli.Stopped
+        → IsWritten texts options out lines kept (Err cli.Stopped)
     late_stopped setup ran judged run (inl p) = let clash : ⊥ = absurd (let is = p.0 in cc) in absurd clash
     late_stopped setup ran judged run (inr (inl p)) = let clash : ⊥ = absurd (let is = p.0 in cc) in absurd clash
     late_stopped setup ran judged run (inr (inr p)) = written_of setup ran (Err cli.Stopped) judged run (sym p.0) p.1
 
-    of_stopped : Failure cli.Stopped → IsWritten texts retries out lines kept (Err cli.Stopped)
+    of_stopped : Failure cli.Stopped → IsWritten texts options out lines kept (Err cli.Stopped)
     of_stopped (early p left) = absurd (never_early cli.Stopped refl (λ is. cc) (plan_early texts cli.Stopped p))
     of_stopped (in_run setup judged p left) = absurd p
     of_stopped (late setup ran judged run p) = late_stopped setup ran judged run p
 
-    pub stopped_written : (plan_run texts retries out lines kept).Fails tt cli.Stopped → IsWritten texts retries out lines kept (Err cli.Stopped)
+    pub stopped_written : (plan_run texts options out lines kept).Fails tt cli.Stopped → IsWritten texts options out lines kept (Err cli.Stopped)
     stopped_written p = of_stopped (failure cli.Stopped p)
 
     late_failed : (ran : Ran) → EndsLate ran cli.CannotWrite → HasFailed out lines kept
     late_failed ran (inl p) = let clash : ⊥ = absurd (let is = p.0 in cc) in absurd clash
     late_failed ran (inr (inl p)) = p.1
-    late_failed ran (inr (inr p)) = let is = end_stopped ran cli.CannotWrite p.0 in let clash : ⊥ = cc in absurd clash
+    late_failed ran (inr (inr p)) = let is = end_stopped options.is_strict ran cli.CannotWrite p.0 in let clash : ⊥ = cc in absurd clash
 
     of_failed : Failure cli.CannotWrite → MayRun texts × HasFailed out lines kept
     of_failed (early p left) = absurd (never_early cli.CannotWrite refl (λ is. cc) (plan_early texts cli.CannotWrite p))
     of_failed (in_run setup judged p left) = absurd p
     of_failed (late setup ran judged run p) = ((setup, judged), late_failed ran p)
 
-    pub failed_device : (plan_run texts retries out lines kept).Fails tt cli.CannotWrite → MayRun texts × HasFailed out lines kept
+    pub failed_device : (plan_run texts options out lines kept).Fails tt cli.CannotWrite → MayRun texts × HasFailed out lines kept
     failed_device p = of_failed (failure cli.CannotWrite p)
 
     late_unwritten : (ran : Ran) (fault : CliFault) → fault ≢ cli.Stopped → fault ≢ cli.CannotWrite → EndsLate ran fault → IsUnwritten out lines kept
     late_unwritten ran fault some also (inl p) = p.1
     late_unwritten ran fault some also (inr (inl p)) = absurd (also p.0)
-    late_unwritten ran fault some also (inr (inr p)) = absurd (some (end_stopped ran fault p.0))
+    late_unwritten ran fault some also (inr (inr p)) = absurd (some (end_stopped options.is_strict ran fault p.0))
 
     of_unwritten : (fault : CliFault) → fault ≢ cli.Stopped → fault ≢ cli.CannotWrite → Failure fault → IsUnwritten out lines kept
     of_unwritten fault some also (early p left) = left
     of_unwritten fault some also (in_run setup judged p left) = left
     of_unwritten fault some also (late setup ran judged run p) = late_unwritten ran fault some also p
 
-    pub fault_unwritten : (fault : CliFault) → fault ≢ cli.Stopped → fault ≢ cli.CannotWrite → (plan_run texts retries out lines kept).Fails tt fault → IsUnwritten out lines kept
+    pub fault_unwritten : (fault : CliFault) → fault ≢ cli.Stopped → fault ≢ cli.CannotWrite → (plan_run texts options out lines kept).Fails tt fault → IsUnwritten out lines kept
     fault_unwritten fault some also p = of_unwritten fault some also (failure fault p)
 
-    pub written_seen : (result : Result Status CliFault) → IsSome lines.before → IsWritten texts retries out lines kept result → IsUnwritten out lines kept → ⊥
+    pub written_seen : (result : Result Status CliFault) → IsSome lines.before → IsWritten texts options out lines kept result → IsUnwritten out lines kept → ⊥
     written_seen result tells is unwritten =
-        shown lines (outputs_of is.ran).report tells (some_report is.ran.0.plan.pit (commits_of is.ran.0.history) is.ran.1) is.report is.sound unwritten.1
+        shown lines (outputs is.ran).report tells (some_report (is_unbegun texts.beginning) is.ran.0.plan.pit (commits_of is.ran.0.history) is.ran.1) is.report is.sound unwritten.1
 
     -- the report's device shows how the run ended
-    written_once : (result other : Result Status CliFault) → IsSome lines.before → IsWritten texts retries out lines kept result → IsWritten texts retries out lines kept other → result ≡ other
+    written_once : (result other : Result Status CliFault) → IsSome lines.before → IsWritten texts options out lines kept result → IsWritten texts options out lines kept other → result ≡ other
     written_once result other tells p q =
         p.ended
-        ∙ one_report p.ran.0.plan.pit q.ran.0.plan.pit (commits_of p.ran.0.history) (commits_of q.ran.0.history) p.ran.1 q.ran.1
-        (same_text lines.before lines.after (outputs_of p.ran).report (outputs_of q.ran).report tells p.report q.report) ∙ sym q.ended
+        ∙ one_report options.is_strict p.ran.0.plan.pit q.ran.0.plan.pit (commits_of p.ran.0.history) (commits_of q.ran.0.history) p.ran.1 q.ran.1
+        (append_cancel_left (new_line (is_unbegun texts.beginning)) (report_text p.ran.0.plan.pit (commits_of p.ran.0.history) p.ran.1)
+        (report_text q.ran.0.plan.pit (commits_of q.ran.0.history) q.ran.1) (same_text lines.before lines.after (outputs p.ran).report (outputs q.ran).report tells p.report q.report)) ∙ sym q.ended
 
     -- ---- by the texts
 
@@ -222,12 +262,12 @@ module _ (out lines : Writing) (kept : Option Writing) where
     of_refuses fault two (in_run setup judged p left) = absurd (never_two (sym (run_three setup fault p) ∙ two))
     of_refuses fault two (late setup ran judged run p) = absurd (never_two (sym (late_three ran fault p) ∙ two))
 
-    pub refuses : (fault : CliFault) → fault_status fault ≡ 2 → (plan_run texts retries out lines kept).Fails tt fault → AreRefused texts fault
+    pub refuses : (fault : CliFault) → fault_status fault ≡ 2 → (plan_run texts options out lines kept).Fails tt fault → AreRefused texts fault
     refuses fault two p = of_refuses fault two (failure fault p)
 
-    module _ (some_start : IsSomeStart) (start_apart : IsStartApart) (one_start : IsOneStart) where
+    module _ (beginnings : IsOneBeginning) (some_opening : IsSomeOpening) (opening_apart : IsOpeningApart) (one_opening : IsOneOpening) where
       early_three : (fault : CliFault) → MayRun texts → (plan_judged texts).Fails tt fault → IsEarly fault → fault_status fault ≡ 3
-      early_three fault may p (inl two) = absurd (never_refused some_start start_apart one_start texts fault may (p, two))
+      early_three fault may p (inl two) = absurd (never_refused beginnings some_opening opening_apart one_opening texts fault may (p, two))
       early_three fault may p (inr is) = ap fault_status is
 
       of_wanting : (fault : CliFault) → MayRun texts → Failure fault → fault_status fault ≡ 3
@@ -235,15 +275,15 @@ module _ (out lines : Writing) (kept : Option Writing) where
       of_wanting fault may (in_run setup judged p left) = run_three setup fault p
       of_wanting fault may (late setup ran judged run p) = late_three ran fault p
 
-      pub wanting_only : (fault : CliFault) → MayRun texts → (plan_run texts retries out lines kept).Fails tt fault → fault_status fault ≡ 3
+      pub wanting_only : (fault : CliFault) → MayRun texts → (plan_run texts options out lines kept).Fails tt fault → fault_status fault ≡ 3
       wanting_only fault may p = of_wanting fault may (failure fault p)
 
       module _ (fault : CliFault) (are : AreRefused texts fault) where
         no_run : (setup : Setup) → (plan_judged texts).Gives tt setup → ⊥
-        no_run setup judged = never_refused some_start start_apart one_start texts fault (setup, judged) are
+        no_run setup judged = never_refused beginnings some_opening opening_apart one_opening texts fault (setup, judged) are
 
         answer_of : (other : CliFault) → (plan_judged texts).Fails tt other → IsEarly other → (err_of other ≡ err_of fault) ⊎ (err_of other ≡ err_of cli.NoMemory)
-        answer_of other p (inl two) = inl (ap err_of (one_refusal some_start start_apart one_start texts other fault (p, two) are))
+        answer_of other p (inl two) = inl (ap err_of (one_refusal beginnings some_opening opening_apart one_opening texts other fault (p, two) are))
         answer_of other p (inr is) = inr (ap err_of is)
 
         of_refused : (other : CliFault) → Failure other → IsUnwritten out lines kept × ((err_of other ≡ err_of fault) ⊎ (err_of other ≡ err_of cli.NoMemory))
@@ -251,7 +291,7 @@ module _ (out lines : Writing) (kept : Option Writing) where
         of_refused other (in_run setup judged p left) = absurd (no_run setup judged)
         of_refused other (late setup ran judged run p) = absurd (no_run setup judged)
 
-        pub refused_so : (result : Result Status CliFault) → IsResultOf (plan_run texts retries out lines kept) tt result
+        pub refused_so : (result : Result Status CliFault) → IsResultOf (plan_run texts options out lines kept) tt result
             → IsUnwritten out lines kept × ((result ≡ Err fault) ⊎ (result ≡ Err cli.NoMemory))
         refused_so (Ok status) (setup, judged, rest) = absurd (no_run setup judged)
         refused_so (Err other) p = of_refused other (failure other p)
@@ -259,25 +299,25 @@ module _ (out lines : Writing) (kept : Option Writing) where
       -- ---- an outcome
 
       abbrev IsWrittenOrRefused : Result Status CliFault → Type 0
-      IsWrittenOrRefused result = IsWritten texts retries out lines kept result ⊎ ((fault : CliFault) × (result ≡ Err fault) × AreRefused texts fault)
+      IsWrittenOrRefused result = IsWritten texts options out lines kept result ⊎ ((fault : CliFault) × (result ≡ Err fault) × AreRefused texts fault)
 
-      of_outcome : (result : Result Status CliFault) → IsDecisive result → IsResultOf (plan_run texts retries out lines kept) tt result → IsWrittenOrRefused result
+      of_outcome : (result : Result Status CliFault) → IsDecisive result → IsResultOf (plan_run texts options out lines kept) tt result → IsWrittenOrRefused result
       of_outcome (Ok status) is p = inl (given_written status p)
       of_outcome (Err fault) (inl is) p =
-          inl (subst (λ (f : CliFault). IsWritten texts retries out lines kept (Err f)) (sym is)
-          (stopped_written (subst (λ (f : CliFault). (plan_run texts retries out lines kept).Fails tt f) is p)))
+          inl (subst (λ (f : CliFault). IsWritten texts options out lines kept (Err f)) (sym is)
+          (stopped_written (subst (λ (f : CliFault). (plan_run texts options out lines kept).Fails tt f) is p)))
       of_outcome (Err fault) (inr is) p = inr (fault, refl, refuses fault is p)
 
-      written_apart : (result : Result Status CliFault) (fault : CliFault) → IsWritten texts retries out lines kept result → AreRefused texts fault → ⊥
-      written_apart result fault is are = never_refused some_start start_apart one_start texts fault (is.setup, is.judged) are
+      written_apart : (result : Result Status CliFault) (fault : CliFault) → IsWritten texts options out lines kept result → AreRefused texts fault → ⊥
+      written_apart result fault is are = never_refused beginnings some_opening opening_apart one_opening texts fault (is.setup, is.judged) are
 
       once_either : (result other : Result Status CliFault) → IsSome lines.before → IsWrittenOrRefused result → IsWrittenOrRefused other → result ≡ other
       once_either result other tells (inl p) (inl q) = written_once result other tells p q
       once_either result other tells (inl p) (inr q) = absurd (written_apart result q.0 p q.2)
       once_either result other tells (inr p) (inl q) = absurd (written_apart other p.0 q p.2)
       once_either result other tells (inr p) (inr q) =
-          p.1 ∙ ap (λ (f : CliFault). Err f) (one_refusal some_start start_apart one_start texts p.0 q.0 p.2 q.2) ∙ sym q.1
+          p.1 ∙ ap (λ (f : CliFault). Err f) (one_refusal beginnings some_opening opening_apart one_opening texts p.0 q.0 p.2 q.2) ∙ sym q.1
 
-      pub once : (result other : Result Status CliFault) → IsSome lines.before → IsDecisive result → IsDecisive other → IsResultOf (plan_run texts retries out lines kept) tt result
-          → IsResultOf (plan_run texts retries out lines kept) tt other → result ≡ other
+      pub once : (result other : Result Status CliFault) → IsSome lines.before → IsDecisive result → IsDecisive other → IsResultOf (plan_run texts options out lines kept) tt result
+          → IsResultOf (plan_run texts options out lines kept) tt other → result ≡ other
       once result other tells p q planned also = once_either result other tells (of_outcome result p planned) (of_outcome other q also)

@@ -2,11 +2,6 @@
 use Rattle.std.proofs.Common.{◌≡◌, ◌≢◌, ◌⊎◌, inl, inr, ℕ, ◌≤◌, List, [], ◌∷◌, length, refl, sym, ap, subst, ◌∙◌, arith}
 use Rattle.std.proofs.lemmas.Bool.Decides.{leb_tells}
 use Rattle.pit_model.specs.Pit.{Pit}
-use Rattle.pit_plan.specs.declared.breach.Breach.{Breach}
-use Rattle.pit_desk.specs.Opened.{IsGoodStart, IsDeskError, opening_history}
-use Rattle.pit_desk.specs.declared.entry.TheConstants.{ENTRIES_MAX}
-use Rattle.pit_desk.specs.declared.error.DeskError.{DeskError}
-use Rattle.pit_desk.specs.declared.error.DeskError.TheVariants as desk
 use Rattle.pit_share.specs.Opening.{IsPlannerCount}
 use Rattle.pit_share.specs.declared.blank.TheConstants.{PLANNERS_MAX}
 use Rattle.pit_step.specs.declared.fault.CliFault.{CliFault}
@@ -14,49 +9,33 @@ use Rattle.pit_step.specs.declared.fault.CliFault.TheVariants as cli
 use Rattle.pit_step.specs.Statuses.{fault_status}
 use Rattle.pit_step.specs.Steps.{in_turn}
 use Rattle.pit_step.proofs.CallerLemmas.{IsOfInputs, never_two, IsDecided, in_turn-decided, pass-decided}
-use Rattle.pit_cli.specs.Texts.{Texts, Setup, pit_in, start_in, scripts_in, texts_judged}
-use Rattle.pit_cli.specs.Planning.{opening_fault_of, desk_judged, count_judged, plan_judged}
+use Rattle.pit_cli.specs.Texts.{Texts, Setup, pit_in, opening_in, scripts_in, texts_judged}
+use Rattle.pit_cli.specs.Planning.{desk_judged, count_judged, plan_judged}
 use Rattle.pit_cli.specs.Outcomes.{MayRun, AreRefused}
-use Rattle.pit_cli.proofs.DecidedTexts.{texts_decided, texts_early, IsEarly}
+use Rattle.pit_opening.specs.Beginnings.{Begun, IsOpeningOf, IsOpeningFault}
+use Rattle.pit_opening.specs.Openings.{Opened, IsGoodOpening, IsDeskFault}
+use Rattle.pit_opening.proofs.CallerLemmas.{IsEarly, refusal_early}
+use Rattle.pit_cli.proofs.DecidedTexts.{IsOneBeginning, texts_decided, texts_early}
 
--- ---- laws of the desk
+-- ---- laws of what a plan begins with
 
-abbrev pub IsSomeStart : Type 0
-IsSomeStart =
-    (pit : Pit) (start : List (ℕ × ℕ)) (max_entries : ℕ)
-    → (IsGoodStart pit start × (length (opening_history start) ≤ max_entries)) ⊎ ((error : DeskError) × (error ≢ desk.NoMemory) × IsDeskError pit start max_entries error)
+abbrev pub IsSomeOpening : Type 0
+IsSomeOpening = (pit : Pit) (opening : Opened) → IsGoodOpening pit opening ⊎ ((fault : CliFault) × IsOfInputs fault × IsDeskFault pit opening fault)
 
-abbrev pub IsStartApart : Type 0
-IsStartApart =
-    (pit : Pit) (start : List (ℕ × ℕ)) (max_entries : ℕ) (error : DeskError) → IsGoodStart pit start → length (opening_history start) ≤ max_entries → error ≢ desk.NoMemory
-    → IsDeskError pit start max_entries error → ⊥
+abbrev pub IsOpeningApart : Type 0
+IsOpeningApart = (pit : Pit) (opening : Opened) (fault : CliFault) → IsOfInputs fault → IsGoodOpening pit opening → IsDeskFault pit opening fault → ⊥
 
-abbrev pub IsOneStart : Type 0
-IsOneStart =
-    (pit : Pit) (start : List (ℕ × ℕ)) (max_entries : ℕ) (error other : DeskError) → error ≢ desk.NoMemory → other ≢ desk.NoMemory
-    → IsDeskError pit start max_entries error → IsDeskError pit start max_entries other → error ≡ other
+abbrev pub IsOneOpening : Type 0
+IsOneOpening =
+    (pit : Pit) (opening : Opened) (fault other : CliFault) → IsOfInputs fault → IsOfInputs other → IsDeskFault pit opening fault → IsDeskFault pit opening other → fault ≡ other
 
--- ---- a start
-
-room : (start : List (ℕ × ℕ)) → length (opening_history start) ≤ ENTRIES_MAX
-room [] = omega arith
-room (pair ∷ more) = omega arith
-
-desk_due : (pit : Pit) (start : List (ℕ × ℕ)) (why : DeskError) → why ≢ desk.NoMemory → IsDeskError pit start ENTRIES_MAX why → IsOfInputs (opening_fault_of why)
-desk_due pit start (desk.Unmeetable resource period) some is = refl
-desk_due pit start (desk.BadStart breach) some is = refl
-desk_due pit start desk.Full some is = absurd (omega (arith, is.2))
-desk_due pit start desk.NoMemory some is = absurd (some refl)
-
--- a desk's refusal that is of the inputs isn't want of memory
-desk_in : (why : DeskError) (fault : CliFault) → fault ≡ opening_fault_of why → IsOfInputs fault → why ≢ desk.NoMemory
-desk_in why fault is due same = never_two (sym (ap fault_status is ∙ ap (λ (e : DeskError). fault_status (opening_fault_of e)) same) ∙ due)
-
-desk_early : (why : DeskError) → IsEarly (opening_fault_of why)
-desk_early (desk.Unmeetable resource period) = inl refl
-desk_early (desk.BadStart breach) = inl refl
-desk_early desk.Full = inr refl
-desk_early desk.NoMemory = inr refl
+pub one-beginning : ((pit : Pit) (begun : Begun) → ((opening : Opened) × IsOpeningOf pit begun opening) ⊎ ((fault : CliFault) × IsOfInputs fault × IsOpeningFault pit begun fault))
+    → ((pit : Pit) (begun : Begun) (opening other : Opened) → IsOpeningOf pit begun opening → IsOpeningOf pit begun other → opening ≡ other)
+    → ((pit : Pit) (begun : Begun) (opening : Opened) (fault : CliFault) → fault ≢ cli.NoMemory → IsOpeningOf pit begun opening → IsOpeningFault pit begun fault → ⊥)
+    → ((pit : Pit) (begun : Begun) (fault other : CliFault) → fault ≢ cli.NoMemory → other ≢ cli.NoMemory → IsOpeningFault pit begun fault → IsOpeningFault pit begun other → fault ≡ other)
+    → IsOneBeginning
+one-beginning some same apart faults =
+    λ pit begun. record { some = some pit begun; once = record { values = same pit begun; apart = apart pit begun; faults = faults pit begun } }
 
 -- ---- the number of planners
 
@@ -87,36 +66,22 @@ count_decided setup =
 -- ---- no fault is of another kind
 
 judged_early : (setup : Setup) (fault : CliFault) → (in_turn desk_judged count_judged).Fails setup fault → IsEarly fault
-judged_early setup fault (inl p) = subst IsEarly (sym p.0.2) (desk_early p.0.0)
+judged_early setup fault (inl p) = refusal_early (pit_in setup) (opening_in setup) fault p.0
 judged_early setup fault (inr p) = inl (ap fault_status p.2.0)
 
 pub plan_early : (texts : Texts) (fault : CliFault) → (plan_judged texts).Fails tt fault → IsEarly fault
 plan_early texts fault (inl p) = texts_early texts fault p.0
 plan_early texts fault (inr p) = judged_early p.0 fault p.2
 
-module _ (some_start : IsSomeStart) (start_apart : IsStartApart) (one_start : IsOneStart) where
-  abbrev IsOpeningFault : Setup → CliFault → Type 0
-  IsOpeningFault setup fault = (why : DeskError) × IsDeskError (pit_in setup) (start_in setup) ENTRIES_MAX why × (fault ≡ opening_fault_of why)
-
-  some_desk : (setup : Setup)
-      → (IsGoodStart (pit_in setup) (start_in setup) × (length (opening_history (start_in setup)) ≤ ENTRIES_MAX))
-      ⊎ ((error : DeskError) × (error ≢ desk.NoMemory) × IsDeskError (pit_in setup) (start_in setup) ENTRIES_MAX error)
-      → IsGoodStart (pit_in setup) (start_in setup) ⊎ ((fault : CliFault) × IsOfInputs fault × IsOpeningFault setup fault)
-  some_desk setup (inl good) = inl good.0
-  some_desk setup (inr bad) = inr (opening_fault_of bad.0, desk_due (pit_in setup) (start_in setup) bad.0 bad.1 bad.2, (bad.0, bad.2, refl))
-
+module _ (beginnings : IsOneBeginning) (some_opening : IsSomeOpening) (opening_apart : IsOpeningApart) (one_opening : IsOneOpening) where
   desk_decided : (setup : Setup) → IsDecided IsOfInputs desk_judged setup
   desk_decided setup =
-      pass-decided IsOfInputs (λ (s : Setup). IsGoodStart (pit_in s) (start_in s)) IsOpeningFault setup (some_desk setup (some_start (pit_in setup) (start_in setup) ENTRIES_MAX))
-      (λ fault due good bad. start_apart (pit_in setup) (start_in setup) ENTRIES_MAX bad.0 good (room (start_in setup)) (desk_in bad.0 fault bad.2 due) bad.1)
-      (λ fault other due also p q.
-      p.2
-      ∙ ap opening_fault_of (one_start (pit_in setup) (start_in setup) ENTRIES_MAX p.0 q.0 (desk_in p.0 fault p.2 due) (desk_in q.0 other q.2 also) p.1 q.1)
-      ∙ sym q.2)
+      pass-decided IsOfInputs (λ (s : Setup). IsGoodOpening (pit_in s) (opening_in s)) (λ (s : Setup). IsDeskFault (pit_in s) (opening_in s)) setup (some_opening (pit_in setup) (opening_in setup))
+      (opening_apart (pit_in setup) (opening_in setup)) (one_opening (pit_in setup) (opening_in setup))
 
   pub plan_decided : (texts : Texts) → IsDecided IsOfInputs (plan_judged texts) tt
   plan_decided texts =
-      in_turn-decided IsOfInputs (texts_judged texts) (in_turn desk_judged count_judged) tt (tt, tt) (texts_decided texts)
+      in_turn-decided IsOfInputs (texts_judged texts) (in_turn desk_judged count_judged) tt (tt, tt) (texts_decided beginnings texts)
       (λ (setup : Setup). in_turn-decided IsOfInputs desk_judged count_judged setup tt (desk_decided setup) count_decided)
 
   some_end : (texts : Texts) → ((setup : Setup) × (plan_judged texts).Gives tt setup) ⊎ ((fault : CliFault) × IsOfInputs fault × (plan_judged texts).Fails tt fault)

@@ -4,7 +4,6 @@ use Rattle.std.specs.Io.KnownBytes.{Appends}
 use Rattle.pit_plan.specs.Schedule.{held_period, value_of}
 use Rattle.pit_desk.specs.History.{commits_of}
 use Rattle.pit_desk.specs.OneThread.{IsOfOneThread}
-use Rattle.pit_desk.specs.Opened.{IsGoodStart, opening_history}
 use Rattle.pit_desk.specs.State.{State}
 use Rattle.pit_desk.specs.declared.entry.TheConstants.{ENTRIES_MAX}
 use Rattle.pit_script.specs.Jobs.{Job}
@@ -16,17 +15,22 @@ use Rattle.pit_step.specs.declared.status.Status.{Status}
 use Rattle.pit_step.specs.declared.fault.CliFault.{CliFault}
 use Rattle.pit_step.specs.declared.fault.CliFault.TheVariants.{Stopped}
 use Rattle.pit_step.specs.Statuses.{fault_status}
-use Rattle.pit_cli.specs.Texts.{Texts, Setup, pit_in, start_in, scripts_in, texts_judged}
+use Rattle.pit_opening.specs.Beginnings.{is_unbegun}
+use Rattle.pit_opening.specs.Openings.{Opened, entries_before, IsGoodOpening}
+use Rattle.pit_file.specs.OutputState.{OutputState}
+use Rattle.pit_file.specs.OutputState.OutputState.{stream, file}
+use Rattle.pit_cli.specs.declared.plan_options.PlanOptions.{PlanOptions}
+use Rattle.pit_cli.specs.Texts.{Texts, Setup, texts_judged}
 use Rattle.pit_cli.specs.Planning.{Ran, plan_judged, IsRan}
-use Rattle.pit_cli.specs.Output.{HasWhole, outputs_of, ran_end}
+use Rattle.pit_cli.specs.Output.{Keeping, HasWhole, outputs_of, ran_end}
 
 -- ---- by the texts alone
 
--- they stand for a pit, a start that breaks no rule, and as many scripts as there may be planners
+-- they stand for a pit, a beginning that breaks no rule, and as many scripts as there may be planners
 abbrev pub MayRun : Texts → Type 0
 MayRun texts = (setup : Setup) × (plan_judged texts).Gives tt setup
 
--- the first fault of the texts, of the limits, of the start or of the number of planners; nothing but these is wanting
+-- the first fault of the texts, of the limits, of the beginning or of the number of planners; nothing but these is wanting
 abbrev pub AreRefused : Texts → CliFault → Type 0
 AreRefused texts fault = (plan_judged texts).Fails tt fault × (fault_status fault ≡ 2)
 
@@ -38,41 +42,45 @@ IsDecisive (Err fault) = (fault ≡ Stopped) ⊎ (fault_status fault ≡ 2)
 -- ---- what was written
 
 -- a run of the texts ended so, and all of it was written
-pub record IsWritten (texts : Texts) (retries : ℕ) (out lines : Writing) (kept : Option Writing) (result : Result Status CliFault) : Type 0 where
+pub record IsWritten (texts : Texts) (options : PlanOptions) (out lines : Writing) (kept : Option Keeping) (result : Result Status CliFault) : Type 0 where
   pub setup : Setup
   pub ran : Ran
   pub judged : (plan_judged texts).Gives tt setup
-  pub run : IsRan setup retries ran
-  pub ended : result ≡ ran_end ran
-  pub solution : Appends out.before out.after (outputs_of ran).solution
-  pub report : Appends lines.before lines.after (outputs_of ran).report
+  pub run : IsRan setup options ran
+  pub ended : result ≡ ran_end options.is_strict ran
+  pub solution : Appends out.before out.after (outputs_of (is_unbegun texts.beginning) ran).solution
+  pub report : Appends lines.before lines.after (outputs_of (is_unbegun texts.beginning) ran).report
   pub sound : lines.failed ≡ false
-  pub history : HasWhole kept (outputs_of ran).history
+  pub history : HasWhole kept (outputs_of (is_unbegun texts.beginning) ran).history
 
--- The history is one of one thread on the pit of the texts, and may have as many entries as a history can. It begins with their start; behind that each
+-- The history is one of one thread on the pit of the texts, and may have as many entries as a history can. It begins with what they begin with; behind that each
 -- committed entry is a job of a planner's script, done on the schedule that the entries before it leave; and each planner's entries and outcomes are
 -- those of its script.
-pub record IsOneHistory (texts : Texts) (retries : ℕ) (closed : State) (runs : List RunState) : Type 0 where
-  pub start : List (ℕ × ℕ)
+pub record IsOneHistory (texts : Texts) (options : PlanOptions) (closed : State) (runs : List RunState) : Type 0 where
+  pub opening : Opened
   pub scripts : List (List Job)
-  pub stand : (texts_judged texts).Gives tt ((closed.plan.pit, start), scripts)
-  pub good_start : IsGoodStart closed.plan.pit start
-  pub begins : take (length (opening_history start)) closed.history ≡ opening_history start
+  pub stand : (texts_judged texts).Gives tt ((closed.plan.pit, opening), scripts)
+  pub good_opening : IsGoodOpening closed.plan.pit opening
+  pub begins : take (length (entries_before opening)) closed.history ≡ entries_before opening
   pub limit : closed.max_entries ≡ ENTRIES_MAX
   pub one_thread : IsOfOneThread closed.plan.pit closed.history (value_of closed.plan.pit (held_period (commits_of closed.history)))
-  pub one_by_one : IsOneByOne closed.plan.pit (length (opening_history start)) scripts closed.history
+  pub one_by_one : IsOneByOne closed.plan.pit (length (entries_before opening)) scripts closed.history
   pub each : (place : ℕ) (script : List Job) → slice_get scripts place ≡ Some script → (run : RunState) × (slice_get runs place ≡ Some run)
-      × RanScript closed.plan.pit retries script (1 + place) (entries_of (1 + place) (drop (length (opening_history start)) closed.history)) run
+      × RanScript closed.plan.pit options.retries script (1 + place) (entries_of (1 + place) (drop (length (entries_before opening)) closed.history)) run
 
 -- what was written is that of one such history
-pub record IsOfOneHistory (texts : Texts) (retries : ℕ) (out lines : Writing) (kept : Option Writing) (result : Result Status CliFault) : Type 0 where
-  pub written : IsWritten texts retries out lines kept result
-  pub one_history : IsOneHistory texts retries written.ran.0 written.ran.1
+pub record IsOfOneHistory (texts : Texts) (options : PlanOptions) (out lines : Writing) (kept : Option Keeping) (result : Result Status CliFault) : Type 0 where
+  pub written : IsWritten texts options out lines kept result
+  pub one_history : IsOneHistory texts options written.ran.0 written.ran.1
 
-abbrev pub has_failed_if : Option Writing → Bool
+abbrev pub has_failed : OutputState → Bool
+has_failed (stream held failed) = failed
+has_failed (file stood failed) = failed
+
+abbrev pub has_failed_if : Option Keeping → Bool
 has_failed_if None = false
-has_failed_if (Some kept) = kept.failed
+has_failed_if (Some kept) = has_failed kept.after
 
 -- one of the devices has
-abbrev pub HasFailed : Writing → Writing → Option Writing → Type 0
+abbrev pub HasFailed : Writing → Writing → Option Keeping → Type 0
 HasFailed out lines kept = (out.failed ≡ true) ⊎ ((lines.failed ≡ true) ⊎ (has_failed_if kept ≡ true))

@@ -1,24 +1,29 @@
 -- What `plan` writes of a run, and how it ends.
-use Rattle.std.specs.Prelude.{◌≡◌, ℕ, ◌<◌, Bool, true, false, if◌then◌else◌, List, [], ◌∷◌, ◌++◌, length, Option, Some, None, Result, Ok, Err, codes, ⊤}
+use Rattle.std.specs.Prelude.{◌≡◌, ℕ, Bool, true, false, if◌then◌else◌, List, [], ◌∷◌, ◌++◌, ◌&&◌, not, Option, Some, None, Result, Ok, Err, codes, ⊤}
 use Rattle.std.specs.List.{list_all}
-use Rattle.std.specs.Io.KnownBytes.{Appends, Keeps}
+use Rattle.std.specs.Io.KnownBytes.{Keeps}
 use Rattle.pit_model.specs.Pit.{Pit}
 use Rattle.pit_plan.specs.Schedule.{Commit, held_period, value_of}
 use Rattle.pit_plan.specs.Shortfalls.{shortfalls_of}
 use Rattle.pit_plan.specs.declared.short.Short.{Short}
 use Rattle.pit_desk.specs.History.{commits_of}
+use Rattle.pit_job.specs.declared.outcome.Outcome.{Outcome}
+use Rattle.pit_job.specs.declared.outcome.Outcome.TheVariants.{Refused}
 use Rattle.pit_job.specs.declared.outcome.RunEnd.{RunEnd}
 use Rattle.pit_job.specs.declared.outcome.RunEnd.TheVariants as end
 use Rattle.pit_run.specs.Reports.{RunState}
 use Rattle.pit_cli.specs.ReportText.{runs_text}
 use Rattle.pit_step.specs.LineTexts.{value_text, shorts_text, left_text}
 use Rattle.pit_step.specs.Steps.{Step, in_turn, judge_step, may_step, run_step}
-use Rattle.pit_step.specs.Devices.{Writing, write_step, write_if_step}
+use Rattle.pit_step.specs.Devices.{Writing, write_step}
+use Rattle.pit_file.specs.OutputState.{OutputState, HasKept, HasNotKept, IsAsBefore}
 use Rattle.pit_lines.specs.Texts.{history_text}
 use Rattle.pit_step.specs.declared.fault.CliFault.{CliFault}
-use Rattle.pit_step.specs.declared.fault.CliFault.TheVariants.{NoMemory, Stopped}
+use Rattle.pit_step.specs.declared.fault.CliFault.TheVariants.{CannotWrite, NoMemory, Stopped}
 use Rattle.pit_step.specs.declared.status.Status.{Status}
 use Rattle.pit_step.specs.declared.status.Status.TheVariants.{Fine, Failed}
+use Rattle.pit_opening.specs.Beginnings.{Begun, is_carried_on, is_unbegun}
+use Rattle.pit_cli.specs.declared.plan_options.PlanOptions.{PlanOptions}
 use Rattle.pit_cli.specs.Texts.{Texts}
 use Rattle.pit_cli.specs.Planning.{Ran, plan_judged, planners_step}
 
@@ -32,13 +37,29 @@ is_whole end.NoThread = false
 abbrev pub all_whole : List RunState → Bool
 all_whole runs = list_all (λ run. is_whole run.ended) runs
 
-abbrev pub status_by : List Short → Status
-status_by [] = Fine
-status_by (short ∷ more) = Failed
+-- a job was not refused
+abbrev pub was_granted : Outcome → Bool
+was_granted (Refused why tries) = false
+was_granted other = true
 
--- each planner did all of its script, and no load falls short, or some does; or a planner stopped
-abbrev pub ended_of : List RunState → List Short → Result Status CliFault
-ended_of runs shorts = if all_whole runs then Ok (status_by shorts) else Err Stopped
+abbrev pub all_granted : List RunState → Bool
+all_granted runs = list_all (λ run. list_all was_granted run.jobs) runs
+
+abbrev pub status_of_shorts : List Short → Status
+status_of_shorts [] = Fine
+status_of_shorts (short ∷ more) = Failed
+
+-- a load falls short, or, where that counts, a job was refused
+abbrev pub status_by : Bool → Bool → List Short → Status
+status_by is_strict are_granted shorts = if is_strict && not are_granted then Failed else status_of_shorts shorts
+
+-- each planner did all of its script, and it went well or not; or a planner stopped
+abbrev pub ended_of : Bool → List RunState → List Short → Result Status CliFault
+ended_of is_strict runs shorts = if all_whole runs then Ok (status_by is_strict (all_granted runs) shorts) else Err Stopped
+
+-- that a history which is to be carried on wasn't there
+abbrev pub new_line : Bool → List ℕ
+new_line is_new = if is_new then codes "history new\n" else []
 
 -- the lines of the runs, the value of what the commits leave, and the shortfalls
 abbrev pub report_text : Pit → List Commit → List RunState → List ℕ
@@ -49,17 +70,34 @@ report_text pit commits runs =
 abbrev pub report_step : List ℕ → Writing → Step CliFault (Unit {0}) (Unit {0})
 report_step text out = in_turn (may_step NoMemory) (write_step out (λ _. text) (λ _. tt {0}))
 
--- the device, if there is one, has the whole text, or was left alone
-abbrev pub HasWhole : Option Writing → List ℕ → Type 0
-HasWhole None text = ⊤
-HasWhole (Some kept) text = Appends kept.before kept.after text × (0 < length text → kept.failed ≡ false)
+-- what is known of the output of a history before and after a call
+pub record Keeping : Type 0 where
+  pub before : OutputState
+  pub after : OutputState
 
-abbrev pub IsLeft : Option Writing → Type 0
+abbrev pub keeping_of : OutputState → OutputState → Keeping
+keeping_of before after = record { before = before; after = after }
+
+-- the output, if there is one, has the whole text, or was left alone
+abbrev pub HasWhole : Option Keeping → List ℕ → Type 0
+HasWhole None text = ⊤
+HasWhole (Some kept) text = HasKept text kept.before kept.after
+
+abbrev pub IsLeft : Option Keeping → Type 0
 IsLeft None = ⊤
-IsLeft (Some kept) = Keeps kept.before kept.after
+IsLeft (Some kept) = IsAsBefore kept.before kept.after
+
+-- the text of a history is given to its output, if there is one; or that can't be
+abbrev pub keep_step : Option Keeping → List ℕ → Step CliFault (Unit {0}) (Unit {0})
+keep_step None text = judge_step (λ given value. value ≡ given) (λ given fault. ⊥)
+keep_step (Some kept) text = record {
+  Gives = λ given value. (value ≡ given) × HasKept text kept.before kept.after;
+  Fails = λ given fault. (fault ≡ CannotWrite) × HasNotKept text kept.before kept.after;
+  IsUntouched = IsAsBefore kept.before kept.after;
+}
 
 -- nothing was written
-abbrev pub IsUnwritten : Writing → Writing → Option Writing → Type 0
+abbrev pub IsUnwritten : Writing → Writing → Option Keeping → Type 0
 IsUnwritten out lines kept = Keeps out.before out.after × Keeps lines.before lines.after × IsLeft kept
 
 -- the texts that are to be written, in this order
@@ -68,29 +106,35 @@ pub record Outputs : Type 0 where
   pub report : List ℕ
   pub history : List ℕ
 
--- each is written, and it ends so
-abbrev pub outputs_run : Outputs → Result Status CliFault → Writing → Writing → Option Writing → Step CliFault (Unit {0}) Status
-outputs_run texts ended out lines kept =
-    in_turn (write_step out (λ _. texts.solution) (λ _. tt {0}))
-    (in_turn (write_step lines (λ _. texts.report) (λ _. tt {0}))
-    (in_turn (write_if_step kept (λ _. texts.history)) (judge_step (λ _ status. ended ≡ Ok status) (λ _ fault. ended ≡ Err fault))))
+-- the solution and the report
+abbrev pub told_step : Outputs → Writing → Writing → Step CliFault (Unit {0}) (Unit {0})
+told_step texts out lines = in_turn (write_step out (λ _. texts.solution) (λ _. tt {0})) (write_step lines (λ _. texts.report) (λ _. tt {0}))
 
--- what is written of a closed desk and of the runs, and how it ends
-abbrev pub outputs_of : Ran → Outputs
-outputs_of ran = record {
+abbrev pub end_step : Result Status CliFault → Step CliFault (Unit {0}) Status
+end_step ended = judge_step (λ _ status. ended ≡ Ok status) (λ _ fault. ended ≡ Err fault)
+
+-- each is written, and it ends so; a history that is carried on stands before the others are told
+abbrev pub outputs_run : Bool → Outputs → Result Status CliFault → Writing → Writing → Option Keeping → Step CliFault (Unit {0}) Status
+outputs_run true texts ended out lines kept = in_turn (keep_step kept texts.history) (in_turn (told_step texts out lines) (end_step ended))
+outputs_run false texts ended out lines kept = in_turn (told_step texts out lines) (in_turn (keep_step kept texts.history) (end_step ended))
+
+-- what is written of a closed desk and of the runs, where a history is new or not, and how it ends
+abbrev pub outputs_of : Bool → Ran → Outputs
+outputs_of is_new ran = record {
   solution = left_text ran.0.plan.pit (commits_of ran.0.history);
-  report = report_text ran.0.plan.pit (commits_of ran.0.history) ran.1;
+  report = new_line is_new ++ report_text ran.0.plan.pit (commits_of ran.0.history) ran.1;
   history = history_text ran.0.history;
 }
 
-abbrev pub ran_end : Ran → Result Status CliFault
-ran_end ran = ended_of ran.1 (shortfalls_of ran.0.plan.pit (held_period (commits_of ran.0.history)))
+abbrev pub ran_end : Bool → Ran → Result Status CliFault
+ran_end is_strict ran = ended_of is_strict ran.1 (shortfalls_of ran.0.plan.pit (held_period (commits_of ran.0.history)))
 
 -- the outputs are gathered, or memory is wanting for them; and then they are written
-abbrev pub ran_run : Writing → Writing → Option Writing → Ran → Step CliFault (Unit {0}) Status
-ran_run out lines kept ran = in_turn (may_step NoMemory) (outputs_run (outputs_of ran) (ran_end ran) out lines kept)
+abbrev pub ran_run : Begun → Bool → Writing → Writing → Option Keeping → Ran → Step CliFault (Unit {0}) Status
+ran_run beginning is_strict out lines kept ran =
+    in_turn (may_step NoMemory) (outputs_run (is_carried_on beginning) (outputs_of (is_unbegun beginning) ran) (ran_end is_strict ran) out lines kept)
 
 -- What `plan` does: the judgements of the texts, the planners' run, and the outputs.
-abbrev pub plan_run : Texts → ℕ → Writing → Writing → Option Writing → Step CliFault (Unit {0}) Status
-plan_run texts retries out lines kept =
-    in_turn (plan_judged texts) (in_turn (planners_step retries) (run_step (ran_run out lines kept) (IsUnwritten out lines kept)))
+abbrev pub plan_run : Texts → PlanOptions → Writing → Writing → Option Keeping → Step CliFault (Unit {0}) Status
+plan_run texts options out lines kept =
+    in_turn (plan_judged texts) (in_turn (planners_step options) (run_step (ran_run texts.beginning options.is_strict out lines kept) (IsUnwritten out lines kept)))

@@ -5,17 +5,18 @@ use Rattle.pit_text.specs.Cutting.{cut_of, end_line}
 use Rattle.pit_text.specs.Stands.{StopsAt, StandsWhole, FailsWhole}
 use Rattle.pit_script.specs.Jobs.{Job, jobs_of, script_end, script_line}
 use Rattle.pit_script.specs.declared.error.ScriptError.{ScriptError}
-use Rattle.pit_step.specs.declared.input.Input.TheVariants.{Start}
 use Rattle.pit_step.specs.declared.fault.CliFault.{CliFault}
 use Rattle.pit_step.specs.declared.fault.CliFault.TheVariants.{NoMemory, Script}
 use Rattle.pit_step.specs.Steps.{Step, in_turn, beside, judge_step, may_step, run_step, each}
-use Rattle.pit_step.specs.Inputs.{StandsAs, IsModel, IsModelFault, IsOrder, IsOrderFault, IsPlaced, IsPlacesFault, IsSolutionOf, IsSolutionFault}
+use Rattle.pit_step.specs.Inputs.{StandsAs, IsModel, IsModelFault, IsOrder, IsOrderFault, IsPlaced, IsPlacesFault}
+use Rattle.pit_opening.specs.Beginnings.{Begun, IsOpeningOf, IsOpeningFault}
+use Rattle.pit_opening.specs.Openings.{Opened}
 
 pub record Texts : Type 0 where
   pub model : List ℕ
   pub precedence : List ℕ
   pub blocks : Option (List ℕ)
-  pub start : Option (List ℕ)
+  pub beginning : Begun
   pub scripts : List (List ℕ)
 
 -- ---- the pit
@@ -35,16 +36,6 @@ pit_judged model precedence blocks =
     in_turn (judge_step (λ _. IsModel model) (λ _. IsModelFault model))
     (in_turn (judge_step (λ bare. IsOrder bare precedence) (λ bare. IsOrderFault bare precedence))
     (judge_step (λ ordered. ArePlacesOf ordered blocks) (λ ordered. IsPlacedFault ordered blocks)))
-
--- ---- the start: a solution of the pit, or no block is mined
-
-abbrev pub IsStartOf : Pit → Option (List ℕ) → List (ℕ × ℕ) → Type 0
-IsStartOf pit None start = start ≡ []
-IsStartOf pit (Some bytes) start = IsSolutionOf pit bytes start
-
-abbrev pub IsStartFault : Pit → Option (List ℕ) → CliFault → Type 0
-IsStartFault pit None fault = ⊥
-IsStartFault pit (Some bytes) fault = IsSolutionFault Start pit bytes fault
 
 -- ---- the scripts
 
@@ -73,15 +64,15 @@ scripts_judged texts pit = in_turn (may_step NoMemory) (each (script_judged pit)
 
 -- ---- all of them
 
--- what the texts stand for: a pit with a start, and scripts
+-- what the texts stand for: a pit with what a desk on it is opened with, and scripts
 abbrev pub Setup : Type 0
-Setup = (Pit × List (ℕ × ℕ)) × List (List Job)
+Setup = (Pit × Opened) × List (List Job)
 
 abbrev pub pit_in : Setup → Pit
 pit_in setup = setup.0.0
 
-abbrev pub start_in : Setup → List (ℕ × ℕ)
-start_in setup = setup.0.1
+abbrev pub opening_in : Setup → Opened
+opening_in setup = setup.0.1
 
 abbrev pub scripts_in : Setup → List (List Job)
 scripts_in setup = setup.1
@@ -89,5 +80,5 @@ scripts_in setup = setup.1
 abbrev pub texts_judged : Texts → Step CliFault (Unit {0}) Setup
 texts_judged texts =
     in_turn (pit_judged texts.model texts.precedence texts.blocks)
-    (in_turn (beside (judge_step (λ pit. IsStartOf pit texts.start) (λ pit. IsStartFault pit texts.start)))
+    (in_turn (beside (judge_step (λ pit. IsOpeningOf pit texts.beginning) (λ pit. IsOpeningFault pit texts.beginning)))
     (beside (run_step (λ given. scripts_judged texts.scripts given.0) (Unit {0}))))

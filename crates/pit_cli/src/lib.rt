@@ -10,6 +10,7 @@
 mod engine;
 mod outcome;
 mod plan_input;
+mod plan_options;
 mod report;
 mod report_text;
 mod running;
@@ -19,7 +20,9 @@ pub use engine::plan;
 pub use outcome::{one_closed_history, one_outcome};
 pub use pit_all::check_all;
 pub use pit_diff::diff;
+pub use pit_file::{HistoryOut, Stream};
 pub use pit_info::info;
+pub use pit_opening::{Beginning, Opening, opening_of};
 pub use pit_show::show;
 pub use pit_step::{
     BreachLine, CliFault, INPUT_BYTES_MAX, Input, ReadError, Status, bytes_of, read_all,
@@ -27,5 +30,6 @@ pub use pit_step::{
 pub use pit_table::table;
 pub use pit_view::{check, replay, value};
 pub use plan_input::PlanInput;
+pub use plan_options::PlanOptions;
 pub use report::write_report;
 pub use running::run_scripts;

@@ -1,63 +1,53 @@
-//! From a pit, a start and scripts to the report of their run.
+//! From a pit, what a plan begins with, and scripts to the report of their run.
 ghost use Rattle.std.specs.Prelude.{◌≡◌, ◌≤◌, ℕ, List, All, length, map, IfOk, OnOk, IfErr, MatchResult};
 ghost use Rattle.pit_model.specs.Pit.{Pit};
 ghost use Rattle.pit_desk.specs.History.{Answered};
 ghost use Rattle.pit_script.specs.Jobs.{Job};
 ghost use Rattle.pit_run.specs.Reports.{IsReport};
 ghost use Rattle.pit_cli.specs.Inside.Runs.{IsFaultOn};
-ghost use Rattle.pit_model.specs.Fitting.{IsSchedule};
+ghost use Rattle.pit_opening.specs.Openings.{IsOpeningIn};
 ghost use Rattle.pit_share.specs.Opening.{IsPlannerCount, IsOpenError};
 ghost use Rattle.pit_share.specs.declared.blank.TheConstants.{PLANNERS_MAX};
 ghost use Rattle.pit_job.specs.declared.planner_run.TheConstants.{RETRIES_MAX};
 ghost use Rattle.pit_step.specs.Steps.{in_turn};
 ghost use Rattle.pit_cli.specs.Texts.{Setup};
-ghost use Rattle.pit_cli.specs.Planning.{opening_fault_of, desk_judged, count_judged, planners_step};
+ghost use Rattle.pit_cli.specs.Planning.{desk_judged, count_judged, planners_step};
 
+use crate::plan_options::PlanOptions;
 use pit_board::Session;
-use pit_desk::{Desk, DeskError, ENTRIES_MAX};
+use pit_desk::Desk;
 use pit_job::Open;
 use pit_model::Instance;
+use pit_opening::{Opening, desk_of};
 use pit_run::{Report, RunError, run};
 use pit_script::Script;
 use pit_share::{Blank, OpenError, Workspace};
-use pit_step::{BreachLine, CliFault};
+use pit_step::CliFault;
 use std::alloc::Allocator;
 use std::marker::Brand;
 use std::sync::Wait;
 use std::thread::Threads;
 
-/// Opens a desk on a start, for `ENTRIES_MAX` entries, and a workspace on the desk; has planners do the scripts, each in a thread of its own, and
-/// closes the workspace.
+/// Opens a desk with what a plan begins with, for `ENTRIES_MAX` entries, and a workspace on the desk; has planners do the scripts, each in a thread of
+/// its own, and closes the workspace.
 pub fn run_scripts<R: Threads + Wait + Sync, A: Allocator + Copy + Drop + Send + Sync>(
     rt: &R,
     alloc: A,
     pit: Instance<A>,
-    start: &[(u32, u32)],
+    opening: Opening<A>,
     scripts: &[Script<A>],
-    retries: u32,
+    options: PlanOptions,
 ) -> Result<Report<A>, CliFault>
-    requires start { IsSchedule pit.blocks pit.periods start.now }
+    requires opening { IsOpeningIn pit opening }
     requires pits { All (λ script. script.pit ≡ pit) scripts.now }
-    requires few { retries ≤ RETRIES_MAX }
-    ensures { let setup : Setup = ((pit, start.now), map (λ script. script.jobs) scripts.now) in
-        let run = in_turn desk_judged (in_turn count_judged (planners_step retries)) in
+    requires few { options.retries ≤ RETRIES_MAX }
+    ensures { let setup : Setup = ((pit, opening), map (λ script. script.jobs) scripts.now) in
+        let run = in_turn desk_judged (in_turn count_judged (planners_step options)) in
         MatchResult result (λ report. run.Gives setup (report.closed, report.runs.items)) (run.Fails setup) }
 {
-    match Desk::open(alloc, pit, start, ENTRIES_MAX) {
-        Ok(desk) => run_on(rt, alloc, desk, scripts, retries),
-        Err((_pit, error)) => Err(opening_fault(error)),
-    }
-}
-
-/// The fault of a desk that can't be opened.
-fn opening_fault(error: DeskError) -> CliFault
-    ensures { result ≡ opening_fault_of error }
-{
-    match error {
-        DeskError::Unmeetable { resource, period } => CliFault::LimitBelowZero { resource, period },
-        DeskError::BadStart(breach) => CliFault::Start(BreachLine(breach)),
-        // `Full` doesn't come: `ENTRIES_MAX` has room for the start's one entry.
-        DeskError::Full | DeskError::NoMemory => CliFault::NoMemory,
+    match desk_of(alloc, pit, opening) {
+        Ok(desk) => run_on(rt, alloc, desk, scripts, options.retries),
+        Err(fault) => Err(fault),
     }
 }
 

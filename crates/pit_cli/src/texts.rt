@@ -1,20 +1,22 @@
 //! From the texts of the inputs to what they stand for.
 ghost use Rattle.std.specs.Prelude.{◌≡◌, ◌++◌, ◌∷◌, [], All, IfOk, IfErr, OnOk, MatchResult, map, option_map};
+ghost use Rattle.pit_opening.specs.Openings.{IsOpeningIn};
 ghost use Rattle.pit_step.specs.Steps.{IsResultOf, each};
-ghost use Rattle.pit_step.specs.Inputs.{IsModel, IsModelFault, IsOrder, IsOrderFault, IsScheduleOf};
-ghost use Rattle.pit_cli.specs.Texts.{ArePlacesOf, IsPlacedFault, IsStartOf, IsStartFault, IsScriptOf, IsScriptFault, pit_judged, script_judged, scripts_judged, texts_judged};
+ghost use Rattle.pit_step.specs.Inputs.{IsModel, IsModelFault, IsOrder, IsOrderFault};
+ghost use Rattle.pit_cli.specs.Texts.{ArePlacesOf, IsPlacedFault, IsScriptOf, IsScriptFault, pit_judged, script_judged, scripts_judged, texts_judged};
 
 use crate::plan_input::PlanInput;
 use pit_model::{Builder, Instance};
+use pit_opening::{Opening, opening_of};
 use pit_script::{Benches, Script, ScriptCause};
-use pit_step::{CliFault, Input, builder_of, built, ordered, placed, schedule_of};
-use std::alloc::Allocator;
+use pit_step::{CliFault, builder_of, built, ordered, placed};
+use std::alloc::{Allocator, Global};
 
 /// What the texts stand for.
 #[derive(Drop)]
 pub struct Inputs<A: Allocator + Copy + Drop> {
     pub pit: Instance<A>,
-    pub start: Vec<(u32, u32), A>,
+    pub opening: Opening<A>,
     /// On this pit, in the order of their planners.
     pub scripts: Vec<Script<A>, A>,
 }
@@ -22,27 +24,28 @@ pub struct Inputs<A: Allocator + Copy + Drop> {
 /// Parses the texts in order. Each is freed once it is parsed, except the scripts, which are freed together.
 pub fn parsed<A: Allocator + Copy + Drop>(
     alloc: A,
+    json: Global,
     input: PlanInput<A>,
 ) -> Result<Inputs<A>, CliFault>
     ensures result { MatchResult result
-        (λ inputs. (texts_judged input).Gives tt ((inputs.pit, inputs.start.items), map (λ script. script.jobs) inputs.scripts.items))
+        (λ inputs. (texts_judged input).Gives tt ((inputs.pit, inputs.opening), map (λ script. script.jobs) inputs.scripts.items))
         ((texts_judged input).Fails tt) }
-    ensures fits { IfOk result (λ inputs. IsScheduleOf inputs.pit inputs.start.items) }
+    ensures fits { IfOk result (λ inputs. IsOpeningIn inputs.pit inputs.opening) }
     ensures pits { IfOk result (λ inputs. All (λ script. script.pit ≡ inputs.pit) inputs.scripts.items) }
 {
     let PlanInput {
         model,
         precedence,
         blocks,
-        start,
+        beginning,
         scripts,
     } = input;
     let pit = match pit_of(alloc, model, precedence, blocks) {
         Ok(pit) => pit,
         Err(fault) => return Err(fault),
     };
-    let start = match start_of(alloc, start, &pit) {
-        Ok(start) => start,
+    let opening = match opening_of(alloc, json, beginning, &pit) {
+        Ok(opening) => opening,
         Err(fault) => return Err(fault),
     };
     let scripts = match scripts_of(alloc, &scripts, &pit) {
@@ -51,7 +54,7 @@ pub fn parsed<A: Allocator + Copy + Drop>(
     };
     Ok(Inputs {
         pit,
-        start,
+        opening,
         scripts,
     })
 }
@@ -98,22 +101,6 @@ fn placed_pit<A: Allocator + Copy + Drop>(
     };
     let builder = placed(&bytes, given)?;
     built(builder)
-}
-
-/// The schedule of a solution, or that in which no block is mined.
-fn start_of<A: Allocator + Copy + Drop>(
-    alloc: A,
-    start: Option<Vec<u8, A>>,
-    pit: &Instance<A>,
-) -> Result<Vec<(u32, u32), A>, CliFault>
-    ensures result { let bytes = option_map (λ bytes. bytes.items) start in
-        MatchResult result (λ schedule. IsStartOf pit.now bytes schedule.items) (IsStartFault pit.now bytes) }
-    ensures fits { IfOk result (λ schedule. IsScheduleOf pit.now schedule.items) }
-{
-    match start {
-        Some(bytes) => schedule_of(alloc, Input::Start, &bytes, pit),
-        None => Ok(Vec::new(alloc)),
-    }
 }
 
 /// The scripts of texts, on one pit. The first fault is answered.

@@ -1,11 +1,12 @@
 //! Plans on the small pit.
 ghost use Rattle.std.specs.Prelude.{◌≤◌};
 
+mod carried;
 mod faults;
 mod memory;
 mod rows;
 
-use pit_cli::{PlanInput, plan};
+use pit_cli::{Beginning, PlanInput, PlanOptions, Stream, plan};
 use pit_sample::{Narrow, TINY_MODEL, TINY_PRECEDENCE};
 use pit_step::{CliFault, Status};
 use std::alloc::{Allocator, Global};
@@ -13,23 +14,39 @@ use std::process::Abort;
 use std::sync::Wait;
 use std::thread::Threads;
 
+/// What a plan begins with.
+#[derive(Clone, Copy)]
+enum Begins<'a> {
+    Nothing,
+    Schedule(&'a [u8]),
+    History(&'a [u8]),
+    NoHistory,
+}
+
 /// What a plan is made of.
 #[derive(Clone, Copy)]
 struct Given<'a> {
     model: &'a [u8],
     precedence: &'a [u8],
     blocks: Option<&'a [u8]>,
-    start: Option<&'a [u8]>,
+    begins: Begins<'a>,
     scripts: &'a [&'a [u8]],
+    options: PlanOptions,
 }
+
+const OPTIONS: PlanOptions = PlanOptions {
+    retries: 3,
+    is_strict: false,
+};
 
 /// The small pit without places, and no block of it mined.
 const BARE: Given<'static> = Given {
     model: TINY_MODEL,
     precedence: TINY_PRECEDENCE,
     blocks: None,
-    start: None,
+    begins: Begins::Nothing,
     scripts: &[],
+    options: OPTIONS,
 };
 
 /// How a plan ends, and what it writes.
@@ -38,7 +55,7 @@ struct Ended {
     answer: Result<Status, CliFault>,
     solution: Narrow,
     report: Narrow,
-    history: Option<Narrow>,
+    history: Option<Stream<Narrow>>,
 }
 
 /// For how many bytes its outputs have room.
@@ -60,9 +77,11 @@ const ROOMS: Rooms = Rooms {
 };
 
 /// A device for a history, where one is wanted.
-fn device_if(alloc: Global, room: Option<usize>) -> Option<Narrow> {
+fn device_if(alloc: Global, room: Option<usize>) -> Option<Stream<Narrow>> {
     match room {
-        Some(room) => Some(Narrow::new(alloc, 7, room)),
+        Some(room) => Some(Stream {
+            sink: Narrow::new(alloc, 7, room),
+        }),
         None => None,
     }
 }
@@ -100,9 +119,22 @@ fn input_of<A: Allocator + Copy + Drop>(
         bytes_of(rt, alloc, given.model),
         bytes_of(rt, alloc, given.precedence),
         bytes_if(rt, alloc, given.blocks),
-        bytes_if(rt, alloc, given.start),
+        beginning_of(rt, alloc, given.begins),
         scripts,
     )
+}
+
+fn beginning_of<A: Allocator + Copy + Drop>(
+    rt: &impl Abort,
+    alloc: A,
+    begins: Begins<'_>,
+) -> Beginning<A> {
+    match begins {
+        Begins::Nothing => Beginning::nothing(),
+        Begins::Schedule(text) => Beginning::schedule(bytes_of(rt, alloc, text)),
+        Begins::History(text) => Beginning::history(bytes_of(rt, alloc, text)),
+        Begins::NoHistory => Beginning::no_history(),
+    }
 }
 
 /// What a plan does, where its outputs have room for so many bytes.
@@ -119,8 +151,9 @@ fn planned_in<R: Threads + Wait + Abort + Sync>(
     let answer = plan(
         rt,
         alloc,
+        alloc,
         input,
-        3,
+        given.options,
         &mut solution,
         &mut report,
         &mut history,
@@ -153,7 +186,7 @@ fn assert_ended(
 /// What it wrote for a history.
 fn history_of(ended: &Ended) -> &[u8] {
     match &ended.history {
-        Some(device) => device.held(),
+        Some(device) => device.sink.held(),
         None => &[],
     }
 }

@@ -1,5 +1,5 @@
 //! The first fault of the texts, and what has one behind them.
-use super::{BARE, Given, assert_refused};
+use super::{BARE, Begins, Given, assert_refused};
 use pit_model::BuildError;
 use pit_num::NumError;
 use pit_plan::Breach;
@@ -22,8 +22,9 @@ fn a_bad_model(rt: HostRuntime) {
         model: BAD,
         precedence: BAD,
         blocks: Some(BAD),
-        start: Some(BAD),
+        begins: Begins::Schedule(BAD),
         scripts: &[BAD],
+        ..BARE
     };
     let fault = of_text(Input::Model, 2, Cause::MissingHeader(Key::Kind));
     assert_refused(&rt, rt.alloc(), given, fault);
@@ -34,7 +35,7 @@ fn bad_precedences(rt: HostRuntime) {
     let given = Given {
         precedence: BAD,
         blocks: Some(BAD),
-        start: Some(BAD),
+        begins: Begins::Schedule(BAD),
         scripts: &[BAD],
         ..BARE
     };
@@ -46,7 +47,7 @@ fn bad_precedences(rt: HostRuntime) {
 fn bad_blocks(rt: HostRuntime) {
     let given = Given {
         blocks: Some(BAD),
-        start: Some(BAD),
+        begins: Begins::Schedule(BAD),
         scripts: &[BAD],
         ..BARE
     };
@@ -58,7 +59,7 @@ fn bad_blocks(rt: HostRuntime) {
 fn a_bad_start(rt: HostRuntime) {
     let given = Given {
         blocks: Some(TINY_BLOCKS),
-        start: Some(b"0 2\n"),
+        begins: Begins::Schedule(b"0 2\n"),
         scripts: &[BAD],
         ..BARE
     };
@@ -70,7 +71,7 @@ fn a_bad_start(rt: HostRuntime) {
 #[test]
 fn a_bad_script(rt: HostRuntime) {
     let given = Given {
-        start: Some(b"2 0\n"),
+        begins: Begins::Schedule(b"2 0\n"),
         scripts: &[b"", b"begin\nbench 0 0\ncommit\n", BAD],
         ..BARE
     };
@@ -85,7 +86,7 @@ fn a_bad_script(rt: HostRuntime) {
 #[test]
 fn an_early_start(rt: HostRuntime) {
     let given = Given {
-        start: Some(b"2 0\n"),
+        begins: Begins::Schedule(b"2 0\n"),
         ..BARE
     };
     let breach = Breach::Precedence {
@@ -98,7 +99,7 @@ fn an_early_start(rt: HostRuntime) {
 #[test]
 fn a_heavy_start(rt: HostRuntime) {
     let given = Given {
-        start: Some(b"0 0\n1 0\n3 0\n"),
+        begins: Begins::Schedule(b"0 0\n1 0\n3 0\n"),
         ..BARE
     };
     let breach = Breach::Over {
@@ -128,7 +129,7 @@ RESOURCE_CONSTRAINT_LIMITS:
 fn a_limit_below_zero(rt: HostRuntime) {
     let given = Given {
         model: BELOW_ZERO,
-        start: Some(b"2 0\n"),
+        begins: Begins::Schedule(b"2 0\n"),
         ..BARE
     };
     let fault = CliFault::LimitBelowZero {

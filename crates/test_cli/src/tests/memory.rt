@@ -1,6 +1,6 @@
 //! Each request of a plan refused in turn.
-use super::{BARE, Given, ROOM, input_of};
-use pit_cli::plan;
+use super::{BARE, Begins, Given, OPTIONS, ROOM, input_of};
+use pit_cli::{Stream, plan};
 use pit_refuse::{Count, Refusing};
 use pit_sample::{Narrow, TINY_BLOCKS};
 use pit_step::{CliFault, Status};
@@ -14,7 +14,7 @@ type Heap<'a> = &'a Refusing<Global>;
 
 const GIVEN: Given<'static> = Given {
     blocks: Some(TINY_BLOCKS),
-    start: Some(b"0 0\n"),
+    begins: Begins::Schedule(b"0 0\n"),
     scripts: &[b"begin\nput 1 0\ncommit\nbegin\nbench 2 1\ncommit\nbegin\nread 3\nabort\n"],
     ..BARE
 };
@@ -44,13 +44,24 @@ fn planned<'a, R: Threads + Wait + Abort + Sync>(
 ) -> (Count, Count) {
     let mut solution = Narrow::new(alloc, 100, ROOM);
     let mut report = Narrow::new(alloc, 100, ROOM);
-    let mut history = Some(Narrow::new(alloc, 100, ROOM));
+    let mut history = Some(Stream {
+        sink: Narrow::new(alloc, 100, ROOM),
+    });
     let input = input_of(rt, heap, GIVEN);
     let before = heap.count();
-    let answer = plan(rt, heap, input, 3, &mut solution, &mut report, &mut history);
+    let answer = plan(
+        rt,
+        heap,
+        alloc,
+        input,
+        OPTIONS,
+        &mut solution,
+        &mut report,
+        &mut history,
+    );
     let after = heap.count();
     let kept = match &history {
-        Some(device) => device.held(),
+        Some(device) => device.sink.held(),
         None => &[],
     };
     match answer {

@@ -1,12 +1,12 @@
 //! Worked plans.
 use super::{
-    BARE, CANNOT_WRITE, Given, ROOM, ROOMS, Rooms, assert_ended, history_of, planned, planned_in,
+    BARE, Begins, CANNOT_WRITE, Given, ROOM, ROOMS, Rooms, assert_ended, history_of, planned, planned_in,
 };
 use pit_sample::{TINY_BLOCKS, TINY_SOLUTION};
 use pit_step::Status;
 
 /// Three jobs, of which the second is too heavy.
-const SCRIPT: &[u8] = b"begin
+pub(crate) const SCRIPT: &[u8] = b"begin
 put 0 0
 put 1 0
 commit
@@ -19,10 +19,10 @@ commit
 ";
 
 /// The solution that they leave.
-const SOLUTION: &[u8] = b"0 0\n1 0\n3 1\n";
+pub(crate) const SOLUTION: &[u8] = b"0 0\n1 0\n3 1\n";
 
 /// And their report.
-const REPORT: &[u8] = b"planner 1 job 1 committed 1 tries 1
+pub(crate) const REPORT: &[u8] = b"planner 1 job 1 committed 1 tries 1
 planner 1 job 2 refused over 0 0 5.000000 4.000000 tries 1
 planner 1 job 3 committed 2 tries 1
 value 15.045454545455000000
@@ -54,7 +54,7 @@ fn nothing_is_done(rt: HostRuntime) {
 fn from_a_start_by_benches(rt: HostRuntime) {
     let given = Given {
         blocks: Some(TINY_BLOCKS),
-        start: Some(TINY_SOLUTION),
+        begins: Begins::Schedule(TINY_SOLUTION),
         scripts: &[b"", b"begin\nbench 0 1\nbench 1 1\ncommit\n"],
         ..BARE
     };
@@ -66,7 +66,7 @@ value 37.772727272730000000
 }
 
 /// And the history.
-const HISTORY: &[u8] = br#"{"format":1}
+pub(crate) const HISTORY: &[u8] = br#"{"format":1}
 {"act":"commit","job":1,"planner":1,"reads":[],"reply":{"committed":1},"start":0,"writes":[[0,0],[1,0]]}
 {"act":"commit","job":2,"planner":1,"reads":[],"reply":{"over":[0,0,"5000000","4000000"]},"start":1,"writes":[[3,0]]}
 {"act":"commit","job":3,"planner":1,"reads":[],"reply":{"committed":2},"start":1,"writes":[[3,1]]}
@@ -104,7 +104,7 @@ value 15.500000000000000000
 short 0 1 0.000000 1.000000
 ";
 
-const REVISED_HISTORY: &[u8] = br#"{"format":2}
+pub(crate) const REVISED_HISTORY: &[u8] = br#"{"format":2}
 {"act":"commit","job":1,"planner":1,"reads":[],"reply":{"committed":1},"revises":[],"start":0,"writes":[[0,0],[1,0]]}
 {"act":"commit","job":2,"planner":1,"reads":[],"reply":{"committed":2},"revises":[[0,0,"5000000"]],"start":1,"writes":[[3,0]]}
 {"act":"commit","job":3,"planner":1,"reads":[],"reply":{"over":[0,0,"5000000","4000000"]},"revises":[[0,0,"4000000"]],"start":2,"writes":[]}

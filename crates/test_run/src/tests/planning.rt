@@ -1,7 +1,7 @@
 //! Runs from a start, and what is answered where planners can't begin.
 use super::rows::THREE;
 use super::{assert_legal, scripts_of, tiny};
-use pit_cli::run_scripts;
+use pit_cli::{Opening, PlanOptions, run_scripts};
 use pit_model::Instance;
 use pit_plan::Breach;
 use pit_run::Report;
@@ -12,6 +12,22 @@ use std::process::Abort;
 use std::sync::Wait;
 use std::thread::Threads;
 
+const OPTIONS: PlanOptions = PlanOptions {
+    retries: 3,
+    is_strict: false,
+};
+
+fn nothing(alloc: Global) -> Opening<Global> {
+    Opening::start(Vec::new(alloc))
+}
+
+/// A start that mines one block.
+fn start_of(rt: &impl Abort, alloc: Global, pair: (u32, u32)) -> Opening<Global> {
+    let mut pairs = Vec::new(alloc);
+    assert!(rt; pairs.push(pair).is_ok());
+    Opening::start(pairs)
+}
+
 /// What planners leave of the small pit, of which no block is mined at the start.
 fn from_nothing<R: Threads + Wait + Abort + Sync>(
     rt: &R,
@@ -20,7 +36,7 @@ fn from_nothing<R: Threads + Wait + Abort + Sync>(
     texts: &[&[u8]],
 ) -> Result<Report<Global>, CliFault> {
     let scripts = scripts_of(rt, alloc, &pit, texts);
-    let answer = run_scripts(rt, alloc, pit, &[], scripts.as_slice(), 3);
+    let answer = run_scripts(rt, alloc, pit, nothing(alloc), scripts.as_slice(), OPTIONS);
     drop(scripts);
     answer
 }
@@ -108,7 +124,8 @@ fn an_early_start(rt: HostRuntime) {
     let pit = tiny(&rt, rt.alloc());
     assert!(rt; pit.blocks() > 2);
     assert!(rt; pit.periods() > 0);
-    let answer = run_scripts(&rt, rt.alloc(), pit, &[(2, 0)], &[], 0);
+    let start = start_of(&rt, rt.alloc(), (2, 0));
+    let answer = run_scripts(&rt, rt.alloc(), pit, start, &[], OPTIONS);
     let fault = CliFault::Start(BreachLine(Breach::Precedence {
         block: 2,
         before: 0,
@@ -121,7 +138,8 @@ fn a_start_over_a_limit(rt: HostRuntime) {
     let pit = limited(&rt, rt.alloc(), 1_000_000);
     assert!(rt; pit.blocks() > 0);
     assert!(rt; pit.periods() > 0);
-    let answer = run_scripts(&rt, rt.alloc(), pit, &[(0, 0)], &[], 0);
+    let start = start_of(&rt, rt.alloc(), (0, 0));
+    let answer = run_scripts(&rt, rt.alloc(), pit, start, &[], OPTIONS);
     let fault = CliFault::Start(BreachLine(Breach::Over {
         resource: 0,
         period: 0,

@@ -3,7 +3,8 @@ use super::num::Shut;
 use super::tiny::{BLOCKS, HISTORY, MODEL, PRECEDENCE};
 use pit_book::{LinesCause, LinesError};
 use pit_cli::{
-    BreachLine, CliFault, Input, PlanInput, ReadError, Status, check, plan, read_all, replay, value,
+    Beginning, BreachLine, CliFault, Input, PlanInput, PlanOptions, ReadError, Status, Stream, check,
+    plan, read_all, replay, value,
 };
 use pit_num::{In, Out};
 use pit_plan::Breach;
@@ -81,6 +82,11 @@ planner 1 job 3 committed 2 tries 1
 value 15.045454545455000000
 ";
 
+const OPTIONS: PlanOptions = PlanOptions {
+    retries: 3,
+    is_strict: false,
+};
+
 #[test]
 fn a_script_is_done(rt: HostRuntime) {
     assert_planned(&rt, rt.alloc());
@@ -90,12 +96,15 @@ fn assert_planned<R: Threads + Wait + Abort + Sync>(rt: &R, alloc: Global) {
     let input = input_of(rt, alloc);
     let mut solution = Out::new(Vec::new(alloc));
     let mut report = Out::new(Vec::new(alloc));
-    let mut history = Some(Out::new(Vec::new(alloc)));
+    let mut history = Some(Stream {
+        sink: Out::new(Vec::new(alloc)),
+    });
     let answer = plan(
         rt,
         alloc,
+        alloc,
         input,
-        3,
+        OPTIONS,
         &mut solution,
         &mut report,
         &mut history,
@@ -103,7 +112,7 @@ fn assert_planned<R: Threads + Wait + Abort + Sync>(rt: &R, alloc: Global) {
     assert!(rt; answer == Ok(Status::Fine));
     assert_written(rt, solution, SOLUTION);
     assert_written(rt, report, REPORT);
-    assert_written(rt, history.expect(rt, "a device"), HISTORY);
+    assert_written(rt, history.expect(rt, "a device").sink, HISTORY);
 }
 
 fn assert_written(rt: &impl Abort, out: Out<Vec<u8>>, text: &[u8]) {
@@ -121,7 +130,7 @@ fn input_of(rt: &impl Abort, alloc: Global) -> PlanInput<Global> {
         bytes_of(rt, alloc, MODEL),
         bytes_of(rt, alloc, PRECEDENCE),
         Some(bytes_of(rt, alloc, BLOCKS)),
-        None,
+        Beginning::nothing(),
         scripts,
     )
 }

@@ -11,11 +11,10 @@ pub returns : goal.returns
 returns g c =
     let texts = c.args.input in
     let pit = c.in-Ok.inputs.pit in
-    let start = c.deref.result.now in
-    let scripts = c.deref-2.result.now in
+    let opening = c.in-Ok.inputs.opening in
+    let scripts = c.deref.result.now in
     let stands =
-    subst (λ (xs : List (ℕ × ℕ)). (texts_judged texts).Gives tt ((pit, xs), map (λ script. script.jobs) scripts)) (sym c.deref.ensures.value)
-    (subst (λ ys. (texts_judged texts).Gives tt ((pit, c.in-Ok.inputs.start.items), map (λ script. script.jobs) ys)) (sym c.deref-2.ensures.value) c.in-Ok.ensures.result) in
+    subst (λ ys. (texts_judged texts).Gives tt ((pit, opening), map (λ script. script.jobs) ys)) (sym c.deref.ensures.value) c.in-Ok.ensures.result in
     MatchResult-weaker c.run_scripts.result c.run_scripts.ensures
-    (λ report gives. judged_gives texts c.args.retries ((pit, start), map (λ script. script.jobs) scripts) (report.closed, report.runs.items) stands gives)
-    (λ fault fails. judged_fails texts c.args.retries ((pit, start), map (λ script. script.jobs) scripts) fault stands fails)
+    (λ report gives. judged_gives texts c.args.options ((pit, opening), map (λ script. script.jobs) scripts) (report.closed, report.runs.items) stands gives)
+    (λ fault fails. judged_fails texts c.args.options ((pit, opening), map (λ script. script.jobs) scripts) fault stands fails)

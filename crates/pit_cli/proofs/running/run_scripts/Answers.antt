@@ -5,10 +5,10 @@ use Rattle.pit_cli.proofs.OpenDesk.{from_desk}
 use Rattle.pit_cli.proofs.running.run_scripts.Goals as goal
 
 pub returns-in-Err : goal.returns-in-Err
-returns-in-Err g c = inl ((c.in-Err.error, c.in-Err.ensures.err.1, c.opening_fault.ensures), (tt, tt))
+returns-in-Err g c = inl (c.in-Err.ensures, (tt, tt))
 
 pub returns-in-Ok : goal.returns-in-Ok
 returns-in-Ok g c =
-    from_desk ((c.args.pit, c.args.start.now), map (λ script. script.jobs) c.args.scripts.now) c.args.retries (λ report. (report.closed, report.runs.items)) c.in-Ok.desk c.in-Ok.ensures.ok c.run_on.result
+    from_desk ((c.args.pit, c.args.opening), map (λ script. script.jobs) c.args.scripts.now) c.args.options (λ report. (report.closed, report.runs.items)) c.in-Ok.desk c.in-Ok.ensures c.run_on.result
     (subst (λ (n : ℕ). OnOk c.run_on.result (IsPlannerCount n)) (sym (length-map c.args.scripts.now (λ script. script.jobs))) c.run_on.ensures.count)
     c.run_on.ensures.ok c.run_on.ensures.err

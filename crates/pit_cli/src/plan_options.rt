@@ -1,0 +1,8 @@
+/// How a plan is run and told.
+#[derive(Clone, Copy, Debug, PartialEq, Eq)]
+pub struct PlanOptions {
+    /// How often a job that meets a change of another planner is repeated, up to `RETRIES_MAX` times.
+    pub retries: u32,
+    /// Whether a job that was refused is a reason to answer `Failed`.
+    pub is_strict: bool,
+}
