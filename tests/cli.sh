@@ -576,6 +576,29 @@ check 'plan, retries twice' 2 '' "$SOME" plan --retries 1 --retries 2 model prec
 check 'plan, an option without its file' 2 '' "$SOME" plan model precedence script --start
 check 'plan, a history without its file' 2 '' "$SOME" plan model precedence script --history
 check 'plan, two histories' 2 '' "$SOME" plan --history one --history two model precedence script
+check 'plan, no file to carry on' 2 '' "$SOME" plan model precedence script --continue
+check 'plan, two histories to carry on' 2 '' "$SOME" plan --continue one --continue two model precedence script
+# It is refused before a file is opened.
+check 'plan, a history to carry on and a start' 2 '' "$SOME" plan --continue fresh --start missing missing missing missing
+status=0
+grep -q -- '--continue' err && [ ! -e fresh ] || status=lacking
+: >err
+compare 'which says so, and makes no file' 0 '' ''
+check 'plan, a history to carry on and one that is written' 2 '' "$SOME" plan missing missing missing --history=fresh --continue=kept
+status=0
+[ ! -e fresh ] || status=left
+: >err
+compare 'which makes no file' 0 '' ''
+check 'plan, a history to carry on, a start and one that is written' 2 '' "$SOME" plan --history fresh --start missing --continue fresh missing missing missing
+check 'plan, a start and a history that is written' 3 '' 'pit: cannot read model' plan --history fresh --start missing missing missing missing
+check 'plan, its flags are known' 3 '' 'pit: cannot read model' plan --in-turn --strict missing missing missing
+check 'plan, a flag that is given twice' 2 '' "$SOME" plan --strict --strict model precedence script
+check 'plan, a flag with a value' 2 '' "$SOME" plan --in-turn=yes model precedence script
+check 'plan, a flag of another subcommand' 2 '' "$SOME" plan --writes model precedence script
+check 'log, two files' 2 '' "$SOME" log model precedence
+check 'log, four files' 2 '' "$SOME" log model precedence kept kept
+check 'log, its flag is known' 3 '' 'pit: cannot read model' log --writes missing missing missing
+check 'log, an option of another subcommand' 2 '' "$SOME" log --continue kept model precedence
 check 'replay, two files' 2 '' "$SOME" replay model precedence
 check 'replay, four files' 2 '' "$SOME" replay model precedence kept kept
 check 'no such option' 2 '' "$SOME" value --fast model solution
@@ -614,7 +637,10 @@ grep -q 'over RESOURCE PERIOD LOAD LIMIT' out && grep -q 'numbered' out && grep 
 compare 'help on check tells what is printed, and the statuses' 0 '' ''
 check 'help on plan' 0 "$SOME" '' plan --help
 status=0
-grep -q 'begin' out && grep -q 'revise R T V' out && grep -q -- '--retries' out && grep -q -- '--history' out && grep -q '^Status: 0 ' out || status=lacking
+grep -q 'begin' out && grep -q 'revise R T V' out && grep -q '^Status: 0 ' out || status=lacking
+for word in --blocks --start --continue --history --in-turn --strict --retries; do
+    grep -q -- "^ *$word " out || status=lacking
+done
 : >out
 compare 'help on plan tells of scripts, options and statuses' 0 '' ''
 check 'help on replay' 0 "$SOME" '' replay --help
@@ -622,6 +648,11 @@ status=0
 grep -q 'legal ENTRIES COMMITS' out && grep -q 'illegal PLACE' out && grep -q '^Status: 0 ' out || status=lacking
 : >out
 compare 'help on replay tells what is printed, and the statuses' 0 '' ''
+check 'help on log' 0 "$SOME" '' log --help
+status=0
+grep -q 'entry E planner K job J' out && grep -q 'write B OLD NEW' out && grep -q '^ *--writes ' out && grep -q '^Status: 0 ' out || status=lacking
+: >out
+compare 'help on log tells what is printed, its flag, and the statuses' 0 '' ''
 check 'version' 0 'pit 0.1.0' '' --version
 check 'version, short' 0 'pit 0.1.0' '' -V
 check 'version of a subcommand' 2 '' "$SOME" value --version

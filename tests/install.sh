@@ -56,8 +56,8 @@ has_sections() {
 # Each option, and each argument in angle brackets, of each subcommand's help.
 has_words() {
     local words command
-    for command in value check table diff info show plan replay; do
-        ./pit "$command" --help | grep -oE -- '--[a-z]+|<[A-Z]+>' | sort -u >"$work/words"
+    for command in value check table diff info show plan replay log; do
+        ./pit "$command" --help | grep -oE -- '--[a-z-]+|<[A-Z]+>' | sort -u >"$work/words"
         [ -s "$work/words" ] || return 1
         while read -r words; do
             grep -qF -- "$words" "$work/page" || { echo "$command: no $words"; return 1; }
@@ -87,6 +87,8 @@ source "$at/share/bash-completion/completions/pit"
 judge 'completes a subcommand' completes 'plan' pl
 judge 'completes a subcommand that looks at a schedule' completes 'table' ta
 judge 'completes an option' completes '--history' plan tiny.cpit --hi
+judge 'completes a flag' completes '--in-turn' plan tiny.cpit --in
+judge 'completes a flag of the log' completes '--writes' log --w
 cp examples/tiny/tiny.* "$work"
 cd "$work" || exit 2
 judge 'completes a file' completes 'tiny.cpit' value tiny.c

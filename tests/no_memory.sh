@@ -144,9 +144,11 @@ each 'help info' help info
 each 'help show' help show
 each 'help plan' help plan
 each 'help replay' help replay
+each 'help log' help log
 each 'version' --version
 each 'no words'
 each 'no such subcommand' valu
+each 'words that exclude one another' plan --continue history --start history "$data/tiny.cpit" "$data/tiny.prec" one
 each 'one file' value "$data/tiny.cpit"
 each 'a word that is not UTF-8' value $'\xff' x
 

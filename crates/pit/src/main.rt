@@ -14,7 +14,7 @@ mod words;
 use clap::error::ErrorKind;
 use fault::Fault;
 use pit_cli::Status;
-use pit_command::{asked, matched, refusal};
+use pit_command::{asked, has_conflict, matched, refusal};
 use pit_num::Out;
 use runs::run;
 use std::process::ExitCode;
@@ -35,6 +35,10 @@ fn answer<R: Threads + Wait + Sync>(rt: &HostRuntime, threads: &R) -> Result<Sta
         let refused = refusal(rt.alloc(), ErrorKind::MissingSubcommand);
         return Err(Fault::from(refused));
     };
+    if has_conflict(given) {
+        let refused = refusal(rt.alloc(), ErrorKind::ArgumentConflict);
+        return Err(Fault::from(refused));
+    }
     let mut out = Out::new(rt.stdout());
     let mut report = Out::new(rt.stderr());
     Ok(run(

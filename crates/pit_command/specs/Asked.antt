@@ -1,5 +1,5 @@
 -- What the words of the command line ask for.
-use Rattle.std.specs.Prelude.{◌≡◌, ℕ, zero, suc, Bool, true, false, List, [], ◌∷◌, Option, None, Some, Ok, Err, unwrap_or, option_map, slice_get, codes}
+use Rattle.std.specs.Prelude.{◌≡◌, ℕ, zero, suc, Bool, true, false, ◌&&◌, ◌||◌, List, [], ◌∷◌, Option, None, Some, is_some, Ok, Err, unwrap_or, option_map, slice_get, codes}
 use Rattle.std.specs.Map.{lookup}
 use Rattle.std.specs.Str.{bytes_eq}
 use Rattle.clap.specs.Matches.{found_of, first_value, matched_of, raw_values, one_text}
@@ -8,13 +8,13 @@ use Rattle.clap.specs.declared.parser.matches.ArgMatches.{ArgMatches}
 use Rattle.pit_step.specs.declared.input.Input.{Input}
 use Rattle.pit_step.specs.declared.input.Input.TheVariants.{Model, Precedence, Blocks, Start, Solution, Script, History, Schedule, Old, New}
 use Rattle.pit_command.specs.declared.engine.Engine.{Engine}
-use Rattle.pit_command.specs.declared.engine.Engine.TheVariants.{Value, Check, CheckAll, Table, Diff, Info, Show, Plan, Replay}
+use Rattle.pit_command.specs.declared.engine.Engine.TheVariants.{Value, Check, CheckAll, Table, Diff, Info, Show, Plan, Replay, Log}
 
 -- the subcommands, each with the engine that it asks for
 abbrev pub engines : List (List ℕ × Engine)
 engines =
     (codes "value", Value) ∷ (codes "check", Check) ∷ (codes "table", Table) ∷ (codes "diff", Diff) ∷ (codes "info", Info) ∷ (codes "show", Show)
-    ∷ (codes "plan", Plan) ∷ (codes "replay", Replay) ∷ []
+    ∷ (codes "plan", Plan) ∷ (codes "replay", Replay) ∷ (codes "log", Log) ∷ []
 
 unfoldable pub engine_of : List ℕ → Option Engine
 engine_of name = lookup (bytes_eq name) engines
@@ -35,14 +35,15 @@ inputs_of Info = Model ∷ Precedence ∷ []
 inputs_of Show = Model ∷ Schedule ∷ []
 inputs_of Plan = Model ∷ Precedence ∷ Script 1 ∷ []
 inputs_of Replay = Model ∷ Precedence ∷ History ∷ []
+inputs_of Log = Model ∷ Precedence ∷ History ∷ []
 
--- whether the words ask for all that is wrong
-pub record IsAllAsked (given : ArgMatches) (all : Bool) : Type 0 where
-  pub absent : one_text (found_of given) (codes "all") ≡ None → all ≡ false
-  pub yes : one_text (found_of given) (codes "all") ≡ Some (codes "true") → all ≡ true
-  pub no : one_text (found_of given) (codes "all") ≡ Some (codes "false") → all ≡ false
+-- whether the words give a flag
+pub record IsFlag (given : ArgMatches) (name : List ℕ) (is_given : Bool) : Type 0 where
+  pub absent : one_text (found_of given) name ≡ None → is_given ≡ false
+  pub yes : one_text (found_of given) name ≡ Some (codes "true") → is_given ≡ true
+  pub no : one_text (found_of given) name ≡ Some (codes "false") → is_given ≡ false
 
--- the name of the argument for an input
+-- the name of the argument for an input; of `plan` the history is the one that is carried on
 abbrev pub argument_of : Input → List ℕ
 argument_of Model = codes "MODEL"
 argument_of Precedence = codes "PREC"
@@ -79,6 +80,14 @@ path_of given New = first_path given New
 -- the path that the words give for the history that is written
 abbrev pub history_path : ArgMatches → Option (List ℕ)
 history_path given = first_value (found_of given) (codes "history")
+
+-- the path that the words give for the history that is carried on
+abbrev pub continue_path : ArgMatches → Option (List ℕ)
+continue_path given = path_of given History
+
+-- the words carry a history on, and name a start too, or another file for the history
+abbrev pub has_conflict : ArgMatches → Bool
+has_conflict given = is_some (continue_path given) && (is_some (path_of given Start) || is_some (history_path given))
 
 -- a text is the number of its digits, if it is one of so many bits
 abbrev pub ReadsAs : ℕ → List ℕ → Option ℕ → Type 0

@@ -10,8 +10,8 @@ use Rattle.clap.specs.Lexer.{usize_max}
 use Rattle.clap.specs.declared.builder.action.ArgAction.TheVariants.{Append, SetTrue}
 use Rattle.clap.specs.declared.builder.value_parser.ValueParser.TheVariants.{Signed}
 use Rattle.pit_step.specs.declared.input.Input.{Input}
-use Rattle.pit_step.specs.declared.input.Input.TheVariants.{Model, Precedence, Blocks, Start, Script, Schedule}
-use Rattle.pit_command.specs.declared.engine.Engine.TheVariants.{Value, Check, Table, Diff, Info, Show, Plan, Replay}
+use Rattle.pit_step.specs.declared.input.Input.TheVariants.{Model, Precedence, Blocks, Start, History, Schedule}
+use Rattle.pit_command.specs.declared.engine.Engine.TheVariants.{Value, Check, Table, Diff, Info, Show, Plan, Replay, Log}
 use Rattle.pit_command.specs.Asked.{argument_of, inputs_of}
 
 -- the argument for an input: a positional that is required
@@ -25,19 +25,22 @@ engine_shape name inputs = record (new_shape name) { rules = map file_rule input
 abbrev pub value_shape : Shape
 value_shape = engine_shape (codes "value") (inputs_of Value)
 
--- `--all`
-abbrev pub all_rule : Rule
-all_rule = record (new_rule (codes "all")) { action = Some SetTrue; long = Some (codes "all") }
+-- a flag: `--name`
+abbrev pub flag_rule : List ℕ → Rule
+flag_rule name = record (new_rule name) { action = Some SetTrue; long = Some name }
 
--- `check` with its flag
-abbrev pub check_flags_shape : Shape
-check_flags_shape = record (new_shape (codes "check")) { rules = all_rule ∷ [] }
+-- the same with a flag before them
+abbrev pub flagged_shape : List ℕ → List ℕ → List Input → Shape
+flagged_shape name flag inputs = record (new_shape name) { rules = flag_rule flag ∷ map file_rule inputs }
 
 abbrev pub check_shape : Shape
-check_shape = record (new_shape (codes "check")) { rules = all_rule ∷ map file_rule (inputs_of Check) }
+check_shape = flagged_shape (codes "check") (codes "all") (inputs_of Check)
 
 abbrev pub replay_shape : Shape
 replay_shape = engine_shape (codes "replay") (inputs_of Replay)
+
+abbrev pub log_shape : Shape
+log_shape = flagged_shape (codes "log") (codes "writes") (inputs_of Log)
 
 -- the option for an input: `--name FILE`
 abbrev pub option_rule : Input → Rule
@@ -67,6 +70,10 @@ show_shape = record (new_shape (codes "show")) { rules = file_rule Model ∷ sch
 abbrev pub history_rule : Rule
 history_rule = record (new_rule (codes "history")) { long = Some (codes "history"); value_names = 1 }
 
+-- `--continue FILE`, of an input
+abbrev pub continue_rule : Rule
+continue_rule = record (new_rule (argument_of History)) { long = Some (codes "continue"); value_names = 1 }
+
 -- `--retries N`, a whole number up to 1,000, and 3 where it isn't given
 abbrev pub retries_rule : Rule
 retries_rule = record (new_rule (codes "retries")) {
@@ -84,14 +91,11 @@ scripts_rule = record (new_rule (codes "SCRIPT")) {
   required = true;
 }
 
--- `plan` with the first of its arguments
-abbrev pub plan_files_shape : Shape
-plan_files_shape = record (new_shape (codes "plan")) { rules = file_rule Model ∷ file_rule Precedence ∷ option_rule Blocks ∷ [] }
+abbrev pub plan_with : List Rule → Shape
+plan_with others = record (new_shape (codes "plan")) { rules = file_rule Model ∷ file_rule Precedence ∷ option_rule Blocks ∷ others }
 
 abbrev pub plan_shape : Shape
-plan_shape = record (new_shape (codes "plan")) {
-  rules = file_rule Model ∷ file_rule Precedence ∷ option_rule Blocks ∷ option_rule Start ∷ history_rule ∷ retries_rule ∷ scripts_rule ∷ [];
-}
+plan_shape = plan_with (option_rule Start ∷ continue_rule ∷ history_rule ∷ flag_rule (codes "in-turn") ∷ flag_rule (codes "strict") ∷ retries_rule ∷ scripts_rule ∷ [])
 
 -- a subcommand, of which no argument is global
 abbrev pub IsSubcommand : Shape → Command → Type 0
@@ -109,7 +113,7 @@ app_with shapes = record {
 }
 
 abbrev pub pit_app : App
-pit_app = app_with (value_shape ∷ check_shape ∷ table_shape ∷ diff_shape ∷ info_shape ∷ show_shape ∷ plan_shape ∷ replay_shape ∷ [])
+pit_app = app_with (value_shape ∷ check_shape ∷ table_shape ∷ diff_shape ∷ info_shape ∷ show_shape ∷ plan_shape ∷ replay_shape ∷ log_shape ∷ [])
 
 -- the words gave the argument of each input
 abbrev pub GivesEach : List Input → List Row → Type 0
@@ -119,7 +123,8 @@ GivesEach inputs rows = All (λ input. is_given (argument_of input) rows ≡ tru
 abbrev pub subcommands : List (List ℕ × List Input)
 subcommands =
     (codes "value", inputs_of Value) ∷ (codes "check", inputs_of Check) ∷ (codes "table", inputs_of Table) ∷ (codes "diff", inputs_of Diff)
-    ∷ (codes "info", inputs_of Info) ∷ (codes "show", inputs_of Show) ∷ (codes "plan", inputs_of Plan) ∷ (codes "replay", inputs_of Replay) ∷ []
+    ∷ (codes "info", inputs_of Info) ∷ (codes "show", inputs_of Show) ∷ (codes "plan", inputs_of Plan) ∷ (codes "replay", inputs_of Replay)
+    ∷ (codes "log", inputs_of Log) ∷ []
 
 -- the words name one of these, and give what it requires; or they ask for help
 abbrev pub IsAmong : List (List ℕ × List Input) → List ℕ × List Row → Type 0

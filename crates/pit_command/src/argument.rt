@@ -1,6 +1,6 @@
 //! The arguments of the command line, by the inputs and the output whose paths they are.
 ghost use Rattle.std.specs.Prelude.{◌≡◌, length, option_map, slice_get, codes};
-ghost use Rattle.pit_command.specs.Asked.{argument_of, path_of, scripts_of, history_path, IsNumber, IsAllAsked};
+ghost use Rattle.pit_command.specs.Asked.{argument_of, path_of, scripts_of, history_path, continue_path, has_conflict, IsNumber, IsFlag};
 
 use clap::ArgMatches;
 use pit_step::Input;
@@ -17,7 +17,19 @@ pub(crate) const AT: &str = "at";
 /// The name of the flag that asks `check` for all that is wrong.
 pub(crate) const ALL: &str = "all";
 
-/// The name of the argument for an input.
+/// The name of the flag that asks `log` for what was written.
+pub(crate) const WRITES: &str = "writes";
+
+/// The word of the option for the history that is carried on.
+pub(crate) const CONTINUE: &str = "continue";
+
+/// The name of the flag for planners one after another.
+pub(crate) const IN_TURN: &str = "in-turn";
+
+/// The name of the flag by which a refused job is a failure.
+pub(crate) const STRICT: &str = "strict";
+
+/// The name of the argument for an input. Of `plan` the history is the one that is carried on.
 pub(crate) fn argument_of<'a>(input: Input) -> &'a str
     ensures { result.now ≡ argument_of input }
 {
@@ -76,11 +88,47 @@ pub fn history_path<'a>(given: &ArgMatches<'a>) -> Option<&'a str>
     given.get_str(HISTORY)
 }
 
+/// The path that the words give `plan` for the history that is carried on: it is read as an input, and written back.
+pub fn continue_path<'a>(given: &ArgMatches<'a>) -> Option<&'a str>
+    ensures { option_map (λ path. path.now) result ≡ continue_path given.now }
+{
+    path_of(given, Input::History)
+}
+
+/// Whether the words exclude one another: they carry a history on, and name a start too, or another file for the history.
+pub fn has_conflict(given: &ArgMatches<'_>) -> bool
+    ensures { result ≡ has_conflict given.now }
+{
+    continue_path(given).is_some()
+        && (path_of(given, Input::Start).is_some() || history_path(given).is_some())
+}
+
 /// Whether the words ask for all that is wrong.
 pub(crate) fn asks_all(given: &ArgMatches<'_>) -> bool
-    ensures { IsAllAsked given.now result }
+    ensures { IsFlag given.now (codes "all") result }
 {
     given.get_flag(ALL)
+}
+
+/// Whether the words ask `log` for what each commit wrote and revised.
+pub fn asks_writes(given: &ArgMatches<'_>) -> bool
+    ensures { IsFlag given.now (codes "writes") result }
+{
+    given.get_flag(WRITES)
+}
+
+/// Whether one thread does the scripts of all planners, one after another.
+pub fn is_in_turn(given: &ArgMatches<'_>) -> bool
+    ensures { IsFlag given.now (codes "in-turn") result }
+{
+    given.get_flag(IN_TURN)
+}
+
+/// Whether a plan of which a job was refused has failed.
+pub fn is_strict(given: &ArgMatches<'_>) -> bool
+    ensures { IsFlag given.now (codes "strict") result }
+{
+    given.get_flag(STRICT)
 }
 
 /// The number of retries that the words give.

@@ -1,23 +1,25 @@
 //! The command line.
-ghost use Rattle.std.specs.Prelude.{◌≡◌, ◌⊎◌, ◌∷◌, [], IfOk, false, map};
+ghost use Rattle.std.specs.Prelude.{◌≡◌, ◌⊎◌, ◌∷◌, [], IfOk, false, map, codes};
 ghost use Rattle.clap.specs.Simple.{app_of, matches_of, subcommand_of, subcommand_rows_of};
-ghost use Rattle.clap.specs.Walk.{rows_of, rule_of};
+ghost use Rattle.clap.specs.Walk.{rows_of};
 ghost use Rattle.clap.specs.Matches.{found_of};
 ghost use Rattle.clap.specs.Kinds.{FailsBy};
 ghost use Rattle.clap.specs.Faults.{fault_of};
 ghost use Rattle.clap.specs.declared.builder.command.Command.TheViews.{out-Command as fields_of};
-ghost use Rattle.pit_command.specs.Command.{AsksAll, app_with, pit_app, value_shape, check_flags_shape, check_shape, table_shape, diff_shape, info_shape, show_shape, plan_files_shape, plan_shape, replay_shape, all_rule, at_rule, file_rule, schedule_rule, option_rule, history_rule, retries_rule, scripts_rule, IsSubcommand};
+ghost use Rattle.pit_command.specs.Command.{AsksAll, app_with, pit_app, value_shape, flagged_shape, check_shape, table_shape, diff_shape, info_shape, show_shape, plan_with, plan_shape, replay_shape, log_shape, flag_rule, option_rule, history_rule, continue_rule, IsSubcommand};
 ghost use Rattle.clap.specs.Values.{kind_of};
 ghost use Rattle.clap.specs.declared.error.kind.ErrorKind.TheVariants.{OutOfMemory};
+ghost use Rattle.pit_step.specs.declared.input.Input.TheVariants.{Start};
 
-use crate::argument::{ALL, AT, HISTORY, RETRIES, argument_of};
-use crate::engine::{CHECK, DIFF, INFO, PLAN, REPLAY, SHOW, TABLE, VALUE};
+use crate::argument::{ALL, IN_TURN, STRICT, WRITES};
+use crate::engine::{CHECK, DIFF, INFO, LOG, PLAN, REPLAY, SHOW, TABLE, VALUE};
 use crate::notes::{
-    CHECK_NOTES, DIFF_NOTES, INFO_NOTES, PIT_NOTES, PLAN_NOTES, REPLAY_NOTES, SHOW_NOTES,
-    TABLE_NOTES, VALUE_NOTES,
+    CHECK_NOTES, DIFF_NOTES, INFO_NOTES, LOG_NOTES, PIT_NOTES, PLAN_NOTES, REPLAY_NOTES,
+    SHOW_NOTES, TABLE_NOTES, VALUE_NOTES,
 };
+use crate::rules::{at, continued, file, flag, history, option, retries, schedule, scripts};
 use clap::error::ErrorKind;
-use clap::{Arg, ArgAction, ArgMatches, Command, Error, value_parser};
+use clap::{ArgMatches, Command, Error};
 use pit_step::Input;
 use std::alloc::{AllocError, Global};
 use std::convert::AsStr;
@@ -28,6 +30,14 @@ const VERSION: &str = "0.1.0";
 /// `pit`, with one subcommand for each engine.
 fn command<'a>(alloc: Global) -> Result<Command<'a>, AllocError>
     ensures app { IfOk result (λ c. app_of c ≡ pit_app) }
+    ensures local { IfOk result (λ c. (fields_of c).has_globals ≡ false) }
+{
+    with_replay(alloc)?.subcommand(log_command(alloc)?)
+}
+
+/// `pit`, with the subcommands up to `replay`.
+fn with_replay<'a>(alloc: Global) -> Result<Command<'a>, AllocError>
+    ensures app { IfOk result (λ c. app_of c ≡ app_with (value_shape ∷ check_shape ∷ table_shape ∷ diff_shape ∷ info_shape ∷ show_shape ∷ plan_shape ∷ replay_shape ∷ [])) }
     ensures local { IfOk result (λ c. (fields_of c).has_globals ≡ false) }
 {
     with_show(alloc)?
@@ -92,12 +102,16 @@ fn value_command<'a>(alloc: Global) -> Result<Command<'a>, AllocError>
 
 /// `check`, with its flag.
 fn check_flags<'a>(alloc: Global) -> Result<Command<'a>, AllocError>
-    ensures { IfOk result (IsSubcommand check_flags_shape) }
+    ensures { IfOk result (IsSubcommand (flagged_shape (codes "check") (codes "all") [])) }
 {
     Command::new(alloc, CHECK)
         .about("Prints the value of a solution, its first breach and its shortfalls")
         .after_help(CHECK_NOTES)
-        .arg(all(alloc))
+        .arg(flag(
+            alloc,
+            ALL,
+            "Prints all that is wrong; SOLUTION may then be a history, too",
+        ))
 }
 
 fn check_command<'a>(alloc: Global) -> Result<Command<'a>, AllocError>
@@ -154,9 +168,9 @@ fn show_command<'a>(alloc: Global) -> Result<Command<'a>, AllocError>
         .arg(at(alloc))
 }
 
-/// `plan`, with the first of its arguments.
+/// `plan`, with its inputs but for the start and the scripts.
 fn plan_files<'a>(alloc: Global) -> Result<Command<'a>, AllocError>
-    ensures { IfOk result (IsSubcommand plan_files_shape) }
+    ensures { IfOk result (IsSubcommand (plan_with [])) }
 {
     Command::new(alloc, PLAN)
         .about("Has planners edit one schedule at once, each by a script, and prints what is left")
@@ -166,14 +180,37 @@ fn plan_files<'a>(alloc: Global) -> Result<Command<'a>, AllocError>
         .arg(option(alloc, Input::Blocks))
 }
 
-fn plan_command<'a>(alloc: Global) -> Result<Command<'a>, AllocError>
-    ensures { IfOk result (IsSubcommand plan_shape) }
+/// The same, with what it begins with, and where its history is written.
+fn plan_start<'a>(alloc: Global) -> Result<Command<'a>, AllocError>
+    ensures { IfOk result (IsSubcommand (plan_with (option_rule Start ∷ continue_rule ∷ history_rule ∷ []))) }
 {
     plan_files(alloc)?
         .arg(option(alloc, Input::Start))?
-        .arg(history(alloc))?
-        .arg(retries(alloc))?
-        .arg(scripts(alloc))
+        .arg(continued(alloc))?
+        .arg(history(alloc))
+}
+
+/// The same, with its flags.
+fn plan_flags<'a>(alloc: Global) -> Result<Command<'a>, AllocError>
+    ensures { IfOk result (IsSubcommand (plan_with (option_rule Start ∷ continue_rule ∷ history_rule ∷ flag_rule (codes "in-turn") ∷ flag_rule (codes "strict") ∷ []))) }
+{
+    plan_start(alloc)?
+        .arg(flag(
+            alloc,
+            IN_TURN,
+            "One thread does all scripts, one after another: the same inputs give the same outputs",
+        ))?
+        .arg(flag(
+            alloc,
+            STRICT,
+            "Ends with status 1 where a job was refused, too",
+        ))
+}
+
+fn plan_command<'a>(alloc: Global) -> Result<Command<'a>, AllocError>
+    ensures { IfOk result (IsSubcommand plan_shape) }
+{
+    plan_flags(alloc)?.arg(retries(alloc))?.arg(scripts(alloc))
 }
 
 fn replay_command<'a>(alloc: Global) -> Result<Command<'a>, AllocError>
@@ -187,126 +224,38 @@ fn replay_command<'a>(alloc: Global) -> Result<Command<'a>, AllocError>
         .arg(file(alloc, Input::History))
 }
 
-/// The argument for an input.
-fn file<'a>(alloc: Global, input: Input) -> Arg<'a>
-    ensures rule { rule_of result ≡ file_rule input }
-    ensures local { result.global ≡ false }
+/// `log`, with its flag.
+fn log_flags<'a>(alloc: Global) -> Result<Command<'a>, AllocError>
+    ensures { IfOk result (IsSubcommand (flagged_shape (codes "log") (codes "writes") [])) }
 {
-    Arg::new(alloc, argument_of(input))
-        .required(true)
-        .help(help_of(input))
+    Command::new(alloc, LOG)
+        .about("Prints what each entry of a history did, and why it was refused")
+        .after_help(LOG_NOTES)
+        .arg(flag(
+            alloc,
+            WRITES,
+            "Prints what each commit wrote and revised, and what it replaced",
+        ))
 }
 
-/// The argument for a schedule.
-fn schedule<'a>(alloc: Global) -> Arg<'a>
-    ensures rule { rule_of result ≡ schedule_rule }
-    ensures local { result.global ≡ false }
+fn log_command<'a>(alloc: Global) -> Result<Command<'a>, AllocError>
+    ensures { IfOk result (IsSubcommand log_shape) }
 {
-    Arg::new(alloc, argument_of(Input::Schedule))
-        .value_name("SCHEDULE")
-        .required(true)
-        .help(help_of(Input::Schedule))
+    log_flags(alloc)?
+        .arg(file(alloc, Input::Model))?
+        .arg(file(alloc, Input::Precedence))?
+        .arg(file(alloc, Input::History))
 }
 
-/// The option for an input.
-fn option<'a>(alloc: Global, input: Input) -> Arg<'a>
-    ensures rule { rule_of result ≡ option_rule input }
-    ensures local { result.global ≡ false }
-{
-    Arg::new(alloc, argument_of(input))
-        .long(argument_of(input))
-        .value_name("FILE")
-        .help(help_of(input))
-}
-
-/// The option for the file of the history.
-fn history<'a>(alloc: Global) -> Arg<'a>
-    ensures rule { rule_of result ≡ history_rule }
-    ensures local { result.global ≡ false }
-{
-    Arg::new(alloc, HISTORY)
-        .long(HISTORY)
-        .value_name("FILE")
-        .help("Where the history is written, a line of JSON for each ending; `replay` reads it")
-}
-
-/// The flag that asks for all that is wrong.
-fn all<'a>(alloc: Global) -> Arg<'a>
-    ensures rule { rule_of result ≡ all_rule }
-    ensures local { result.global ≡ false }
-{
-    Arg::new(alloc, ALL)
-        .long(ALL)
-        .action(ArgAction::SetTrue)
-        .help("Prints all that is wrong; SOLUTION may then be a history, too")
-}
-
-/// The option for the number of commits after which a schedule is shown.
-fn at<'a>(alloc: Global) -> Arg<'a>
-    ensures rule { rule_of result ≡ at_rule }
-    ensures local { result.global ≡ false }
-{
-    Arg::new(alloc, AT)
-        .long(AT)
-        .value_name("N")
-        .value_parser(value_parser!(u32))
-        .help("Shows the schedule after the first N commits")
-}
-
-/// The option for the number of retries.
-fn retries<'a>(alloc: Global) -> Arg<'a>
-    ensures rule { rule_of result ≡ retries_rule }
-    ensures local { result.global ≡ false }
-{
-    Arg::new(alloc, RETRIES)
-        .long(RETRIES)
-        .value_name("N")
-        // `RETRIES_MAX` and `RETRIES_UNSAID`: `clap` is given a range of `u16` and a text.
-        .value_parser(value_parser!(u16).range(0..=1000))
-        .default_value("3")
-        .help("How often a job is repeated that met a change of another planner, 0 to 1000")
-}
-
-/// The arguments for the scripts.
-fn scripts<'a>(alloc: Global) -> Arg<'a>
-    ensures rule { rule_of result ≡ scripts_rule }
-    ensures local { result.global ≡ false }
-{
-    Arg::new(alloc, argument_of(Input::Script(1)))
-        .required(true)
-        .num_args(1..)
-        .action(ArgAction::Append)
-        .help(help_of(Input::Script(1)))
-}
-
-/// What help says of an input.
-fn help_of<'a>(input: Input) -> &'a str {
-    match input {
-        Input::Model => {
-            "The model: a CPIT model text of MineLib. Its rate is a fraction: 0.1 is 10 % a period"
-        }
-        Input::Precedence => {
-            "The precedences: `BLOCK COUNT PREDECESSOR..` for each block that has predecessors"
-        }
-        Input::Blocks => { "The blocks' places: `BLOCK X Y Z` for each block that has one" }
-        Input::Start => "A solution that the schedule begins with; without it no block is mined",
-        Input::Script(_) => "A script of jobs for each planner, 1 to 64 of them",
-        Input::History => "The history: the lines of JSON that `plan --history` wrote",
-        Input::Schedule => "A solution, or a history that `plan --history` wrote",
-        Input::Old => "The earlier schedule: a solution, or a history that `plan --history` wrote",
-        Input::New => "The later schedule, likewise",
-        Input::Solution => {
-            "The solution: `BLOCK PERIOD` or `BLOCK DESTINATION PERIOD PART` for a mined block"
-        }
-    }
-}
-
-/// The parser's error where it couldn't be asked: a word that is not UTF-8, or no subcommand. Or want of memory.
+/// The parser's error for what it isn't asked: a word that is not UTF-8, no subcommand, or words that exclude one another. Or want of memory.
 pub fn refusal(alloc: Global, kind: ErrorKind) -> Error
     ensures { (kind_of result ≡ kind) ⊎ (kind_of result ≡ OutOfMemory) }
 {
     let text = match kind {
         ErrorKind::MissingSubcommand => "a subcommand is required",
+        ErrorKind::ArgumentConflict => {
+            "the argument '--continue <FILE>' cannot be used with '--start <FILE>' or '--history <FILE>'"
+        }
         _ => "a word is not UTF-8",
     };
     match command(alloc) {

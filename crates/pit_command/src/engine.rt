@@ -1,8 +1,8 @@
-ghost use Rattle.std.specs.Prelude.{◌≡◌, Bool, IfSome, IfNone, Some, None, option_map, option_and_then};
+ghost use Rattle.std.specs.Prelude.{◌≡◌, Bool, IfSome, IfNone, Some, None, option_map, option_and_then, codes};
 ghost use Rattle.clap.specs.Matches.{found_of, subcommand_name_of};
 ghost use Rattle.clap.specs.Walk.{rows_of};
 ghost use Rattle.clap.specs.Simple.{subcommand_rows_of};
-ghost use Rattle.pit_command.specs.Asked.{engine_of, with_all, IsAllAsked};
+ghost use Rattle.pit_command.specs.Asked.{engine_of, with_all, IsFlag};
 
 use crate::argument::asks_all;
 use clap::ArgMatches;
@@ -28,6 +28,8 @@ pub enum Engine {
     Plan,
     /// Audits a history, and prints the value of the schedule that it leaves.
     Replay,
+    /// Prints what each entry of a history did.
+    Log,
 }
 
 /// The subcommand that asks for `Engine::Value`.
@@ -54,6 +56,9 @@ pub(crate) const PLAN: &str = "plan";
 /// The subcommand that asks for `Engine::Replay`.
 pub(crate) const REPLAY: &str = "replay";
 
+/// The subcommand that asks for `Engine::Log`.
+pub(crate) const LOG: &str = "log";
+
 /// The engine that a subcommand asks for, without its flags.
 #[tactic(auto, unfolding(crate::specs::Asked::engine_of))]
 fn engine_of(name: &str) -> Option<Engine>
@@ -68,6 +73,7 @@ fn engine_of(name: &str) -> Option<Engine>
         SHOW => Some(Engine::Show),
         PLAN => Some(Engine::Plan),
         REPLAY => Some(Engine::Replay),
+        LOG => Some(Engine::Log),
         _ => None,
     }
 }
@@ -85,7 +91,7 @@ fn with_all(engine: Engine, all: bool) -> Engine
 /// The engine that the words ask for, and the words that are for it.
 pub fn asked<'m, 'a>(matches: &'m ArgMatches<'a>) -> Option<(Engine, &'m ArgMatches<'a>)>
     ensures none { IfNone result (option_and_then engine_of (subcommand_name_of matches.now) ≡ None) }
-    ensures engine { IfSome result (λ asked. (all : Bool) × IsAllAsked asked.1.now all
+    ensures engine { IfSome result (λ asked. (all : Bool) × IsFlag asked.1.now (codes "all") all
         × (option_map (with_all all) (option_and_then engine_of (subcommand_name_of matches.now)) ≡ Some asked.0)) }
     ensures given { IfSome result (λ asked. option_map (λ found. found.1) (subcommand_rows_of matches.now) ≡ Some (rows_of (found_of asked.1.now))) }
 {

@@ -6,9 +6,9 @@ Blocks, periods and resources are numbered from 0. The model's discount rate is 
 shows. A SCHEDULE is a solution, or a history that `plan --history` wrote.
 docs/FORMATS.md has every form and fault line.
 
-Status: 0 where all is well, 1 where a breach, a shortfall, a difference or `illegal` was printed, 2
-where an input or the command line is refused, 3 where memory, a device or a thread is wanting, or a
-planner stopped. Of 2 and 3 standard error says why.";
+Status: 0 where all is well, 1 where a breach, a shortfall, a difference or `illegal` was printed, or
+a refusal with `plan --strict`, 2 where an input or the command line is refused, 3 where memory, a
+device or a thread is wanting, or a planner stopped. Of 2 and 3 standard error says why.";
 
 pub(crate) const VALUE_NOTES: &str = "\
 Prints the sum of the profits, each times the factor of its period, with 18 digits. Blocks and
@@ -54,11 +54,17 @@ Standard output is the solution that is left. Standard error tells of each job, 
 is written, if a file is named for it. Blocks, periods and resources are numbered from 0, planners
 and jobs from 1. docs/FORMATS.md has every form.
 
-Status: 0 where all is well, 1 where a load falls short, 2 where an input or the command line is
-refused, 3 where memory, a device or a thread is wanting, or a planner stopped.
+A history that the schedule begins with is audited, and the new entries follow its own. With
+--continue the history's file gets them all before anything is printed; where there is no such file
+it is made, and the report begins with `history new`. Neither --start nor --history stands beside it.
 
-Example:
-  pit plan tiny.cpit tiny.prec --blocks tiny.blocks one.script two.script";
+Status: 0 where all is well, 1 where a load falls short, or a job was refused with --strict, 2 where
+an input or the command line is refused, 3 where memory, a device or a thread is wanting, or a planner
+stopped.
+
+Examples:
+  pit plan tiny.cpit tiny.prec --blocks tiny.blocks one.script two.script
+  pit plan tiny.cpit tiny.prec --continue tiny.history --in-turn --strict one.script";
 
 pub(crate) const REPLAY_NOTES: &str = "\
 Goes over a history that `plan` wrote, entry by entry, from an empty schedule. Prints
@@ -124,3 +130,19 @@ commits, 3 where memory or a device is wanting. Of 2 and 3 a line on standard er
 
 Example:
   pit show tiny.cpit tiny.history --at 1";
+
+pub(crate) const LOG_NOTES: &str = "\
+Prints a line for each entry of a history that `plan` wrote, in its order, counted from 1:
+  entry E planner K job J start N reads N writes N revises N cause C REPLY
+REPLY is `committed N`, `withdrawn`, or `refused` and why. C is the entry that last wrote the block by
+which a job was refused, or `-`. With --writes a committed entry is followed by `write B OLD NEW` for
+each block that it wrote, and `revise R T OLD NEW` for each limit that it revised; a period or a limit
+that isn't there is `-`. The two lines of `replay` come last. Of a history that isn't legal, the
+entries before the first wrong one are printed, and then `illegal PLACE`.
+docs/FORMATS.md has every form and fault line.
+
+Status: 0 where it printed `legal`, 1 where it printed `illegal`, 2 where an input or the command
+line is refused, 3 where memory or a device is wanting. Of 2 and 3 a line on standard error says why.
+
+Example:
+  pit log --writes tiny.cpit tiny.prec tiny.history";
