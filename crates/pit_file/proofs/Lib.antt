@@ -1,2 +1,4 @@
+pub mod CallerLemmas
 pub mod Known
+pub mod Outputs
 pub mod Refusals
