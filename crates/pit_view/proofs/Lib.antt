@@ -1,3 +1,4 @@
 pub mod LegalText
 pub mod Runs
 pub mod OneReplay
+pub mod CallerLemmas

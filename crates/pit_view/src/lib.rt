@@ -10,6 +10,7 @@ mod check_text;
 mod engines;
 mod outcome;
 
+pub use audited::{write_illegal, write_legal};
 pub use engines::check::check;
 pub use engines::replay::replay;
 pub use engines::value::value;
