@@ -1,5 +1,5 @@
 -- What was written of a run is that of one history.
-use Rattle.std.proofs.Common.{◌≡◌, ℕ, List, Option, Result, Ok, Err, sym, subst}
+use Rattle.std.proofs.Common.{◌≡◌, List, Option, Result, Ok, Err, sym, subst}
 use Rattle.pit_model.specs.Pit.{Pit}
 use Rattle.pit_desk.specs.History.{Answered}
 use Rattle.pit_desk.specs.declared.entry.TheConstants.{ENTRIES_MAX}
@@ -12,7 +12,7 @@ use Rattle.pit_step.specs.declared.fault.CliFault.{CliFault}
 use Rattle.pit_step.specs.declared.fault.CliFault.TheVariants as cli
 use Rattle.pit_cli.specs.Outcomes.{IsWritten, IsOneHistory, IsOfOneHistory}
 use Rattle.pit_cli.specs.Output.{Keeping, plan_run}
-use Rattle.pit_cli.specs.Planning.{Ran, IsRan, desk_judged, plan_judged}
+use Rattle.pit_cli.specs.Planning.{Ran, IsRan, plan_judged}
 use Rattle.pit_cli.specs.Texts.{Texts, Setup, pit_in, opening_in, scripts_in, texts_judged}
 use Rattle.pit_cli.specs.declared.plan_options.PlanOptions.{PlanOptions}
 use Rattle.pit_cli.proofs.OneOutcome.{given_written, stopped_written}

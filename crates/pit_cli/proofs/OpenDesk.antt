@@ -1,6 +1,5 @@
 -- A run on a desk that is open, as the steps of a plan have it.
-use Rattle.std.proofs.Common.{◌≡◌, ◌⊎◌, inl, inr, ℕ, List, length, Result, Ok, Err, OnOk, IfOk, IfErr, MatchResult, refl, subst}
-use Rattle.std.specs.Prelude.{⊤}
+use Rattle.std.proofs.Common.{inl, inr, ℕ, List, length, Result, Ok, Err, OnOk, IfOk, IfErr, MatchResult, refl, subst}
 use Rattle.pit_model.specs.Pit.{Pit}
 use Rattle.pit_desk.specs.History.{Answered}
 use Rattle.pit_desk.specs.State.{State}
@@ -13,7 +12,7 @@ use Rattle.pit_step.specs.declared.fault.CliFault.TheVariants.{PlannerCount, NoM
 use Rattle.pit_step.specs.Steps.{in_turn}
 use Rattle.pit_cli.specs.Texts.{Texts, Setup, pit_in, opening_in, scripts_in, texts_judged}
 use Rattle.pit_cli.specs.declared.plan_options.PlanOptions.{PlanOptions}
-use Rattle.pit_cli.specs.Planning.{Ran, IsRan, IsRunFault, desk_judged, count_judged, plan_judged, planners_step}
+use Rattle.pit_cli.specs.Planning.{Ran, IsRan, desk_judged, count_judged, plan_judged, planners_step}
 use Rattle.pit_cli.specs.Inside.Runs.{IsFaultOn}
 
 module _ (setup : Setup) (options : PlanOptions) where

@@ -1,5 +1,5 @@
 -- What a run of scripts comes to, and its faults.
-use Rattle.std.specs.Prelude.{◌≡◌, ℕ, List, length, ⊤}
+use Rattle.std.specs.Prelude.{◌≡◌, List, length, ⊤}
 use Rattle.pit_desk.specs.State.{State}
 use Rattle.pit_desk.specs.declared.entry.TheConstants.{ENTRIES_MAX}
 use Rattle.pit_step.specs.declared.fault.CliFault.{CliFault}

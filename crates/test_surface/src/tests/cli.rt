@@ -3,8 +3,8 @@ use super::num::Shut;
 use super::tiny::{BLOCKS, HISTORY, MODEL, PRECEDENCE};
 use pit_book::{LinesCause, LinesError};
 use pit_cli::{
-    Beginning, BreachLine, CliFault, Input, PlanInput, PlanOptions, ReadError, Status, Stream, check,
-    plan, read_all, replay, value,
+    Beginning, BreachLine, CliFault, Input, PlanInput, PlanOptions, ReadError, Status, Stream,
+    check, plan, read_all, replay, value,
 };
 use pit_num::{In, Out};
 use pit_plan::Breach;
