@@ -3,6 +3,7 @@ pub mod Planning
 pub mod ReportText
 pub mod Output
 pub mod Outcomes
+pub mod ShownRun
 pub mod Inside
 pub use Rattle.pit_step.specs.Steps
 pub use Rattle.pit_step.specs.Devices
