@@ -1,3 +1,4 @@
 pub mod Threading
+pub mod Turns
 pub mod Closing
 pub mod CallerLemmas
