@@ -32,8 +32,8 @@ one-history texts options setup ran judged run =
     let opening = opening_in setup in
     let scripts = scripts_in setup in
     let before : List Answered = entries_before opening in
-    let same : pit_in setup ≡ pit = sym run.closed.goes_on.same_pit in
-    let report : IsReport pit before ENTRIES_MAX options.retries scripts ran.0 ran.1 = subst (λ (p : Pit). IsReport p before ENTRIES_MAX options.retries scripts ran.0 ran.1) same run in
+    let same : pit_in setup ≡ pit = sym run.report.closed.goes_on.same_pit in
+    let report : IsReport pit before ENTRIES_MAX options.retries scripts ran.0 ran.1 = subst (λ (p : Pit). IsReport p before ENTRIES_MAX options.retries scripts ran.0 ran.1) same run.report in
     let stands = judged_stands texts setup judged in
     record {
       opening = opening;
@@ -44,6 +44,7 @@ one-history texts options setup ran judged run =
       limit = report.closed.goes_on.limit;
       one_thread = of-one-thread pit before ENTRIES_MAX options.retries scripts ran.0 ran.1 report;
       one_by_one = one-by-one pit before ENTRIES_MAX options.retries scripts ran.0 ran.1 report;
+      turns = run.turns;
       each = each-planner pit before ENTRIES_MAX options.retries scripts ran.0 ran.1 report;
     }
 

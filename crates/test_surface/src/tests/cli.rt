@@ -84,6 +84,7 @@ value 15.045454545455000000
 
 const OPTIONS: PlanOptions = PlanOptions {
     retries: 3,
+    is_in_turn: false,
     is_strict: false,
 };
 
