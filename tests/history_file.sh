@@ -202,15 +202,15 @@ race() {
     "$pit" plan --history kept model precedence script >out."$1" 2>err."$1" </dev/null
     local status=$?
     [ "$status" -lt 2 ] || { [ "$status" = 3 ] && [ "$(tail -n 1 err."$1")" = 'pit: history is in use' ]; } || : >failed
-    [ "$status" -gt 1 ] || : >done
+    [ "$status" -gt 1 ] || : >written
 }
 raced=0
-for round in {1..30}; do
+for _ in {1..30}; do
     begin
-    rm -f done failed
+    rm -f written failed
     for number in {1..8}; do race "$number" & done
     wait
-    [ -e done ] && [ ! -e failed ] && is_file kept new && [ ! -e kept.pit-new ] && raced=$((raced + 1))
+    [ -e written ] && [ ! -e failed ] && is_file kept new && [ ! -e kept.pit-new ] && raced=$((raced + 1))
 done
 says 'of several programs some write it, and the others are told' test "$raced" = 30
 
