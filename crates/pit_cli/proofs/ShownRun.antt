@@ -1,5 +1,5 @@
 -- What is shown of the history of a run.
-use Rattle.std.proofs.Common.{◌≡◌, ℕ, ◌≤◌, List, [], ◌∷◌, ◌++◌, length, get_or, Option, Some, None, Result, All, refl, sym, ap, subst, ◌∙◌, arith}
+use Rattle.std.proofs.Common.{◌≡◌, ℕ, ◌≤◌, Bool, List, [], ◌∷◌, ◌++◌, length, get_or, Option, Some, None, Result, All, refl, sym, ap, subst, ◌∙◌, arith}
 use Rattle.std.specs.Prelude.{slice_get}
 use Rattle.std.proofs.lemmas.Option.{slice_get-get_or}
 use Rattle.pit_model.specs.Pit.{Pit}
@@ -23,8 +23,12 @@ use Rattle.pit_state.specs.States.{EachFits}
 use Rattle.pit_show.specs.Fronts.{IsFront}
 use Rattle.pit_show.specs.ShowText.{history_comment}
 use Rattle.pit_show.specs.Show.{IsShown}
+use Rattle.pit_opening.specs.Beginnings.{is_unbegun}
+use Rattle.pit_opening.specs.Openings.{Opened}
+use Rattle.pit_cli.specs.declared.plan_options.PlanOptions.{PlanOptions}
 use Rattle.pit_cli.specs.Texts.{Texts, Setup, ArePlacesOf, texts_judged}
 use Rattle.pit_cli.specs.Planning.{Ran}
+use Rattle.pit_cli.specs.Output.{Keeping, outputs_of}
 use Rattle.pit_cli.specs.Outcomes.{IsOfOneHistory}
 use Rattle.pit_cli.specs.ShownRun.{IsShownRun}
 
@@ -58,8 +62,8 @@ as-placed given pit (Some bytes) is =
 
 -- the pit of the texts is as large as that of their model
 as-model : (texts : Texts) (setup : Setup) → (texts_judged texts).Gives tt setup → (bare : Pit) × IsModel texts.model bare × IsAsLarge setup.0.0 bare
-as-model texts setup (pit, (bare, model, (ordered, order, places)), (given, start, scripts)) =
-    let same : setup.0.0 ≡ pit = ap (λ (both : Pit × List (ℕ × ℕ)). both.0) scripts.0 ∙ start.0 in
+as-model texts setup (pit, (bare, model, (ordered, order, places)), (given, opening, scripts)) =
+    let same : setup.0.0 ≡ pit = ap (λ (both : Pit × Opened). both.0) scripts.0 ∙ opening.0 in
     let large = as-both pit ordered bare (as-placed ordered pit texts.blocks places) (as-ordered bare ordered texts.precedence order) in
     (bare, model, subst (λ (p : Pit). IsAsLarge p bare) (sym same) large)
 
@@ -83,8 +87,9 @@ module _ (some : (entries : List Answered) (count : ℕ) → count ≤ length (c
     → (front : List Answered) × IsFront history (length (commits_of history)) front × (answer ≡ history_comment front ++ left_text pit (commits_of history)))
     (shown_so : (pit : Pit) (history front : List Answered) → All IsInRange history → EachFits pit history → IsFront history (length (commits_of history)) front
     → IsShown None pit (history_text history) (history_comment front ++ left_text pit (commits_of history))) where
-  ran-shown : (pit : Pit) (ran : Ran) → All IsInRange ran.0.history → EachFits pit ran.0.history → ran.0.plan.pit.blocks ≡ pit.blocks → IsShownRun pit ran
-  ran-shown pit ran range fits same =
+  ran-shown : (pit : Pit) (is_new : Bool) (ran : Ran) → All IsInRange ran.0.history → EachFits pit ran.0.history → ran.0.plan.pit.blocks ≡ pit.blocks
+      → IsShownRun pit ran.0.history (outputs_of is_new ran)
+  ran-shown pit is_new ran range fits same =
       let history = ran.0.history in
       let count = length (commits_of history) in
       let found = some history count (omega arith) in
@@ -101,12 +106,12 @@ module _ (some : (entries : List Answered) (count : ℕ) → count ≤ length (c
         );
       }
 
-  pub written-shown : (texts : Texts) (retries : ℕ) (out lines : Writing) (kept : Option Writing) (result : Result Status CliFault) (pit : Pit) (one : IsOfOneHistory texts retries out lines kept result)
-      → All IsInRange one.written.ran.0.history → IsModel texts.model pit → IsShownRun pit one.written.ran
-  written-shown texts retries out lines kept result pit one range model =
+  pub written-shown : (texts : Texts) (options : PlanOptions) (out lines : Writing) (kept : Option Keeping) (result : Result Status CliFault) (pit : Pit) (one : IsOfOneHistory texts options out lines kept result)
+      → All IsInRange one.written.ran.0.history → IsModel texts.model pit → IsShownRun pit one.written.ran.0.history (outputs_of (is_unbegun texts.beginning) one.written.ran)
+  written-shown texts options out lines kept result pit one range model =
       let ran : Ran = one.written.ran in
       let planned : Pit = ran.0.plan.pit in
-      let found = as-model texts ((planned, one.one_history.start), one.one_history.scripts) one.one_history.stand in
+      let found = as-model texts ((planned, one.one_history.opening), one.one_history.scripts) one.one_history.stand in
       let same : found.0 ≡ pit = (decided-model texts.model).once.values found.0 pit found.1 model in
       let large : IsAsLarge planned pit = subst (λ (p : Pit). IsAsLarge planned p) same found.2 in
-      ran-shown pit ran range (each-fits pit planned ran.0.history large one.one_history.one_thread.fits) large.blocks
+      ran-shown pit (is_unbegun texts.beginning) ran range (each-fits pit planned ran.0.history large one.one_history.one_thread.fits) large.blocks
