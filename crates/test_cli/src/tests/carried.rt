@@ -216,3 +216,26 @@ value 4.545454545455000000
     let found = planned(&rt, rt.alloc(), given);
     assert_ended(&rt, &found, Ok(Status::Fine), b"3 1\n", report);
 }
+
+const IN_TURN: PlanOptions = PlanOptions {
+    is_in_turn: true,
+    ..OPTIONS
+};
+
+/// The first moves what the second then clears.
+#[test]
+fn planners_take_turns(rt: HostRuntime) {
+    let given = Given {
+        begins: Begins::Schedule(b"3 1\n"),
+        scripts: &[b"begin\nshift 3 -1\ncommit\n", b"begin\nclear 3\ncommit\n"],
+        options: IN_TURN,
+        ..BARE
+    };
+    let report = b"planner 1 job 1 committed 2 tries 1
+planner 2 job 1 committed 3 tries 1
+value 0.000000000000000000
+short 0 1 0.000000 1.000000
+";
+    let found = planned(&rt, rt.alloc(), given);
+    assert_ended(&rt, &found, Ok(Status::Failed), b"", report);
+}
