@@ -2,6 +2,8 @@
 //!
 //! Each planner's thread does the jobs of its script in order, as `pit_job` says, on one workspace, which is then closed. What is proved of the
 //! closed history is said of each planner's own entries: which job left which, with which effect, and that the outcomes tell it.
+//!
+//! Or they take turns in one thread, each on a workspace of its own. The closed history then has the planners' entries in the order of their numbers.
 #![tactic(auto)]
 
 mod in_turn;

@@ -1,4 +1,4 @@
-use Rattle.pit_run.proofs.Turns.{in-turn-rises}
+use Rattle.pit_run.proofs.ByPlanner.{in-turn-rises}
 use Rattle.pit_run.proofs.laws.in_turn.Goals as goal
 
 pub returns : goal.returns
