@@ -22,6 +22,7 @@ pub use pit_all::check_all;
 pub use pit_diff::diff;
 pub use pit_file::{HistoryOut, Stream};
 pub use pit_info::info;
+pub use pit_log::log;
 pub use pit_opening::{Beginning, Opening, opening_of};
 pub use pit_show::show;
 pub use pit_step::{
