@@ -3,4 +3,5 @@ mod host;
 mod links;
 mod memory_names;
 mod outputs;
+mod places;
 mod steps;

@@ -1,127 +1,118 @@
 //! The steps over the system's files, each test in a folder of its own.
-use pit_file::{FileFault, HistoryFile, HistoryOut, HostNames};
+use super::places::{emptied, holds, is_missing, mode_of, put};
+use pit_file::{FileFault, FileIdentity, HistoryFile, HistoryOut, HostNames};
 use pit_num::Failed;
-use std::fs::{self, Permissions};
-use std::os::unix::fs::{MetadataExt, PermissionsExt};
-use std::test::Fail;
 
 const OLD: &[u8] = b"the old history";
 
 const NEW: &[u8] = b"the new one";
 
-/// An empty folder of this name.
-pub fn folder(rt: &HostRuntime, name: &str) -> Result<(), Fail> {
-    let _ = fs::remove_dir_all(rt, name);
-    fs::create_dir(rt, name)?;
-    Ok(())
-}
-
-/// A path in a folder.
-pub fn path_in(rt: &HostRuntime, folder: &str, name: &str) -> Result<String, Fail> {
-    Ok(format!(in rt.alloc(); "{folder}/{name}")?)
-}
-
-fn mode_of(rt: &HostRuntime, path: &str) -> Result<u32, Fail> {
-    Ok(fs::metadata(rt, path)?.mode() & 0o7777)
-}
-
-fn holds(rt: &HostRuntime, path: &str, text: &[u8]) -> bool {
-    match fs::read(rt, path) {
-        Ok(bytes) => bytes.as_slice() == text,
-        Err(_) => false,
+/// The file of a name, of which nothing is opened yet.
+fn file_at<'a>(rt: &'a HostRuntime, name: &str) -> Option<HistoryFile<HostNames<'a>>> {
+    let Ok(name) = String::from_str(rt.alloc(), name) else {
+        return None;
+    };
+    match HostNames::new(rt, name) {
+        Ok(names) => Some(HistoryFile::new(names)),
+        Err(_) => None,
     }
 }
 
-fn is_missing(rt: &HostRuntime, path: &str) -> bool {
-    fs::symlink_metadata(rt, path).is_err()
-}
-
-/// The file at a path, in a type of its own.
-fn file_at<'a>(rt: &'a HostRuntime, path: &str) -> Result<HistoryFile<HostNames<'a>>, Fail> {
-    let path = String::from_str(rt.alloc(), path)?;
-    match HostNames::new(rt, path) {
-        Ok(names) => Ok(HistoryFile::new(names)),
-        Err(_) => Err(Fail::from("no memory")),
-    }
-}
-
-#[test]
-fn is_replaced(rt: HostRuntime) -> Result<(), Fail> {
-    let place = "test_file_replaced";
-    folder(&rt, place)?;
-    let history = path_in(&rt, place, "h")?;
-    let new = path_in(&rt, place, "h.pit-new")?;
-    fs::write(&rt, history.as_str(), OLD)?;
-    fs::set_permissions(&rt, history.as_str(), Permissions::from_mode(0o640))?;
-    fs::write(
-        &rt,
-        new.as_str(),
-        b"what a program left that was ended".as_slice(),
-    )?;
-    let mut file = file_at(&rt, history.as_str())?;
-    assert!(rt; file.prepare() == Ok(()));
-    assert!(rt; holds(&rt, history.as_str(), OLD));
-    assert!(rt; mode_of(&rt, new.as_str())? == 0o640);
-    assert!(rt; file.keep(NEW) == Ok(()));
-    assert!(rt; holds(&rt, history.as_str(), NEW));
-    assert!(rt; mode_of(&rt, history.as_str())? == 0o640);
-    assert!(rt; is_missing(&rt, new.as_str()));
-    assert!(rt; file.keep(OLD) == Err(Failed));
-    assert!(rt; holds(&rt, history.as_str(), NEW));
-    fs::remove_dir_all(&rt, place)?;
-    Ok(())
+/// Whether the file of a name is prepared, its new file gets this mode, and it is then replaced by a text.
+fn is_replaced(rt: &HostRuntime, name: &str, new_name: &str, mode: u32, text: &[u8]) -> bool {
+    let Some(mut file) = file_at(rt, name) else {
+        return false;
+    };
+    let is_prepared = file.prepare() == Ok(());
+    let is_mode = mode_of(rt, new_name) == mode;
+    let is_kept = file.keep(text) == Ok(());
+    let is_once = file.keep(OLD) == Err(Failed);
+    is_prepared && is_mode && is_kept && is_once
 }
 
 #[test]
-fn is_made(rt: HostRuntime) -> Result<(), Fail> {
-    let place = "test_file_made";
-    folder(&rt, place)?;
-    let history = path_in(&rt, place, "h")?;
-    let new = path_in(&rt, place, "h.pit-new")?;
-    let other = path_in(&rt, place, "other")?;
-    fs::write(&rt, other.as_str(), b"".as_slice())?;
-    let mut file = file_at(&rt, history.as_str())?;
-    assert!(rt; file.prepare() == Ok(()));
-    assert!(rt; is_missing(&rt, history.as_str()));
-    assert!(rt; file.keep(NEW) == Ok(()));
-    assert!(rt; holds(&rt, history.as_str(), NEW));
-    assert!(rt; mode_of(&rt, history.as_str())? == mode_of(&rt, other.as_str())?);
-    fs::remove_file(&rt, history.as_str())?;
-    fs::write(&rt, new.as_str(), OLD)?;
-    fs::set_permissions(&rt, new.as_str(), Permissions::from_mode(0o600))?;
-    let mut file = file_at(&rt, history.as_str())?;
-    assert!(rt; file.prepare() == Ok(()));
-    assert!(rt; mode_of(&rt, new.as_str())? == mode_of(&rt, other.as_str())?);
-    assert!(rt; file.keep(b"") == Ok(()));
-    assert!(rt; holds(&rt, history.as_str(), b""));
-    fs::remove_dir_all(&rt, place)?;
-    Ok(())
+fn replaces(rt: HostRuntime) {
+    let (name, new_name) = ("test_file_replaces/h", "test_file_replaces/h.pit-new");
+    assert!(rt; emptied(&rt, "test_file_replaces"));
+    assert!(rt; put(&rt, name, OLD, 0o640));
+    assert!(rt; put(&rt, new_name, b"what a program left that was ended", 0o600));
+    assert!(rt; is_replaced(&rt, name, new_name, 0o640, NEW));
+    assert!(rt; holds(&rt, name, NEW));
+    assert!(rt; mode_of(&rt, name) == 0o640);
+    assert!(rt; is_missing(&rt, new_name));
 }
 
+// A file that the test makes has the mode of a new one.
 #[test]
-fn is_in_use(rt: HostRuntime) -> Result<(), Fail> {
-    let place = "test_file_in_use";
-    folder(&rt, place)?;
-    let history = path_in(&rt, place, "h")?;
-    let new = path_in(&rt, place, "h.pit-new")?;
-    fs::write(&rt, history.as_str(), OLD)?;
-    let mut first = file_at(&rt, history.as_str())?;
-    let mut second = file_at(&rt, history.as_str())?;
-    assert!(rt; first.prepare() == Ok(()));
-    assert!(rt; second.prepare() == Err(FileFault::InUse));
+fn makes(rt: HostRuntime) {
+    let (name, new_name) = ("test_file_makes/h", "test_file_makes/h.pit-new");
+    assert!(rt; emptied(&rt, "test_file_makes"));
+    assert!(rt; put(&rt, "test_file_makes/other", b"", 0));
+    let mode = mode_of(&rt, "test_file_makes/other");
+    assert!(rt; is_replaced(&rt, name, new_name, mode, NEW));
+    assert!(rt; holds(&rt, name, NEW));
+    assert!(rt; mode_of(&rt, name) == mode);
+}
+
+// The same where a program that was ended left a file of another mode.
+#[test]
+fn makes_again(rt: HostRuntime) {
+    let (name, new_name) = ("test_file_makes_again/h", "test_file_makes_again/h.pit-new");
+    assert!(rt; emptied(&rt, "test_file_makes_again"));
+    assert!(rt; put(&rt, "test_file_makes_again/other", b"", 0));
+    assert!(rt; put(&rt, new_name, OLD, 0o600));
+    let mode = mode_of(&rt, "test_file_makes_again/other");
+    assert!(rt; is_replaced(&rt, name, new_name, mode, b""));
+    assert!(rt; holds(&rt, name, b""));
+}
+
+/// Whether of two that would write one history the first is let in, until it is done.
+fn is_one_let_in(rt: &HostRuntime, name: &str, new_name: &str) -> bool {
+    let (Some(mut first), Some(mut second)) = (file_at(rt, name), file_at(rt, name)) else {
+        return false;
+    };
+    let is_first = first.prepare() == Ok(()) && second.prepare() == Err(FileFault::InUse);
     second.abandon();
-    assert!(rt; !is_missing(&rt, new.as_str()));
+    let is_left = !is_missing(rt, new_name);
     first.abandon();
-    assert!(rt; is_missing(&rt, new.as_str()));
-    assert!(rt; second.prepare() == Ok(()));
-    assert!(rt; first.prepare() == Err(FileFault::InUse));
-    assert!(rt; second.keep(NEW) == Ok(()));
-    assert!(rt; holds(&rt, history.as_str(), NEW));
-    drop(second);
-    assert!(rt; first.prepare() == Ok(()));
-    drop(first);
-    assert!(rt; !is_missing(&rt, new.as_str()));
-    assert!(rt; holds(&rt, history.as_str(), NEW));
-    fs::remove_dir_all(&rt, place)?;
-    Ok(())
+    let is_removed = is_missing(rt, new_name);
+    let is_second = second.prepare() == Ok(()) && first.prepare() == Err(FileFault::InUse);
+    let is_kept = second.keep(NEW) == Ok(()) && first.prepare() == Ok(());
+    is_first && is_left && is_removed && is_second && is_kept
+}
+
+#[test]
+fn lets_one_in(rt: HostRuntime) {
+    let (name, new_name) = ("test_file_lets_one_in/h", "test_file_lets_one_in/h.pit-new");
+    assert!(rt; emptied(&rt, "test_file_lets_one_in"));
+    assert!(rt; put(&rt, name, OLD, 0o644));
+    assert!(rt; is_one_let_in(&rt, name, new_name));
+    assert!(rt; holds(&rt, name, NEW));
+    assert!(rt; !is_missing(&rt, new_name));
+}
+
+/// Whether what stands at the new file's name is refused, and nothing is done to it.
+fn is_unfit(rt: &HostRuntime, name: &str) -> bool {
+    let Some(mut file) = file_at(rt, name) else {
+        return false;
+    };
+    let is_refused = file.prepare() == Err(FileFault::CannotWrite);
+    file.abandon();
+    is_refused && file.keep(NEW) == Err(Failed)
+}
+
+/// The same, for what a test of links puts there.
+pub fn stays_unfit(rt: &HostRuntime, name: &str, new_name: &str) -> bool {
+    put(rt, name, OLD, 0o644)
+        && is_unfit(rt, name)
+        && holds(rt, name, OLD)
+        && !is_missing(rt, new_name)
+}
+
+/// Whether the new file of a name is one file with an input, and the history's isn't.
+pub fn is_new_file_input(rt: &HostRuntime, name: &str, input: Option<FileIdentity>) -> bool {
+    let Some(file) = file_at(rt, name) else {
+        return false;
+    };
+    file.names().new_identity() == Ok(input) && file.names().history_identity() != Ok(input)
 }

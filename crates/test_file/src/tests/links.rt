@@ -1,20 +1,19 @@
 //! Where a history's path leads, what may stand at the new file's name, and which files are one.
-use super::host::{folder, path_in};
+use super::host::{is_new_file_input, stays_unfit};
+use super::places::{emptied, holds, put};
 use pit_file::{
-    FileFault, FileIdentity, HistoryFile, HistoryOut, HostNames, Place, found, identity_at,
-    identity_of, is_among, open_stream,
+    FileFault, FileIdentity, Place, found, identity_at, identity_of, is_among, open_stream,
 };
 use pit_num::{Failed, Sink};
 use std::fs::{self, File};
 use std::os::unix::fs::symlink;
-use std::test::Fail;
 
-const OLD: &[u8] = b"the old history";
+const TEXT: &[u8] = b"text";
 
-/// Whether a path leads to a file of this name in a folder.
-fn leads_to_file(rt: &HostRuntime, path: &str, name: &str) -> bool {
+/// Whether a path leads to the file of a name that ends so.
+fn leads_to_file(rt: &HostRuntime, path: &str, end: &str) -> bool {
     match found(rt, path) {
-        Ok(Place::File(file)) => file.as_str().starts_with("/") && file.as_str().ends_with(name),
+        Ok(Place::File(file)) => file.as_str().starts_with("/") && file.as_str().ends_with(end),
         _ => false,
     }
 }
@@ -28,108 +27,97 @@ fn is_lost(rt: &HostRuntime, path: &str) -> bool {
 }
 
 #[test]
-fn paths(rt: HostRuntime) -> Result<(), Fail> {
-    let place = "test_file_paths";
-    folder(&rt, place)?;
-    fs::write(&rt, "test_file_paths/h", OLD)?;
-    symlink(&rt, "h", "test_file_paths/link")?;
-    symlink(&rt, "nowhere", "test_file_paths/lost")?;
-    symlink(&rt, ".", "test_file_paths/here")?;
-    assert!(rt; leads_to_file(&rt, "test_file_paths/h", "/test_file_paths/h"));
-    assert!(rt; leads_to_file(&rt, "test_file_paths/here/link", "/test_file_paths/h"));
-    assert!(rt; leads_to_file(&rt, "test_file_paths/here/new", "/test_file_paths/new"));
+fn files(rt: HostRuntime) {
+    assert!(rt; emptied(&rt, "test_file_files"));
+    assert!(rt; put(&rt, "test_file_files/h", TEXT, 0));
+    assert!(rt; symlink(&rt, "h", "test_file_files/link").is_ok());
+    assert!(rt; symlink(&rt, ".", "test_file_files/here").is_ok());
+    assert!(rt; leads_to_file(&rt, "test_file_files/h", "/test_file_files/h"));
+    assert!(rt; leads_to_file(&rt, "test_file_files/here/link", "/test_file_files/h"));
+    assert!(rt; leads_to_file(&rt, "test_file_files/here/new", "/test_file_files/new"));
     assert!(rt; leads_to_file(&rt, "test_file_no_such", "/test_file_no_such"));
-    assert!(rt; is_lost(&rt, "test_file_paths/lost"));
-    assert!(rt; is_lost(&rt, "test_file_paths/h/"));
-    assert!(rt; is_lost(&rt, "test_file_paths/new/"));
-    assert!(rt; is_lost(&rt, "test_file_paths/new/."));
-    assert!(rt; is_lost(&rt, "test_file_paths/new/.."));
-    assert!(rt; is_lost(&rt, "test_file_paths/no/new"));
-    assert!(rt; is_lost(&rt, ""));
-    assert!(rt; leads_to_stream(&rt, "test_file_paths"));
-    assert!(rt; leads_to_stream(&rt, "/dev/null"));
-    assert!(rt; open_stream(&rt, "test_file_paths").is_err());
-    fs::remove_dir_all(&rt, place)?;
-    Ok(())
 }
+
+const LOST: &[&str] = &[
+    "test_file_lost/link",
+    "test_file_lost/h/",
+    "test_file_lost/new/",
+    "test_file_lost/new/.",
+    "test_file_lost/new/..",
+    "test_file_lost/no/new",
+    "",
+];
 
 #[test]
-fn a_stream_is_written(rt: HostRuntime) -> Result<(), Fail> {
-    let Ok(mut out) = open_stream(&rt, "/dev/null") else {
-        return Err(Fail::from("cannot open"));
-    };
-    assert!(rt; out.give(b"text") == Ok(4));
-    let Ok(mut full) = open_stream(&rt, "/dev/full") else {
-        return Err(Fail::from("cannot open"));
-    };
-    assert!(rt; full.give(b"text") == Err(Failed));
-    Ok(())
-}
-
-/// The history in a folder.
-fn file_in<'a>(rt: &'a HostRuntime, folder: &str) -> Result<HistoryFile<HostNames<'a>>, Fail> {
-    match HostNames::new(rt, path_in(rt, folder, "h")?) {
-        Ok(names) => Ok(HistoryFile::new(names)),
-        Err(_) => Err(Fail::from("no memory")),
+fn lost(rt: HostRuntime) {
+    assert!(rt; emptied(&rt, "test_file_lost"));
+    assert!(rt; put(&rt, "test_file_lost/h", TEXT, 0));
+    assert!(rt; symlink(&rt, "nowhere", "test_file_lost/link").is_ok());
+    for path in LOST {
+        assert!(rt; is_lost(&rt, path));
     }
 }
 
-/// Whether what stands at the new file's name can't be written, and stays, as the history does.
-fn is_unfit(rt: &HostRuntime, folder: &str) -> Result<bool, Fail> {
-    let mut file = file_in(rt, folder)?;
-    let is_refused = file.prepare() == Err(FileFault::CannotWrite);
-    file.abandon();
-    let is_held_back = file.keep(b"new") == Err(Failed);
-    let new = path_in(rt, folder, "h.pit-new")?;
-    let is_there = fs::symlink_metadata(rt, new.as_str()).is_ok();
-    let history = path_in(rt, folder, "h")?;
-    let is_old = fs::read(rt, history.as_str())?.as_slice() == OLD;
-    Ok(is_refused && is_held_back && is_there && is_old)
+/// Whether a stream at a path takes a text.
+fn is_taken(rt: &HostRuntime, path: &str) -> bool {
+    match open_stream(rt, path) {
+        Ok(mut out) => out.give(TEXT) == Ok(4),
+        Err(_) => false,
+    }
 }
 
 #[test]
-fn new_names(rt: HostRuntime) -> Result<(), Fail> {
-    let place = "test_file_new_names";
-    folder(&rt, place)?;
-    fs::write(&rt, "test_file_new_names/h", OLD)?;
-    fs::write(&rt, "test_file_new_names/other", b"other".as_slice())?;
-    symlink(&rt, "other", "test_file_new_names/h.pit-new")?;
-    assert!(rt; is_unfit(&rt, place)?);
-    assert!(rt; fs::read(&rt, "test_file_new_names/other")?.as_slice() == b"other".as_slice());
-    fs::remove_file(&rt, "test_file_new_names/h.pit-new")?;
-    symlink(&rt, "nowhere", "test_file_new_names/h.pit-new")?;
-    assert!(rt; is_unfit(&rt, place)?);
-    fs::remove_file(&rt, "test_file_new_names/h.pit-new")?;
-    fs::create_dir(&rt, "test_file_new_names/h.pit-new")?;
-    assert!(rt; is_unfit(&rt, place)?);
-    fs::remove_dir(&rt, "test_file_new_names/h.pit-new")?;
-    fs::hard_link(
-        &rt,
-        "test_file_new_names/h",
-        "test_file_new_names/h.pit-new",
-    )?;
-    assert!(rt; is_unfit(&rt, place)?);
-    fs::remove_dir_all(&rt, place)?;
-    Ok(())
+fn streams(rt: HostRuntime) {
+    assert!(rt; emptied(&rt, "test_file_streams"));
+    assert!(rt; leads_to_stream(&rt, "test_file_streams"));
+    assert!(rt; leads_to_stream(&rt, "/dev/full"));
+    assert!(rt; !is_taken(&rt, "test_file_streams"));
+    assert!(rt; !is_taken(&rt, "/dev/full"));
+    assert!(rt; is_taken(&rt, "/dev/null"));
 }
 
 #[test]
-fn inputs(rt: HostRuntime) -> Result<(), Fail> {
-    let place = "test_file_inputs";
-    folder(&rt, place)?;
-    fs::write(&rt, "test_file_inputs/h", OLD)?;
-    fs::write(&rt, "test_file_inputs/other", OLD)?;
-    fs::hard_link(&rt, "test_file_inputs/other", "test_file_inputs/h.pit-new")?;
-    let input = identity_of(&File::open(&rt, "test_file_inputs/other")?);
-    let file = file_in(&rt, place)?;
-    assert!(rt; input == identity_at(&rt, "test_file_inputs/other"));
-    assert!(rt; input == file.names().new_identity());
-    assert!(rt; input != file.names().history_identity());
-    assert!(rt; identity_at(&rt, place) == Ok(None));
+fn new_names(rt: HostRuntime) {
+    let (name, new_name) = ("test_file_new_names/h", "test_file_new_names/h.pit-new");
+    assert!(rt; emptied(&rt, "test_file_new_names"));
+    assert!(rt; put(&rt, "test_file_new_names/other", TEXT, 0));
+    assert!(rt; symlink(&rt, "other", new_name).is_ok());
+    assert!(rt; stays_unfit(&rt, name, new_name));
+    assert!(rt; holds(&rt, "test_file_new_names/other", TEXT));
+    assert!(rt; fs::remove_file(&rt, new_name).is_ok());
+    assert!(rt; symlink(&rt, "nowhere", new_name).is_ok());
+    assert!(rt; stays_unfit(&rt, name, new_name));
+    assert!(rt; fs::remove_file(&rt, new_name).is_ok());
+    assert!(rt; fs::create_dir(&rt, new_name).is_ok());
+    assert!(rt; stays_unfit(&rt, name, new_name));
+    assert!(rt; fs::remove_dir(&rt, new_name).is_ok());
+    assert!(rt; fs::hard_link(&rt, name, new_name).is_ok());
+    assert!(rt; stays_unfit(&rt, name, new_name));
+}
+
+/// What the file at a path is known by, once it is opened.
+fn opened_identity(rt: &HostRuntime, path: &str) -> Result<Option<FileIdentity>, Failed> {
+    match File::open(rt, path) {
+        Ok(file) => identity_of(&file),
+        Err(_) => Err(Failed),
+    }
+}
+
+#[test]
+fn inputs(rt: HostRuntime) {
+    let (input, new_name) = ("test_file_inputs/input", "test_file_inputs/h.pit-new");
+    assert!(rt; emptied(&rt, "test_file_inputs"));
+    assert!(rt; put(&rt, "test_file_inputs/h", TEXT, 0));
+    assert!(rt; put(&rt, input, TEXT, 0));
+    assert!(rt; fs::hard_link(&rt, input, new_name).is_ok());
+    let Ok(Some(identity)) = opened_identity(&rt, input) else {
+        panic!(rt; "no identity");
+    };
+    assert!(rt; identity_at(&rt, input) == Ok(Some(identity)));
+    assert!(rt; is_new_file_input(&rt, "test_file_inputs/h", Some(identity)));
+    assert!(rt; opened_identity(&rt, "/dev/null") == Ok(None));
+    assert!(rt; identity_at(&rt, "test_file_inputs") == Ok(None));
     assert!(rt; identity_at(&rt, "test_file_inputs/no") == Ok(None));
-    assert!(rt; identity_of(&File::open(&rt, "/dev/null")?) == Ok(None));
-    fs::remove_dir_all(&rt, place)?;
-    Ok(())
 }
 
 /// The file of a number on a device.

@@ -2,7 +2,6 @@
 use super::memory_names::{MemoryNames, Other};
 use pit_file::{HistoryFile, HistoryOut, HistoryOutput, Stream};
 use pit_num::{Failed, Out};
-use std::test::Fail;
 
 #[test]
 fn a_stream_goes_on(rt: HostRuntime) {
@@ -15,7 +14,7 @@ fn a_stream_goes_on(rt: HostRuntime) {
 }
 
 #[test]
-fn either(rt: HostRuntime) -> Result<(), Fail> {
+fn either(rt: HostRuntime) {
     let sink = Out::new(Vec::new(rt.alloc()));
     let mut out: HistoryOutput<Out<Vec<u8>>, MemoryNames> = HistoryOutput::Stream(Stream { sink });
     assert!(rt; out.keep(b"one") == Ok(()));
@@ -24,5 +23,4 @@ fn either(rt: HostRuntime) -> Result<(), Fail> {
         names,
     ));
     assert!(rt; out.keep(b"one") == Err(Failed));
-    Ok(())
 }

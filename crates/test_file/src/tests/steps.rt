@@ -3,98 +3,114 @@ use super::memory_names::{MemoryNames, Other};
 use pit_file::{FileFault, HistoryFile, HistoryOut, Stage, TwoNames};
 use pit_num::Failed;
 use std::alloc::Global;
-use std::process::Abort;
-use std::test::Fail;
 
 const OLD: &[u8] = b"the old history";
 
 const NEW: &[u8] = b"the new one";
 
 /// The file of an old history, where a step fails, and what a program that was ended left beside it.
-fn old_file(alloc: Global, other: Other, fails_at: u32) -> Result<HistoryFile<MemoryNames>, Fail> {
-    let Some(names) = MemoryNames::new(alloc, other, fails_at).with_history(OLD) else {
-        return Err(Fail::from("no memory"));
-    };
-    let Some(names) = names.with_leftover(b"half of an older text") else {
-        return Err(Fail::from("no memory"));
-    };
-    Ok(HistoryFile::new(names))
+fn old_file(alloc: Global, other: Other, fails_at: u32) -> Option<HistoryFile<MemoryNames>> {
+    let names = MemoryNames::new(alloc, other, fails_at).with_history(OLD)?;
+    let names = names.with_leftover(b"half of an older text")?;
+    Some(HistoryFile::new(names))
 }
 
-/// The old history stands there as it did, and what is at the new file's name is the program's own no longer.
-fn assert_old(rt: &impl Abort, file: &HistoryFile<MemoryNames>, is_left: bool) {
-    assert!(rt; file.names().history() == Some(OLD));
-    assert!(rt; file.names().changes() == 1);
-    assert!(rt; file.names().is_there() == is_left);
+/// Whether the old history stands there as it did, and the new file is there or isn't.
+fn is_old(file: &HistoryFile<MemoryNames>, is_there: bool) -> bool {
+    let names = file.names();
+    names.history() == Some(OLD) && names.changes() == 1 && names.is_there() == is_there
+}
+
+/// Whether a file whose step of this number fails isn't prepared, and is as it was.
+fn stays_unprepared(alloc: Global, fails_at: u32) -> bool {
+    let Some(mut file) = old_file(alloc, Other::Nobody, fails_at) else {
+        return false;
+    };
+    let is_fault = file.prepare() == Err(FileFault::CannotWrite);
+    let is_left = is_old(&file, fails_at < 7) && file.names().steps() == fails_at;
+    is_fault && is_left && file.keep(NEW) == Err(Failed) && is_old(&file, fails_at < 7)
+}
+
+/// Whether one that is prepared, and whose step of this number fails, is as it was.
+fn stays_old(alloc: Global, fails_at: u32) -> bool {
+    let Some(mut file) = old_file(alloc, Other::Nobody, fails_at) else {
+        return false;
+    };
+    let is_ready = file.prepare() == Ok(()) && is_old(&file, true);
+    let is_fault = file.keep(NEW) == Err(Failed) && file.names().steps() == fails_at;
+    is_ready && is_fault && is_old(&file, false)
+}
+
+/// Whether one whose step of this number doesn't come is replaced, and only once.
+fn is_new(alloc: Global, fails_at: u32) -> bool {
+    let Some(mut file) = old_file(alloc, Other::Nobody, fails_at) else {
+        return false;
+    };
+    let is_replaced = file.prepare() == Ok(()) && file.keep(NEW) == Ok(());
+    let is_once = file.keep(OLD) == Err(Failed);
+    file.abandon();
+    let names = file.names();
+    let is_there = names.history() == Some(NEW) && names.changes() == 2 && !names.is_there();
+    is_replaced && is_once && is_there && names.steps() == 13
 }
 
 // Seven steps prepare the file: the history's and the new file are opened in four, and it is locked, looked at and shared. Cutting it, three
 // writes, syncing and renaming are six more.
 #[test]
-fn each_fails_in_turn(rt: HostRuntime) -> Result<(), Fail> {
+fn each_fails_in_turn(rt: HostRuntime) {
     for fails_at in 1..8 {
-        let mut file = old_file(rt.alloc(), Other::Nobody, fails_at)?;
-        assert!(rt; file.prepare() == Err(FileFault::CannotWrite));
-        assert_old(&rt, &file, fails_at < 7);
-        assert!(rt; file.names().steps() == fails_at);
-        assert!(rt; file.keep(NEW) == Err(Failed));
-        assert_old(&rt, &file, fails_at < 7);
+        assert!(rt; stays_unprepared(rt.alloc(), fails_at));
     }
     for fails_at in 8..14 {
-        let mut file = old_file(rt.alloc(), Other::Nobody, fails_at)?;
-        assert!(rt; file.prepare() == Ok(()));
-        assert_old(&rt, &file, true);
-        assert!(rt; file.keep(NEW) == Err(Failed));
-        assert_old(&rt, &file, false);
-        assert!(rt; file.names().steps() == fails_at);
+        assert!(rt; stays_old(rt.alloc(), fails_at));
     }
-    Ok(())
+    assert!(rt; is_new(rt.alloc(), 14));
 }
 
-#[test]
-fn all_succeed(rt: HostRuntime) -> Result<(), Fail> {
-    let mut file = old_file(rt.alloc(), Other::Nobody, 14)?;
-    assert!(rt; file.prepare() == Ok(()));
-    assert!(rt; file.keep(NEW) == Ok(()));
-    assert!(rt; file.names().history() == Some(NEW));
-    assert!(rt; file.names().changes() == 2);
-    assert!(rt; !file.names().is_there());
-    assert!(rt; file.names().steps() == 13);
-    assert!(rt; file.keep(OLD) == Err(Failed));
-    assert!(rt; file.names().history() == Some(NEW));
-    file.abandon();
-    assert!(rt; file.names().history() == Some(NEW));
-    Ok(())
+/// Whether a file is made where nothing is at either name, and which step fails.
+fn is_made(alloc: Global, fails_at: u32) -> bool {
+    let mut file = HistoryFile::new(MemoryNames::new(alloc, Other::Nobody, fails_at));
+    let is_ready = file.prepare() == Ok(());
+    let is_kept = file.keep(NEW) == Ok(());
+    let is_there = file.names().history() == Some(NEW);
+    is_ready == (5 < fails_at) && is_kept == (11 < fails_at) && is_there == is_kept
 }
 
 // With no file at either name, five steps prepare it.
 #[test]
-fn is_made_where_nothing_is(rt: HostRuntime) {
-    for fails_at in 1..12 {
-        let mut file = HistoryFile::new(MemoryNames::new(rt.alloc(), Other::Nobody, fails_at));
-        let is_ready = file.prepare() == Ok(());
-        assert!(rt; is_ready == (5 < fails_at));
-        let is_kept = file.keep(NEW) == Ok(());
-        assert!(rt; is_kept == (11 < fails_at));
-        assert!(rt; file.names().history().is_none());
+fn each_fails_where_nothing_is(rt: HostRuntime) {
+    for fails_at in 1..13 {
+        assert!(rt; is_made(rt.alloc(), fails_at));
     }
-    let mut file = HistoryFile::new(MemoryNames::new(rt.alloc(), Other::Nobody, 0));
-    assert!(rt; file.prepare() == Ok(()));
-    assert!(rt; file.keep(NEW) == Ok(()));
-    assert!(rt; file.names().history() == Some(NEW));
+}
+
+/// Whether a file is abandoned: nothing is done to a new file that isn't its own yet.
+fn is_abandoned(alloc: Global) -> bool {
+    let Some(mut file) = old_file(alloc, Other::Nobody, 0) else {
+        return false;
+    };
+    file.abandon();
+    let is_left = is_old(&file, true);
+    let is_ready = file.prepare() == Ok(()) && is_old(&file, true);
+    file.abandon();
+    is_left && is_ready && is_old(&file, false) && file.names().stage() == Stage::Gone
 }
 
 #[test]
-fn is_abandoned(rt: HostRuntime) -> Result<(), Fail> {
-    let mut file = old_file(rt.alloc(), Other::Nobody, 0)?;
+fn abandons(rt: HostRuntime) {
+    assert!(rt; is_abandoned(rt.alloc()));
+}
+
+/// Whether a file is refused so, and nothing is done to what stands at the new file's name.
+fn is_refused(alloc: Global, other: Other, fault: FileFault) -> bool {
+    let Some(mut file) = old_file(alloc, other, 0) else {
+        return false;
+    };
+    let is_fault = file.prepare() == Err(fault);
+    let was_there = file.names().is_there();
     file.abandon();
-    assert_old(&rt, &file, true);
-    assert!(rt; file.prepare() == Ok(()));
-    assert_old(&rt, &file, true);
-    file.abandon();
-    assert_old(&rt, &file, false);
-    assert!(rt; file.names().stage() == Stage::Gone);
-    Ok(())
+    let is_fault = is_fault && file.keep(NEW) == Err(Failed);
+    is_fault && is_old(&file, was_there)
 }
 
 const OTHERS: &[(Other, FileFault)] = &[
@@ -105,25 +121,23 @@ const OTHERS: &[(Other, FileFault)] = &[
 ];
 
 #[test]
-fn is_in_use_or_unfit(rt: HostRuntime) -> Result<(), Fail> {
+fn others(rt: HostRuntime) {
     for (other, fault) in OTHERS {
-        let mut file = old_file(rt.alloc(), *other, 0)?;
-        assert!(rt; file.prepare() == Err(*fault));
-        assert!(rt; file.names().history() == Some(OLD));
-        let was_there = file.names().is_there();
-        file.abandon();
-        assert!(rt; file.names().is_there() == was_there);
-        assert!(rt; file.keep(NEW) == Err(Failed));
-        assert!(rt; file.names().history() == Some(OLD));
+        assert!(rt; is_refused(rt.alloc(), *other, *fault));
     }
-    Ok(())
+}
+
+/// Whether a file is replaced whose new file another program takes away so many times.
+fn is_opened_again(alloc: Global, times: u32) -> bool {
+    let Some(mut file) = old_file(alloc, Other::TakesAway(times), 0) else {
+        return false;
+    };
+    let is_replaced = file.prepare() == Ok(()) && file.keep(NEW) == Ok(());
+    is_replaced && file.names().history() == Some(NEW)
 }
 
 #[test]
-fn is_opened_again(rt: HostRuntime) -> Result<(), Fail> {
-    let mut file = old_file(rt.alloc(), Other::TakesAway(999), 0)?;
-    assert!(rt; file.prepare() == Ok(()));
-    assert!(rt; file.keep(NEW) == Ok(()));
-    assert!(rt; file.names().history() == Some(NEW));
-    Ok(())
+fn opens_again(rt: HostRuntime) {
+    assert!(rt; is_opened_again(rt.alloc(), 1));
+    assert!(rt; is_opened_again(rt.alloc(), 999));
 }
