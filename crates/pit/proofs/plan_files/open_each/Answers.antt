@@ -2,7 +2,7 @@ use Rattle.std.proofs.Common.{ℕ, List, [], ◌∷◌, ◌++◌, Option, inl, i
 use Rattle.std.proofs.lemmas.List.{get_or_default, map_push, take_more}
 use Rattle.pit_step.specs.declared.input.Input.{Input}
 use Rattle.pit_step.specs.declared.input.Input.TheVariants.{Model}
-use Rattle.pit.specs.Runs.{file_bytes, file_opens}
+use Rattle.pit.specs.Files.{file_bytes, file_opens}
 use Rattle.pit_step.proofs.CallerLemmas.{err_handed}
 use Rattle.pit.proofs.PlanFiles.{opens-stop, opens-more, opening-left}
 use Rattle.pit.proofs.plan_files.open_each.Goals as goal

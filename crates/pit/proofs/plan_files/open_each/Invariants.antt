@@ -1,6 +1,6 @@
 use Rattle.std.proofs.Common.{◌≡◌, map, take}
 use Rattle.pit.specs.Files.{open_each}
-use Rattle.pit.specs.Runs.{file_bytes, file_opens}
+use Rattle.pit.specs.Files.{file_bytes, file_opens}
 use Rattle.pit.specs.Inside.Files.{still}
 use Rattle.pit.proofs.plan_files.open_each.Given as goal
 

@@ -8,7 +8,7 @@ use Rattle.pit_step.specs.Steps.{in_turn, may_step}
 use Rattle.pit_command.specs.Asked.{path_of}
 use Rattle.pit.specs.Files.{open_each}
 use Rattle.pit.specs.Inside.Files.{still}
-use Rattle.pit.specs.Runs.{file_bytes, file_opens}
+use Rattle.pit.specs.Files.{file_bytes, file_opens}
 use Rattle.pit.specs.PlanRun.{plan_inputs, read_each}
 use Rattle.pit.proofs.PlanFiles.{plan-length, read-length, some-given, wants-list, unopened, unread, all_read}
 use Rattle.pit.proofs.plan_files.plan_input.Goals as goal
