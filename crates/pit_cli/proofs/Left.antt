@@ -37,7 +37,7 @@ left_as closed desk plan periods is at kept same count =
 
 -- where nothing was called, an output was left alone
 as_itself : (output : OutputState) → IsAsBefore output output
-as_itself (stream held failed) = keeps_itself (λ (known : Option (List ℕ)). known) held
+as_itself (stream held failed) = keeps_itself held
 as_itself (file stood failed) = refl
 
 pub left_itself : {S : Type 0} (state : S → OutputState) (output : Option S) → IsLeft (known_if (λ old new. keeping_of (state old) (state new)) output output)

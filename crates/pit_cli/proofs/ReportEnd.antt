@@ -79,6 +79,9 @@ module _ (is_strict : Bool) where
   abbrev same : Ending → Ending
   same ending = ending
 
+  abbrev ok_of : Status → Ending
+  ok_of status = Ok status
+
   abbrev stopped : Ending
   stopped = Err Stopped
 
@@ -297,17 +300,17 @@ module _ (is_strict : Bool) where
   job_status : (what : Outcome) (status : Status) → at_job what (Ok status) ≡ Ok (graded (was_granted what) status)
   job_status (outcome.Committed n tries) status = by is_strict
     where
-      by : (b : Bool) → Ok {E = CliFault} status ≡ Ok (if b && false then Failed else status)
+      by : (b : Bool) → ok_of status ≡ ok_of (if b && false then Failed else status)
       by true = refl
       by false = refl
   job_status (outcome.Withdrawn tries) status = by is_strict
     where
-      by : (b : Bool) → Ok {E = CliFault} status ≡ Ok (if b && false then Failed else status)
+      by : (b : Bool) → ok_of status ≡ ok_of (if b && false then Failed else status)
       by true = refl
       by false = refl
   job_status (outcome.Refused why tries) status = by is_strict
     where
-      by : (b : Bool) → (if b then Ok {E = CliFault} Failed else Ok status) ≡ Ok (if b && true then Failed else status)
+      by : (b : Bool) → (if b then ok_of Failed else ok_of status) ≡ ok_of (if b && true then Failed else status)
       by true = refl
       by false = refl
 
@@ -324,7 +327,7 @@ module _ (is_strict : Bool) where
   jobs_status : (jobs : List Outcome) (status : Status) → by_jobs jobs (Ok status) ≡ Ok (graded (list_all was_granted jobs) status)
   jobs_status [] status = by is_strict
     where
-      by : (b : Bool) → Ok {E = CliFault} status ≡ Ok (if b && false then Failed else status)
+      by : (b : Bool) → ok_of status ≡ ok_of (if b && false then Failed else status)
       by true = refl
       by false = refl
   jobs_status (what ∷ more) status =
@@ -339,6 +342,7 @@ module _ (is_strict : Bool) where
       either : (b : Bool) → (if b then stopped else stopped) ≡ stopped
       either true = refl
       either false = refl
+
       one : (what : Outcome) → at_job what stopped ≡ stopped
       one (outcome.Committed n tries) = refl
       one (outcome.Withdrawn tries) = refl
@@ -355,7 +359,7 @@ module _ (is_strict : Bool) where
   by_each : (runs : List RunState) (status : Status) → by_runs runs (Ok status) ≡ (if all_whole runs then Ok (graded (all_granted runs) status) else Err Stopped)
   by_each [] status = by is_strict
     where
-      by : (b : Bool) → Ok {E = CliFault} status ≡ Ok (if b && false then Failed else status)
+      by : (b : Bool) → ok_of status ≡ ok_of (if b && false then Failed else status)
       by true = refl
       by false = refl
   by_each (run ∷ runs) status =

@@ -1,9 +1,10 @@
-use Rattle.std.proofs.Common.{List, ap, ◌∙◌}
-use Rattle.pit_desk.specs.History.{Answered}
+use Rattle.std.proofs.Common.{Bool, List, ◌++◌, ap, ◌∙◌}
+use Rattle.pit_desk.specs.History.{Answered, commits_of}
 use Rattle.pit_desk.specs.State.{State}
 use Rattle.pit_step.proofs.CallerLemmas.{keeps_itself}
 use Rattle.pit_lines.specs.Texts.{history_text}
 use Rattle.pit_opening.specs.Beginnings.{is_carried_on}
+use Rattle.pit_cli.specs.Output.{new_line, report_text}
 use Rattle.pit_cli.proofs.Left.{left_as, left_itself, if_itself, outputs_untouched, was_there, written_as, ran_as, ran_wants, never_ran}
 use Rattle.pit_cli.proofs.engine.plan.Goals as goal
 
@@ -27,9 +28,10 @@ returns-in_default-lines_if-clause-done g c =
 pub returns-clause-done : goal.returns-clause-done
 returns-clause-done g c =
     ran_as c.args.input c.args.options _ _ _ (c.in-Ok.ran.closed, c.in-Ok.ran.runs.items) _ c.in-Ok.ensures
-    (written_as _ _ _ _ _ _ _ _ _ _ c.is_carried_on.ensures
+    (written_as _ _ _ _ _ _ _ _ _ _ c.is_carried_on-is_first.ensures
     (left_as c.in-Ok.ran.closed c.desk-2.result.now c.plan.result.now c.periods.result.now c.desk-2.ensures c.plan.ensures.plan c.plan.ensures.kept c.periods.ensures.periods c.periods.ensures.count)
-    (c.deref.ensures.value ∙ c.in-Ok-reported.ensures.text)
+    (c.deref.ensures.value ∙ c.in-Ok-reported.ensures.text
+    ∙ ap (λ (b : Bool). new_line b ++ report_text c.in-Ok.ran.closed.plan.pit (commits_of c.in-Ok.ran.closed.history) c.in-Ok.ran.runs.items) c.is_new-is_new.ensures)
     (λ there. c.deref-2.ensures.value ∙ c.in-Ok-lines_if.ensures (c.is_some.ensures ∙ was_there _ c.args.history.now c.write_outputs-answer.new.history there)
     ∙ ap (λ (es : List Answered). history_text es) (c.history.ensures.history ∙ ap (λ (d : State). d.history) c.desk.ensures))
     c.in-Ok-reported.ensures.ended c.write_outputs-answer.ensures.written)
