@@ -54,7 +54,11 @@ fn assert_fault(rt: &impl Abort, alloc: Global, part: &[u8], cause: LinesCause) 
         file: Input::History,
         error: LinesError { line, cause },
     };
-    assert!(rt; is_logged(alloc, part, true, Err(fault), b""), "at {}", part.len());
+    assert!(rt;
+        is_logged(alloc, part, true, Err(fault), b""),
+        "at {}",
+        part.len()
+    );
 }
 
 fn assert_part(rt: &impl Abort, alloc: Global, part: &[u8]) -> Result<(), Fail> {
@@ -63,7 +67,11 @@ fn assert_part(rt: &impl Abort, alloc: Global, part: &[u8]) -> Result<(), Fail> 
         return Ok(());
     }
     let written = log_of(rt, alloc, entries_in(part))?;
-    assert!(rt; is_logged(alloc, part, true, Ok(Status::Fine), &written), "at {}", part.len());
+    assert!(rt;
+        is_logged(alloc, part, true, Ok(Status::Fine), &written),
+        "at {}",
+        part.len()
+    );
     Ok(())
 }
 

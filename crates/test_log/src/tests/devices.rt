@@ -50,11 +50,7 @@ fn is_without_history(alloc: Global, calls: usize) -> bool {
     let (mut model, mut precedence) = (In::new(TINY_MODEL), In::new(TINY_PRECEDENCE));
     let mut history = Broken::new(REVISING.as_bytes(), 1, calls);
     let answered = answered(alloc, &mut model, &mut precedence, &mut history);
-    is_answer(
-        &answered,
-        Err(CliFault::CannotRead(Input::History)),
-        b"",
-    )
+    is_answer(&answered, Err(CliFault::CannotRead(Input::History)), b"")
 }
 
 #[test]

@@ -9,7 +9,8 @@ pub(super) const MEETING: &str = "{\"format\":1}
 ";
 
 /// Its log, with the lines of writes.
-pub(super) const MEETING_LOG: &str = "entry 1 planner 0 job 0 start 0 reads 0 writes 1 revises 0 cause - committed 1
+pub(super) const MEETING_LOG: &str =
+    "entry 1 planner 0 job 0 start 0 reads 0 writes 1 revises 0 cause - committed 1
 write 3 - 1
 entry 2 planner 2 job 1 start 1 reads 0 writes 1 revises 0 cause - committed 2
 write 3 1 -
@@ -39,7 +40,8 @@ pub(super) const REVISING: &str = "{\"format\":2}
 ";
 
 /// Its log, with the lines of writes. The value is -10 + 20.5 + 5.
-pub(super) const REVISING_LOG: &str = "entry 1 planner 1 job 1 start 0 reads 0 writes 2 revises 0 cause - committed 1
+pub(super) const REVISING_LOG: &str =
+    "entry 1 planner 1 job 1 start 0 reads 0 writes 2 revises 0 cause - committed 1
 write 0 - 0
 write 1 - 0
 entry 2 planner 1 job 2 start 1 reads 0 writes 1 revises 1 cause - committed 2
@@ -60,7 +62,8 @@ pub(super) const TAKING_OUT: &str = "{\"format\":1}
 ";
 
 /// Its log.
-pub(super) const TAKING_OUT_LOG: &str = "entry 1 planner 1 job 1 start 0 reads 0 writes 1 revises 0 cause - committed 1
+pub(super) const TAKING_OUT_LOG: &str =
+    "entry 1 planner 1 job 1 start 0 reads 0 writes 1 revises 0 cause - committed 1
 entry 2 planner 2 job 1 start 1 reads 1 writes 1 revises 0 cause - committed 2
 entry 3 planner 1 job 2 start 2 reads 0 writes 1 revises 0 cause 2 refused precedence 1 0
 entry 4 planner 1 job 3 start 2 reads 0 writes 2 revises 0 cause - refused precedence 1 0
@@ -83,7 +86,8 @@ pub(super) const WRITING: &str = "{\"format\":2}
 ";
 
 /// Its log, with the lines of writes. The value is -10 + 20.5 * 0.909090909091 + 5.
-pub(super) const WRITING_LOG: &str = "entry 1 planner 3 job 1 start 0 reads 0 writes 0 revises 2 cause - committed 1
+pub(super) const WRITING_LOG: &str =
+    "entry 1 planner 3 job 1 start 0 reads 0 writes 0 revises 2 cause - committed 1
 revise 0 1 4.000000 -
 revise 0 0 4.000000 7.000000
 entry 2 planner 1 job 1 start 1 reads 0 writes 1 revises 0 cause - committed 2
