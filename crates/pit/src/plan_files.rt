@@ -89,7 +89,7 @@ fn has_begin_input(given: &ArgMatches<'_>, is_there: bool) -> bool
 
 /// Adds an input where it is there.
 fn push_if(inputs: &mut Vec<Input>, is_there: bool, input: Input) -> Result<(), CliFault>
-    ensures ok { OnOk result (inputs.new.items ≡ inputs.old.items ++ input_if is_there input) }
+    ensures ok { OnOk result (inputs.new.items ≡ inputs.old.items ++ one_if is_there input) }
     ensures err { IfErr result (λ fault. fault ≡ CliFault.NoMemory) }
 {
     if is_there {

@@ -1,6 +1,6 @@
 //! The run of `plan` on the files that the words name. A history that is carried on is held from before the first input is opened; another is once all
 //! inputs are read.
-ghost use Rattle.std.specs.Prelude.{◌≡◌, ◌≤◌, true, false, None};
+ghost use Rattle.std.specs.Prelude.{◌≡◌, ◌≤◌, true, false, is_some};
 ghost use Rattle.pit_job.specs.declared.planner_run.TheConstants.{RETRIES_MAX};
 ghost use Rattle.pit_step.specs.Steps.{IsResultOf};
 ghost use Rattle.pit_step.specs.Devices.{writing_of, known_if};

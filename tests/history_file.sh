@@ -1,0 +1,273 @@
+#!/usr/bin/env bash
+# The file of a history that a built `pit` writes. Each call by which it opens, locks, writes, syncs, renames or removes that file or the new one beside
+# it is refused in turn, and the program is killed before each in turn: the file then holds the old history or the whole new one, and the next run
+# succeeds. Two programs that write one history, links, permissions, and what stands at the new file's name.
+# usage: tests/history_file.sh PIT      PIT is the path of the program. Wants a C compiler and python3.
+set -u
+
+if [ $# -ne 1 ] || [ ! -x "$1" ]; then
+    echo "usage: $0 PIT" >&2
+    exit 2
+fi
+pit=$(realpath "$1")
+work=$(mktemp -d)
+trap 'chmod -R u+rwx "$work"; rm -rf "$work"' EXIT
+cd "$work" || exit 2
+umask 022
+failures=0
+
+# says NAME COMMAND..: tells whether the command succeeds.
+says() {
+    local name=$1
+    shift
+    if "$@"; then
+        echo "ok    $name"
+    else
+        echo "FAIL  $name"
+        failures=$((failures + 1))
+    fi
+}
+
+cat >model <<'TEXT'
+NAME: Tiny
+TYPE: CPIT
+NBLOCKS: 4
+NPERIODS: 2
+NRESOURCE_SIDE_CONSTRAINTS: 1
+DISCOUNT_RATE: 0.1
+OBJECTIVE_FUNCTION:
+0 -10
+1 20.5
+2 30
+3 5
+RESOURCE_CONSTRAINT_COEFFICIENTS:
+0 0 2
+1 0 2
+2 0 3
+3 0 1
+RESOURCE_CONSTRAINT_LIMITS:
+0 0 L 4
+0 1 I 1 4
+EOF
+TEXT
+printf '1 1 0\n2 2 0 1\n' >precedence
+printf 'begin\nput 3 1\ncommit\n' >script
+cat >old <<'TEXT'
+{"format":1}
+TEXT
+
+# A call that is for the history: its path begins with `kept`, or its descriptor is none of the standard streams. FAULT_AT counts such calls
+# from 1. That call is refused, or, with FAULT_KILLS set, the program is killed before it.
+cat >fault.c <<'TEXT'
+#define _GNU_SOURCE
+#include <dlfcn.h>
+#include <errno.h>
+#include <fcntl.h>
+#include <signal.h>
+#include <stdarg.h>
+#include <stdio.h>
+#include <stdlib.h>
+#include <string.h>
+#include <sys/types.h>
+#include <unistd.h>
+static int is_kept(const char *path) {
+    const char *last = strrchr(path, '/');
+    return strncmp(last ? last + 1 : path, "kept", 4) == 0;
+}
+static int is_refused(int is_for_history, int error) {
+    static long calls;
+    const char *text = getenv("FAULT_AT");
+    if (!is_for_history || !text || ++calls != atol(text)) return 0;
+    if (getenv("FAULT_KILLS")) raise(SIGKILL);
+    errno = error;
+    return 1;
+}
+#define NEXT(name) static __typeof__(name) *next; if (!next) *(void **)&next = dlsym(RTLD_NEXT, #name)
+static mode_t mode_of(int flags, va_list rest) { return flags & O_CREAT ? va_arg(rest, mode_t) : 0; }
+#define OPENS(name) \
+int name(const char *path, int flags, ...) { \
+    NEXT(name); \
+    va_list rest; va_start(rest, flags); mode_t mode = mode_of(flags, rest); va_end(rest); \
+    return is_refused(is_kept(path), EACCES) ? -1 : next(path, flags, mode); \
+}
+OPENS(open)
+OPENS(open64)
+int flock(int fd, int how);
+int flock(int fd, int how) { NEXT(flock); return is_refused(1, ENOLCK) ? -1 : next(fd, how); }
+int ftruncate(int fd, off_t size) { NEXT(ftruncate); return is_refused(1, EIO) ? -1 : next(fd, size); }
+int ftruncate64(int fd, off64_t size) { NEXT(ftruncate64); return is_refused(1, EIO) ? -1 : next(fd, size); }
+int fsync(int fd) { NEXT(fsync); return is_refused(1, EIO) ? -1 : next(fd); }
+int fchmod(int fd, mode_t mode) { NEXT(fchmod); return is_refused(1, EPERM) ? -1 : next(fd, mode); }
+int fchown(int fd, uid_t user, gid_t group) { NEXT(fchown); return is_refused(1, EPERM) ? -1 : next(fd, user, group); }
+int rename(const char *from, const char *to) { NEXT(rename); return is_refused(is_kept(from), EIO) ? -1 : next(from, to); }
+int unlink(const char *path) { NEXT(unlink); return is_refused(is_kept(path), EIO) ? -1 : next(path); }
+ssize_t write(int fd, const void *bytes, size_t size) {
+    NEXT(write);
+    if (is_refused(fd > 2, ENOSPC)) return -1;
+    return next(fd, bytes, fd > 2 && size > 16 ? 16 : size);
+}
+TEXT
+${CC:-cc} -shared -fPIC -o fault.so fault.c -ldl || exit 2
+
+plan() { "$pit" plan --history "${1:-kept}" model precedence script >out 2>err </dev/null; }
+is_file() { cmp -s "$1" "$2"; }
+holds_either() { is_file kept old || is_file kept new; }
+is_told() { [ "$(tail -n 1 err)" = "$1" ]; }
+
+plan new || [ $? = 1 ]
+says 'a history is made' test -s new
+says 'no new file is left' test ! -e new.pit-new
+
+# begin: the old history, alone.
+begin() { rm -rf kept kept.pit-new; cp old kept; chmod 640 kept; }
+
+refused=0
+left=0
+for number in {1..60}; do
+    begin
+    FAULT_AT=$number LD_PRELOAD=./fault.so plan
+    status=$?
+    if [ "$status" = 3 ] && is_file kept old && is_told 'pit: cannot write'; then
+        refused=$((refused + 1))
+        [ ! -e kept.pit-new ] || left=$((left + 1))
+    elif [ "$status" = 3 ] || ! is_file kept new || [ -e kept.pit-new ]; then
+        echo "FAIL  call $number refused: status $status"
+        failures=$((failures + 1))
+    fi
+    plan
+    if ! is_file kept new || [ -e kept.pit-new ]; then
+        echo "FAIL  the run after call $number was refused"
+        failures=$((failures + 1))
+    fi
+done
+says "each of some calls is refused, $refused in all" test "$refused" -gt 8
+says 'a new file is left only where it could not be locked' test "$left" = 1
+
+killed=0
+for number in {1..60}; do
+    begin
+    FAULT_KILLS=1 FAULT_AT=$number LD_PRELOAD=./fault.so plan
+    status=$?
+    [ "$status" = 137 ] && killed=$((killed + 1))
+    if ! holds_either || [ "$(stat -c %a kept)" != 640 ]; then
+        echo "FAIL  killed before call $number: status $status"
+        failures=$((failures + 1))
+    fi
+    plan
+    if ! is_file kept new || [ -e kept.pit-new ] || [ "$(stat -c %a kept)" != 640 ]; then
+        echo "FAIL  the run after it was killed before call $number"
+        failures=$((failures + 1))
+    fi
+done 2>/dev/null
+says "it is killed before each of some calls, $killed in all" test "$killed" -gt 8
+
+# A program that was ended leaves its new file, with whatever it holds and may be.
+begin
+head -c 100000 /dev/zero >kept.pit-new
+chmod 600 kept.pit-new
+plan
+says 'what was left is used again' is_file kept new
+says 'with the permissions of the old history' test "$(stat -c %a kept)" = 640
+rm kept
+head -c 100000 /dev/zero >kept.pit-new
+chmod 600 kept.pit-new
+plan
+says 'where no history stands, with those of a new file' test "$(stat -c %a kept)" = 644
+
+# Another program that has locked the new file.
+begin
+: >kept.pit-new
+python3 - kept.pit-new <<'TEXT' &
+import fcntl, sys, time
+file = open(sys.argv[1], "r+")
+fcntl.flock(file, fcntl.LOCK_EX)
+open("locked", "w").close()
+time.sleep(60)
+TEXT
+holder=$!
+while [ ! -e locked ]; do sleep 0.05; done
+plan
+status=$?
+says 'it is in use' test "$status" = 3
+says 'it says so' is_told 'pit: history is in use'
+says 'the old history stays' is_file kept old
+says 'the new file stays' test -e kept.pit-new
+kill "$holder"
+wait "$holder" 2>/dev/null
+plan
+says 'it is free once that program has ended' is_file kept new
+
+# Several programs at once: each writes the history whole, or is told that it is in use.
+race() {
+    "$pit" plan --history kept model precedence script >out."$1" 2>err."$1" </dev/null
+    local status=$?
+    [ "$status" -lt 2 ] || { [ "$status" = 3 ] && [ "$(tail -n 1 err."$1")" = 'pit: history is in use' ]; } || : >failed
+    [ "$status" -gt 1 ] || : >written
+}
+raced=0
+for _ in {1..30}; do
+    begin
+    rm -f written failed
+    for number in {1..8}; do race "$number" & done
+    wait
+    [ -e written ] && [ ! -e failed ] && is_file kept new && [ ! -e kept.pit-new ] && raced=$((raced + 1))
+done
+says 'of several programs some write it, and the others are told' test "$raced" = 30
+
+# Links.
+begin
+ln -sf kept link
+plan link
+says 'a link leads to the history' is_file kept new
+says 'and stays a link' test -L link
+ln -sf nowhere lost
+plan lost
+status=$?
+says 'a link that leads nowhere' test "$status" = 3
+says 'is not written' is_told 'pit: cannot write'
+says 'and makes nothing' test ! -e nowhere
+begin
+cp old other
+ln -s other kept.pit-new
+plan
+says 'a link at the name of the new file' is_told 'pit: cannot write'
+says 'is not followed' is_file other old
+begin
+mkdir kept.pit-new
+plan
+says 'a folder at the name of the new file' is_told 'pit: cannot write'
+says 'stays' test -d kept.pit-new
+rmdir kept.pit-new
+begin
+ln kept kept.pit-new
+plan
+says 'the history itself at the name of the new file' is_told 'pit: cannot write'
+says 'stays as it is' is_file kept old
+
+# A pipe is written as it is.
+rm -rf kept kept.pit-new
+mkfifo kept
+cat kept >taken &
+plan
+wait $!
+says 'a pipe gets the history' is_file taken new
+says 'and stays a pipe' test -p kept
+rm kept
+
+# A history that is an input too.
+begin
+cp script kept.pit-new
+"$pit" plan --history kept model precedence kept.pit-new >out 2>err
+status=$?
+says 'the new file is an input' test "$status" = 2
+says 'it says that too' is_told 'pit: history is an input'
+says 'the input stays' is_file kept.pit-new script
+begin
+cp script kept
+ln kept hard
+"$pit" plan --history hard model precedence kept >out 2>err
+says 'the history is an input by another name' is_told 'pit: history is an input'
+says 'and stays' is_file kept script
+says 'no new file is made' test ! -e hard.pit-new
+
+[ "$failures" = 0 ]
