@@ -44,15 +44,19 @@ test:
 	rt ci | scripts/progress.sh
 	cp $(PROVED) pit.new
 	mv pit.new pit
-	@echo 'shell tests, 1 of 5: files, streams and words'
+	@echo 'shell tests, 1 of 7: files, streams and words'
 	tests/cli.sh ./pit
-	@echo 'shell tests, 2 of 5: no memory'
+	@echo 'shell tests, 2 of 7: no memory'
 	tests/no_memory.sh ./pit $(EXAMPLE)
-	@echo 'shell tests, 3 of 5: plans and replays'
+	@echo 'shell tests, 3 of 7: plans and replays'
 	tests/replay.sh ./pit
-	@echo 'shell tests, 4 of 5: programs that have to be refused'
+	@echo 'shell tests, 4 of 7: the file of a history'
+	tests/history_file.sh ./pit
+	@echo 'shell tests, 5 of 7: histories that are carried on'
+	tests/carry_on.sh ./pit
+	@echo 'shell tests, 6 of 7: programs that have to be refused'
 	tests/misuse.sh
-	@echo 'shell tests, 5 of 5: installing'
+	@echo 'shell tests, 7 of 7: installing'
 	tests/install.sh
 
 pit.1: pit scripts/help.py

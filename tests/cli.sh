@@ -380,15 +380,26 @@ kept() {
     : >err
     compare "$1" 0 '' ''
 }
+# absent NAME FILE..: none of them is there.
+absent() {
+    local name=$1 file
+    shift
+    status=0
+    for file in "$@"; do [ ! -e "$file" ] && [ ! -L "$file" ] || status="left $file"; done
+    : >out
+    : >err
+    compare "$name" 0 '' ''
+}
 check 'plan with a history' 0 "$PLANNED" "$REPORT" plan --history kept model precedence script
 kept 'the history' kept "$HISTORY"
+absent 'no new file is left beside it' kept.pit-new
 "$pit" show model kept >out 2>err
 status=$?
 sed -i 1d out
 compare 'show, the history of a plan is its solution behind the comment' 0 "$PLANNED" ''
 head -c 10000 /dev/zero | tr '\0' x >longer
 check 'plan with a history over a longer file' 0 "$PLANNED" "$REPORT" plan model precedence script --history=longer
-kept 'the longer file is cut' longer "$HISTORY"
+kept 'the longer file is replaced' longer "$HISTORY"
 check 'plan, a history with revised limits' 1 '0 0
 1 0
 3 0' 'planner 1 job 1 committed 2 tries 1
@@ -439,16 +450,16 @@ check 'replay, no file at all' 3 '' 'pit: cannot read model' replay missing miss
 check 'replay, no precedences' 3 '' 'pit: cannot read precedence' replay refused missing missing
 check 'replay, no history' 3 '' 'pit: cannot read history' replay refused refused missing
 check 'replay, the history is a folder' 3 '' 'pit: cannot read history' replay model precedence folder
-# The history's file is opened once all inputs are read, and before one is parsed; until it is written it stays as it was.
+# The history's new file is opened once all inputs are read, and before one is parsed; until it is whole the old one stays as it was.
 cp kept before
 check 'plan, a fault behind the opening' 2 '' 'pit: script 1 line 1: unknown word' plan --history before model precedence refused
 kept 'the old history' before "$HISTORY"
+absent 'and no new one' before.pit-new
 check 'plan, a history that does not open' 3 '' 'pit: cannot write' plan --history folder refused refused refused
 check 'plan, an input that does not open goes first' 3 '' 'pit: cannot read script 1' plan --history folder refused refused missing
 check 'plan, an input that cannot be read goes first' 3 '' 'pit: cannot read script 1' plan --history folder refused refused folder
 check 'plan, an input that does not open leaves no history' 3 '' 'pit: cannot read script 1' plan --history fresh model precedence missing
-[ ! -e fresh ] || status=left
-compare 'and its file is not made' 3 '' 'pit: cannot read script 1'
+absent 'and its file is not made' fresh fresh.pit-new
 check 'plan, the history is no input before it is made' 3 '' 'pit: cannot read script 1' plan --history fresh model precedence fresh
 check 'plan, no folder for the history' 3 '' 'pit: cannot write' plan --history missing/kept model precedence script
 check 'plan, a full history' 3 "$PLANNED" "$REPORT
@@ -462,17 +473,244 @@ compare 'plan, a long history' 0 '3 1' 'value 4.545454545455000000'
 (
     ulimit -f 8
     trap '' XFSZ
-    exec "$pit" plan --history cut model precedence many >out 2>/dev/null
+    exec "$pit" plan --history short model precedence many >out 2>/dev/null
 )
 status=$?
 : >err
-[ "$(wc -c <cut)" = 8192 ] && [ "$(wc -c <whole)" -gt 8192 ] && cmp -s cut <(head -c 8192 whole) || status=lacking
-compare 'plan, a file that is full behind a part of the history' 3 '3 1' ''
+compare 'plan, a new file that is full behind a part of the history' 3 '3 1' ''
+absent 'it is removed' short short.pit-new
+cp kept short
+(
+    ulimit -f 8
+    trap '' XFSZ
+    exec "$pit" plan --continue short model precedence many >out 2>err
+)
+status=$?
+compare 'plan, the same where a history is carried on' 3 '' 'pit: cannot write'
+kept 'which stays as it was' short "$HISTORY"
+absent 'and nothing is left beside it' short.pit-new
 "$pit" plan --history >(cat >piped) model precedence script >out 2>err
 status=$?
 for i in {1..100}; do [ "$(wc -l <piped)" -ge 4 ] && break; sleep 0.05; done
 compare 'plan, a history to a pipe' 0 "$PLANNED" "$REPORT"
 kept 'the history that went through it' piped "$HISTORY"
+
+# Histories that are carried on. What is written has all entries, the old ones and the new ones.
+printf 'begin\nput 2 1\nclear 3\ncommit\n' >work
+readonly CARRIED="$HISTORY
+{\"act\":\"commit\",\"job\":1,\"planner\":1,\"reads\":[],\"reply\":{\"committed\":3},\"start\":2,\"writes\":[[2,1],[3,null]]}"
+readonly REPORT_ON="planner 1 job 1 committed 3 tries 1
+value $VALUE"
+check 'plan, from a history' 0 '0 0
+1 0
+2 1' "$REPORT_ON" plan --start kept --history carried model precedence work
+kept 'all entries are written' carried "$CARRIED"
+kept 'the start stays as it was' kept "$HISTORY"
+cp kept carried
+check 'plan, a history is carried on' 0 '0 0
+1 0
+2 1' "$REPORT_ON" plan --continue carried model precedence work
+kept 'all entries are written back' carried "$CARRIED"
+absent 'no new file is left beside them' carried.pit-new
+check 'replay, what was carried on' 0 "legal 4 3
+value $VALUE" '' replay model precedence carried
+printf 'begin\ncommit\n' >nothing
+readonly REPORT_REVISED='planner 1 job 1 committed 3 tries 1
+value 15.500000000000000000
+short 0 1 0.000000 1.000000'
+check 'plan, from a history that revised a limit' 1 '0 0
+1 0
+3 0' "$REPORT_REVISED" plan --start third model precedence nothing
+check 'plan, from its solution' 2 '' 'pit: start: over 0 0 5.000000 4.000000' plan --start heavy model precedence nothing
+sed 's/{"committed":2}/{"committed":3}/' kept >illegal
+cp illegal other
+check 'plan, from a history that is not legal' 2 '' 'pit: start: illegal 3' plan --start illegal model precedence work
+check 'plan, a history that is not legal is carried on' 2 '' 'pit: history: illegal 3' plan --continue illegal model precedence work
+status=0
+cmp -s illegal other || status=other
+: >err
+compare 'it stays as it was' 0 '' ''
+absent 'and no new file is left beside it' illegal.pit-new
+check 'plan, a solution is carried on' 2 '' 'pit: history line 1: not json' plan --continue solution model precedence work
+kept 'and stays' solution '0 0
+1 0
+2 1'
+absent 'with no new file beside it' solution.pit-new
+check 'plan, a script is at fault behind the history' 2 '' 'pit: script 1 line 1: unknown word' plan --continue illegal model precedence refused
+check 'plan, a limit below zero goes before a history that is not legal' 2 '' 'pit: model: upper limit below zero 0 0' plan --continue illegal unmeetable precedence work
+check 'plan, a history that is not legal goes before the count of planners' 2 '' 'pit: history: illegal 3' plan --continue illegal model precedence "${scripts[@]}" empty
+check 'plan, a history begins' 0 "$PLANNED" "history new
+$REPORT" plan --continue begun model precedence script
+kept 'it is written' begun "$HISTORY"
+check 'plan, and goes on' 0 "$PLANNED" 'planner 1 job 1 committed 3 tries 1
+planner 1 job 2 refused over 0 0 5.000000 4.000000 tries 1
+planner 1 job 3 committed 4 tries 1
+value 15.045454545455000000' plan --continue begun model precedence script
+kept 'with the same three entries once more' begun "$HISTORY
+$(tail -n +2 <<<"$HISTORY" | sed '1s/"start":0/"start":2/; 2,3s/"start":1/"start":3/; s/{"committed":2}/{"committed":4}/; s/{"committed":1}/{"committed":3}/')"
+absent 'and nothing beside it' begun.pit-new
+printf '3 1\n' >late_start
+printf 'begin\nshift 3 -1\ncommit\n' >earlier
+printf 'begin\nclear 3\ncommit\n' >cleared
+check 'plan, planners in turn' 1 '' 'planner 1 job 1 committed 2 tries 1
+planner 2 job 1 committed 3 tries 1
+value 0.000000000000000000
+short 0 1 0.000000 1.000000' plan --start late_start --in-turn model precedence earlier cleared
+check 'plan, a refused job counts' 1 "$PLANNED" "$REPORT" plan --strict model precedence script
+printf 'begin\nput 3 1\ncommit\nbegin\nshift 3 1\ncommit\n' >withdrawing
+check 'plan, a withdrawn job does not count' 0 '3 1' 'planner 1 job 1 committed 1 tries 1
+planner 1 job 2 withdrawn tries 1
+value 4.545454545455000000' plan --strict model precedence withdrawing
+check 'log' 0 'entry 1 planner 1 job 1 start 0 reads 0 writes 2 revises 0 cause - committed 1
+write 0 - 0
+write 1 - 0
+entry 2 planner 1 job 2 start 1 reads 0 writes 1 revises 0 cause - refused over 0 0 5.000000 4.000000
+entry 3 planner 1 job 3 start 1 reads 0 writes 1 revises 0 cause - committed 2
+write 3 - 1
+legal 3 2
+value 15.045454545455000000' '' log --writes model precedence kept
+check 'log, a history that is not legal' 1 'entry 1 planner 1 job 1 start 0 reads 0 writes 2 revises 0 cause - committed 1
+entry 2 planner 1 job 2 start 1 reads 0 writes 1 revises 0 cause - refused over 0 0 5.000000 4.000000
+illegal 3' '' log model precedence illegal
+check 'log, no history' 3 '' 'pit: cannot read history' log refused refused missing
+
+# The order of files. One that is carried on is held before an input is opened, and read behind the blocks.
+check 'plan, no file but what is carried on' 3 '' 'pit: cannot read model' plan --continue fresh missing missing missing
+absent 'and it is not made' fresh fresh.pit-new
+check 'plan, a folder is carried on' 3 '' 'pit: cannot write' plan --continue folder missing missing missing
+check 'plan, what is carried on is in no folder' 3 '' 'pit: cannot write' plan --continue missing/kept missing missing missing
+check 'plan, a stream is carried on' 3 '' 'pit: cannot write' plan --continue /dev/full model precedence script
+check 'plan, no blocks beside what is carried on' 3 '' 'pit: cannot read blocks' plan --continue fresh --blocks missing model precedence missing
+check 'plan, no script beside what is carried on' 3 '' 'pit: cannot read script 1' plan --continue kept model precedence missing
+absent 'and no new file' fresh fresh.pit-new kept.pit-new
+cp kept carried
+"$pit" plan --continue carried model precedence work 2>err >/dev/full
+status=$?
+: >out
+compare 'plan, a history is carried on to a full output' 3 '' 'pit: cannot write'
+kept 'it is written before that' carried "$CARRIED"
+"$pit" plan --continue first_of_all model precedence script 2>/dev/full >out
+status=$?
+: >err
+compare 'plan, a history is carried on to a full standard error' 3 "$PLANNED" ''
+kept 'it is written before that, too' first_of_all "$HISTORY"
+
+# A history that is an input, by any of its names. Neither it nor its new file is written, or removed.
+ln model hard
+ln -s model soft
+for name in model hard soft ./model; do
+    check "plan, the history is the model, $name" 2 '' 'pit: history is an input' plan --history $name model precedence script
+done
+for name in hard soft; do
+    check "plan, the model is carried on, $name" 2 '' 'pit: history is an input' plan --continue $name model precedence script
+done
+check 'plan, the history is the start' 2 '' 'pit: history is an input' plan --history kept --start kept model precedence script
+check 'plan, the history is the last script' 2 '' 'pit: history is an input' plan --history work model precedence script work
+check 'plan, an input that does not open goes before it' 3 '' 'pit: cannot read script 2' plan --history script model precedence script missing
+check 'plan, it goes before a fault of reading' 2 '' 'pit: history is an input' plan --history model model precedence script folder
+absent 'no new file is left' model.pit-new hard.pit-new soft.pit-new kept.pit-new work.pit-new script.pit-new
+cp work kept.pit-new
+check 'plan, the new file is an input' 2 '' 'pit: history is an input' plan --history kept model precedence kept.pit-new
+check 'plan, the new file of what is carried on is an input' 2 '' 'pit: history is an input' plan --continue kept model precedence kept.pit-new
+check 'plan, it is one behind an input that does not open' 3 '' 'pit: cannot read script 1' plan --continue kept model precedence missing kept.pit-new
+kept 'it is still there' kept.pit-new "$(cat work)"
+kept 'and the history' kept "$HISTORY"
+rm kept.pit-new
+cp model both
+ln both both.pit-new
+check 'plan, the new file is another name of the history' 3 '' 'pit: cannot write' plan --history both model precedence script
+status=0
+cmp -s both model && [ both -ef both.pit-new ] || status=other
+: >err
+compare 'which stays as it was' 0 '' ''
+
+# A history that another program writes.
+cp kept held
+exec 8>held.pit-new
+flock -n 8 || exit 2
+check 'plan, the history is in use' 3 '' 'pit: history is in use' plan --history held model precedence script
+check 'plan, what is carried on is in use' 3 '' 'pit: history is in use' plan --continue held missing missing missing
+check 'plan, an input that does not open goes before a history in use' 3 '' 'pit: cannot read model' plan --history held missing missing missing
+[ -e held.pit-new ] || echo gone >>held
+kept 'it stays as it was' held "$HISTORY"
+exec 8>&-
+printf 'left by a program that was killed' >held.pit-new
+check 'plan, a new file that was left is no hindrance' 0 "$PLANNED" "$REPORT" plan --history held model precedence script
+kept 'and is not kept' held "$HISTORY"
+absent 'nor left' held.pit-new
+
+# Links. The file that they lead to is replaced, and they stay.
+mkdir far
+cp kept far/away
+ln -s far/away near
+check 'plan, a history behind a link' 0 '0 0
+1 0
+2 1' "$REPORT_ON" plan --continue near model precedence work
+kept 'the file is replaced' far/away "$CARRIED"
+status=0
+[ -L near ] || status=replaced
+: >out
+: >err
+compare 'and the link is not' 0 '' ''
+absent 'no new file is left' near.pit-new far/away.pit-new
+ln -s far/none lost
+check 'plan, a history behind a link to nothing' 3 '' 'pit: cannot write' plan --history lost model precedence script
+check 'plan, such a link is carried on' 3 '' 'pit: cannot write' plan --continue lost model precedence script
+absent 'and nothing is made' far/none far/none.pit-new lost.pit-new
+for other in 'ln -s far/away' 'ln -s far/none' mkdir mkfifo; do
+    $other kept.pit-new
+    check "plan, the new file can't be made: $other" 3 '' 'pit: cannot write' plan --history kept model precedence script
+    check "plan, the new file of what is carried on can't be made: $other" 3 '' 'pit: cannot write' plan --continue kept model precedence script
+    [ -e kept.pit-new ] || [ -L kept.pit-new ] || echo gone >>kept
+    rm -d kept.pit-new
+done
+kept 'the file behind the link is not written' far/away "$CARRIED"
+kept 'nor is the history' kept "$HISTORY"
+
+# Permissions and the group are those of the file that is replaced; of a new one those of any new file.
+cp kept shared
+chmod 640 shared
+group=$(stat -c %g shared)
+if chgrp 4711 shared 2>/dev/null; then group=4711; fi
+check 'plan, a history that a group may read' 0 "$PLANNED" "$REPORT" plan --history shared model precedence script
+status=0
+[ "$(stat -c '%a %g' shared)" = "640 $group" ] || status=$(stat -c '%a %g' shared)
+: >out
+: >err
+compare 'may be read by it still' 0 '' ''
+: >held.pit-new
+chmod 600 held.pit-new
+rm held
+(umask 027 && exec "$pit" plan --history held model precedence script) >out 2>err
+status=$?
+compare 'plan, a history that is new, where a new file was left' 0 "$PLANNED" "$REPORT"
+status=0
+[ "$(stat -c %a held)" = 640 ] || status=$(stat -c %a held)
+: >out
+: >err
+compare 'has the permissions of a new file' 0 '' ''
+mkdir closed
+cp kept closed/kept
+chmod 777 closed/kept
+chmod 555 closed
+if [ -x here ] && setpriv --reuid=65534 --clear-groups ./here value model solution >out 2>err; then
+    chmod 644 precedence script
+    setpriv --reuid=65534 --clear-groups ./here plan --history closed/kept model precedence script >out 2>err
+    status=$?
+    compare 'plan, a folder that may not be written' 3 '' 'pit: cannot write'
+    setpriv --reuid=65534 --clear-groups ./here plan --continue closed/kept model precedence script >out 2>err
+    status=$?
+    compare 'plan, the same of what is carried on' 3 '' 'pit: cannot write'
+    kept 'and stays' closed/kept "$HISTORY"
+    chmod 777 closed
+    chmod 444 closed/kept
+    setpriv --reuid=65534 --clear-groups ./here plan --history closed/kept model precedence script >out 2>err
+    status=$?
+    compare 'plan, a history that may not be written' 3 '' 'pit: cannot write'
+    absent 'and no new file is left' closed/kept.pit-new
+else
+    echo 'skip  no permission to write: whoever runs this may write every file'
+fi
 
 # Outputs that take nothing.
 : >out
@@ -500,6 +738,7 @@ status=$?
 : >out
 compare 'plan with a history to a full output' 3 '' 'pit: cannot write'
 kept 'the old history is there' before old
+absent 'and no new one' before.pit-new
 "$pit" plan --history before model precedence script 2>/dev/full >out
 status=$?
 : >err
@@ -517,18 +756,18 @@ compare 'plan with a full standard error' 3 "$PLANNED" ''
 status=$?
 : >err
 compare 'plan with a history and a closed standard error' 3 "$PLANNED" ''
-kept 'the history holds no report' low ''
+absent 'there is no history that might hold the report' low low.pit-new
 "$pit" plan --history low model precedence script 2>err >&-
 status=$?
 : >out
 compare 'plan with a history and a closed output' 3 '' 'pit: cannot write'
-kept 'the history holds no solution' low ''
+absent 'there is no history that might hold the solution' low low.pit-new
 "$pit" plan --history low model precedence script <&- >&- 2>&-
 status=$?
 : >out
 : >err
 compare 'plan with a history and no stream' 3 '' ''
-kept 'the history holds nothing' low ''
+absent 'there is no history' low low.pit-new
 "$pit" replay model precedence kept 2>err >/dev/full
 status=$?
 compare 'replay to a full output' 3 '' 'pit: cannot write'

@@ -1,7 +1,8 @@
 #!/usr/bin/env bash
 # Refuses each request of a built `pit` for memory in turn, those of the command line's parser too. A run with a refused
 # request has to print `pit: no memory` alone, with status 3, or to end as the run in which nothing is refused; or a planner
-# stops for it, and the report says so, with status 3. The file of a plan's history is then as it was; or it has a history, where a planner stopped.
+# stops for it, and the report says so, with status 3; or the name of a history's file can't be made, which is `pit: cannot write`. The file of a
+# plan's history is then as it was; or it has a history, where a planner stopped. No new file is left beside it.
 # It also refuses each thread of a plan in turn: that planner isn't started, and the others do their scripts.
 # usage: tests/no_memory.sh PIT FOLDER      PIT is the path of the program, FOLDER has the small example. Wants a C compiler.
 set -u
@@ -55,20 +56,30 @@ ${CC:-cc} -shared -fPIC -o refuse.so refuse.c -ldl || exit 2
 # is_told WORD..: where the words have a history to keep, what was kept is legal.
 is_told() { [[ " $* " != *' kept '* ]] || "$pit" replay "$data/tiny.cpit" "$data/tiny.prec" kept >/dev/null; }
 
+# is_wanting WORD..: what is told of a request that was refused.
+is_wanting() { [ "$(cat err)" = 'pit: no memory' ] || { [ "$(cat err)" = 'pit: cannot write' ] && [[ " $* " == *' kept '* ]]; }; }
+
+# What the file of a history holds before a run.
+echo before >old
+
 # each NAME WORD..: runs the program with the words, once for each request.
 each() {
     local name=$1 refused=0 before=0 number status whole
     shift
-    echo before >kept
+    cp old kept
     "$pit" "$@" >whole.out 2>whole.err
     whole=$?
     cp kept whole.kept
     for number in {1..300}; do
-        echo before >kept
+        cp old kept
         REFUSED_REQUEST=$number LD_PRELOAD=./refuse.so "$pit" "$@" >out 2>err
         status=$?
         before=$refused
-        if [ "$status" = 3 ] && [ ! -s out ] && [ "$(cat kept)" = before ] && [ "$(cat err)" = 'pit: no memory' ]; then
+        if [ -e kept.pit-new ]; then
+            echo "FAIL  $name: request $number refused: a new file is left"
+            rm kept.pit-new
+            failures=$((failures + 1))
+        elif [ "$status" = 3 ] && [ ! -s out ] && cmp -s kept old && is_wanting "$@"; then
             refused=$((refused + 1))
         elif [ "$status" = 3 ] && grep -q '^planner [0-9]* \(stopped at job [0-9]*: no memory\|not started\)$' err && is_told "$@"; then
             refused=$((refused + 1))
@@ -120,6 +131,10 @@ each 'plan' plan "$data/tiny.cpit" "$data/tiny.prec" one
 each 'plan, two planners from a start' plan "$data/tiny.cpit" "$data/tiny.prec" --start "$data/tiny.sol" --retries 0 one two
 each 'plan with a history' plan --history kept "$data/tiny.cpit" "$data/tiny.prec" one
 cp whole.kept history
+cp history old
+each 'plan, a history is carried on' plan --continue kept "$data/tiny.cpit" "$data/tiny.prec" one
+echo before >old
+each 'log' log --writes "$data/tiny.cpit" "$data/tiny.prec" history
 each 'replay' replay "$data/tiny.cpit" "$data/tiny.prec" history
 # Each line of this one is read by its JSON value.
 sed 's/,/, /g' history | head -3 >spaced

@@ -1,9 +1,9 @@
 -- The files of inputs, one after the other.
-use Rattle.std.proofs.Common.{◌≡◌, ◌≢◌, inl, inr, ℕ, zero, suc, ◌+◌, ◌<◌, ◌≤◌, List, [], ◌∷◌, ◌++◌, length, map, take, drop, slice_index_or, set, refl, ap, subst, sym, ◌∙◌, arith, Option, None, Some, Bool, if◌then◌else◌, is_some, option_map, false, true}
+use Rattle.std.proofs.Common.{◌≡◌, ◌≢◌, inl, inr, ℕ, zero, suc, ◌+◌, ◌<◌, ◌≤◌, List, [], ◌∷◌, ◌++◌, length, map, take, drop, slice_index_or, refl, ap, subst, sym, ◌∙◌, arith, Option, None, Some, Bool, if◌then◌else◌, is_some, option_map, false, true}
 use Rattle.std.specs.List.{range_with_len}
-use Rattle.std.proofs.lemmas.List.{take_more, get_or-map, get_or-drop, drop-drop, drop-set-lt, length-append, map_push}
+use Rattle.std.proofs.lemmas.List.{take_more, get_or-map, get_or-drop, drop-drop, length-append, map_push}
 use Rattle.pit_step.specs.declared.input.Input.{Input}
-use Rattle.pit_step.specs.declared.input.Input.TheVariants.{Blocks, Start, Script}
+use Rattle.pit_step.specs.declared.input.Input.TheVariants.{Blocks, Script}
 use Rattle.pit_step.specs.declared.fault.CliFault.{CliFault}
 use Rattle.pit_step.specs.declared.fault.CliFault.TheVariants.{CannotRead, NoMemory}
 use Rattle.clap.specs.declared.parser.matches.ArgMatches.{ArgMatches}
@@ -14,7 +14,9 @@ use Rattle.pit_cli.specs.Texts.{Texts}
 use Rattle.pit_command.specs.Asked.{path_of, scripts_of}
 use Rattle.pit.specs.Files.{open_step, open_each}
 use Rattle.pit.specs.Inside.Files.{still}
-use Rattle.pit.specs.PlanRun.{plan_inputs, input_if, count_if, IsRead, IsUnread, read_step, read_each, AreInOrder, script_inputs, texts_step}
+use Rattle.pit.specs.Histories.{AreApart, IsMeeting}
+use Rattle.pit.specs.PlanInputs.{plan_inputs, one_if, input_if, begin_input, has_begin_input, script_inputs}
+use Rattle.pit.specs.PlanRun.{count_if, IsRead, IsUnread, read_step, read_each, AreInOrder, texts_step}
 
 map_same : {X : Type 0} (xs : List X) → map (λ (x : X). x) xs ≡ xs
 map_same [] = refl
@@ -90,47 +92,39 @@ read-length holds inputs texts (a, m, so) = each-length holds 1 inputs texts so
 
 -- ---- all of it
 
-module _ (opens : Input → Option Bool) (holds : Input → Option (List ℕ)) (given : ArgMatches) where
-  pub wants-list : (fault : CliFault) → fault ≡ NoMemory → (texts_step opens holds given).Fails tt fault
-  wants-list fault is = inl (is, (opening-left opens holds 1 (plan_inputs given), (tt, tt)))
+module _ (opens : Input → Option Bool) (holds : Input → Option (List ℕ)) (meets : Input → Option Bool) (given : ArgMatches) (is_there : Bool) where
+  pub wants-list : (fault : CliFault) → fault ≡ NoMemory → (texts_step opens holds meets given is_there).Fails tt fault
+  wants-list fault is = inl (is, (opening-left opens holds 1 (plan_inputs given is_there), (tt, (tt, tt))))
 
-  pub unopened : (fault : CliFault) → (in_turn (may_step NoMemory) (open_each opens holds (plan_inputs given))).Fails tt fault → (texts_step opens holds given).Fails tt fault
-  unopened fault (inl p) = inl (p.0, (p.1, (tt, tt)))
-  unopened fault (inr (a, m, p)) = inr (a, m, inl (p, (tt, tt)))
+  pub unopened : (fault : CliFault) → (in_turn (may_step NoMemory) (open_each opens holds (plan_inputs given is_there))).Fails tt fault → (texts_step opens holds meets given is_there).Fails tt fault
+  unopened fault (inl p) = inl (p.0, (p.1, (tt, (tt, tt))))
+  unopened fault (inr (a, m, p)) = inr (a, m, inl (p, (tt, (tt, tt))))
 
-  pub unread : (readings : List Reading) (fault : CliFault) → (open_each opens holds (plan_inputs given)).Gives tt readings → (read_each holds (plan_inputs given)).Fails tt fault
-      → (texts_step opens holds given).Fails tt fault
-  unread readings fault are_open p = inr (tt, (refl, tt), inr (readings, are_open, inl (p, tt)))
+  pub meeting : (readings : List Reading) (fault : CliFault) → (open_each opens holds (plan_inputs given is_there)).Gives tt readings → IsMeeting meets (plan_inputs given is_there) fault
+      → (texts_step opens holds meets given is_there).Fails tt fault
+  meeting readings fault are_open p = inr (tt, (refl, tt), inr (readings, are_open, inl (p, (tt, tt))))
 
-  pub all_read : (readings : List Reading) (all : List (List ℕ)) (texts : Texts) → (open_each opens holds (plan_inputs given)).Gives tt readings → (read_each holds (plan_inputs given)).Gives tt all
-      → AreInOrder given all texts → (texts_step opens holds given).Gives tt texts
-  all_read readings all texts are_open read order = (tt, (refl, tt), (readings, are_open, (all, read, order)))
+  pub unread : (readings : List Reading) (fault : CliFault) → (open_each opens holds (plan_inputs given is_there)).Gives tt readings → AreApart meets (plan_inputs given is_there)
+      → (read_each holds (plan_inputs given is_there)).Fails tt fault → (texts_step opens holds meets given is_there).Fails tt fault
+  unread readings fault are_open apart p = inr (tt, (refl, tt), inr (readings, are_open, inr (readings, (refl, apart), inl (p, tt))))
 
--- ---- files of which those from one on are as they were
+  pub all_read : (readings : List Reading) (all : List (List ℕ)) (texts : Texts) → (open_each opens holds (plan_inputs given is_there)).Gives tt readings → AreApart meets (plan_inputs given is_there)
+      → (read_each holds (plan_inputs given is_there)).Gives tt all → AreInOrder given is_there all texts → (texts_step opens holds meets given is_there).Gives tt texts
+  all_read readings all texts are_open apart read order = (tt, (refl, tt), (readings, are_open, (readings, (refl, apart), (all, read, order))))
 
-module _ {X : Type 0} (left : X → Option (List ℕ)) (holds : Input → Option (List ℕ)) (inputs : List Input) (files now : List X) (i : ℕ) (below : i < length inputs) (long : length files ≡ length inputs) (same : drop i now ≡ drop i files) where
-  kept-at : (d : X) → slice_index_or now i d ≡ slice_index_or files i d
-  kept-at d =
+-- ---- files of which those from one on are left
+
+module _ {X : Type 0} (left : X → Option (List ℕ)) (holds : Input → Option (List ℕ)) (inputs : List Input) (files now : List X) (i : ℕ) (below : i < length inputs) (long : length files ≡ length inputs) (rest : now ≡ drop i files) where
+  pub holds-first : (d : X) (e : Input) → map left files ≡ map holds inputs → left (slice_index_or now 0 d) ≡ holds (slice_index_or inputs i e)
+  holds-first d e tells =
       let one : i + 0 ≡ i = omega arith in
-      ap (λ (k : ℕ). slice_index_or now k d) (sym one)
-      ∙ sym (get_or-drop i now 0 d)
-      ∙ ap (λ (xs : List X). slice_index_or xs 0 d) same
-      ∙ get_or-drop i files 0 d
-      ∙ ap (λ (k : ℕ). slice_index_or files k d) one
-
-  pub holds-at : (d : X) (e : Input) → map left files ≡ map holds inputs → left (slice_index_or now i d) ≡ holds (slice_index_or inputs i e)
-  holds-at d e tells =
-      ap left (kept-at d)
+      ap left (ap (λ (xs : List X). slice_index_or xs 0 d) rest ∙ get_or-drop i files 0 d ∙ ap (λ (k : ℕ). slice_index_or files k d) one)
       ∙ sym (get_or-map left files i d (left d) (omega (arith, long)))
       ∙ ap (λ (os : List (Option (List ℕ))). slice_index_or os i (left d)) tells
       ∙ get_or-map holds inputs i e (left d) below
 
-  pub rest-kept : (y : X) → drop (i + 1) (set now i y) ≡ drop (i + 1) files
-  rest-kept y =
-      drop-set-lt (i + 1) now i y (omega arith)
-      ∙ sym (drop-drop 1 i now)
-      ∙ ap (λ (xs : List X). drop 1 xs) same
-      ∙ drop-drop 1 i files
+  pub rest-more : drop 1 now ≡ drop (i + 1) files
+  rest-more = ap (λ (xs : List X). drop 1 xs) rest ∙ drop-drop 1 i files
 
 -- ---- which inputs there are
 
@@ -138,19 +132,17 @@ pub some-given : {X : Type 0} (f : X → List ℕ) (o : Option X) (p : Option (L
 some-given f None p is = ap (λ (q : Option (List ℕ)). is_some q) is
 some-given f (Some x) p is = ap (λ (q : Option (List ℕ)). is_some q) is
 
-length-if : (given : ArgMatches) (input : Input) (b : Bool) → b ≡ is_some (path_of given input) → length (input_if given input) ≡ count_if b
-length-if given input b is = by_test (is_some (path_of given input)) ∙ ap (λ (t : Bool). count_if t) (sym is)
-  where
-    by_test : (t : Bool) → length (if t then input ∷ [] else []) ≡ count_if t
-    by_test true = refl
-    by_test false = refl
+length-one : (b : Bool) (input : Input) → length (one_if b input) ≡ count_if b
+length-one true input = refl
+length-one false input = refl
 
-pub plan-length : (given : ArgMatches) (blocks start : Bool) → blocks ≡ is_some (path_of given Blocks) → start ≡ is_some (path_of given Start)
-    → 2 + (count_if blocks + count_if start) ≤ length (plan_inputs given)
-plan-length given blocks start a b =
-    let one = length-if given Blocks blocks a in
-    let two = length-if given Start start b in
+pub plan-length : (given : ArgMatches) (is_there blocks begun : Bool) → blocks ≡ is_some (path_of given Blocks) → begun ≡ has_begin_input given is_there
+    → 2 + (count_if blocks + count_if begun) ≤ length (plan_inputs given is_there)
+plan-length given is_there blocks begun a b =
+    let one = length-one (is_some (path_of given Blocks)) Blocks ∙ ap (λ (t : Bool). count_if t) (sym a) in
+    let two = length-one (has_begin_input given is_there) (begin_input given) ∙ ap (λ (t : Bool). count_if t) (sym b) in
     let scripts = script_inputs 1 (length (scripts_of given)) in
-    let all = length-append (input_if given Blocks) (input_if given Start ++ scripts) in
-    let more = length-append (input_if given Start) scripts in
+    let begins = one_if (has_begin_input given is_there) (begin_input given) in
+    let all = length-append (input_if given Blocks) (begins ++ scripts) in
+    let more = length-append begins scripts in
     omega arith

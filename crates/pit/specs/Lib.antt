@@ -1,5 +1,8 @@
 pub mod Ending
 pub mod Files
+pub mod Histories
+pub mod Options
+pub mod PlanInputs
 pub mod PlanRun
 pub mod Retries
 pub mod Runs

@@ -1,5 +1,5 @@
 -- A run of the program, by what is known of the files that its words name.
-use Rattle.std.specs.Prelude.{◌≡◌, ℕ, Bool, List, [], ◌∷◌, Option, Some, None, option_and_then, Result, codes}
+use Rattle.std.specs.Prelude.{◌≡◌, ℕ, Bool, List, [], ◌∷◌, Option, Some, None, Result, codes}
 use Rattle.clap.specs.declared.parser.matches.ArgMatches.{ArgMatches}
 use Rattle.pit_step.specs.declared.input.Input.{Input}
 use Rattle.pit_step.specs.declared.input.Input.TheVariants.{Model, Precedence, Blocks}
@@ -15,24 +15,16 @@ use Rattle.pit_table.specs.Table.{table_run}
 use Rattle.pit_diff.specs.Diff.{diff_run}
 use Rattle.pit_info.specs.Info.{info_run}
 use Rattle.pit_show.specs.Show.{show_run}
+use Rattle.pit_log.specs.Log.{log_run}
+use Rattle.pit_cli.specs.declared.plan_options.PlanOptions.{PlanOptions}
 use Rattle.pit_command.specs.declared.engine.Engine.{Engine}
-use Rattle.pit_command.specs.declared.engine.Engine.TheVariants.{Value, Check, CheckAll, Table, Diff, Info, Show, Plan, Replay}
-use Rattle.pit_command.specs.Asked.{path_of, history_path, inputs_of, IsNumber}
-use Rattle.pit.specs.Retries.{IsRetries}
+use Rattle.pit_command.specs.declared.engine.Engine.TheVariants.{Value, Check, CheckAll, Table, Diff, Info, Show, Plan, Replay, Log}
+use Rattle.pit_command.specs.Asked.{inputs_of, IsNumber, IsFlag}
+use Rattle.pit.specs.Options.{AreOptions}
 use Rattle.pit.specs.Files.{open_each}
-use Rattle.pit.specs.PlanRun.{input_if, plan_files_run}
-
--- the bytes of an input's file, where it is named and they are known
-abbrev pub file_bytes : (List ℕ → Option (List ℕ)) → ArgMatches → Input → Option (List ℕ)
-file_bytes bytes_at given input = option_and_then bytes_at (path_of given input)
-
--- whether an input's file opens, where it is named and that is known
-abbrev pub file_opens : (List ℕ → Option Bool) → ArgMatches → Input → Option Bool
-file_opens opens_at given input = option_and_then opens_at (path_of given input)
-
--- whether the file of the history opens to be written, where it is named and that is known
-abbrev pub history_opens : (List ℕ → Option Bool) → ArgMatches → Option Bool
-history_opens keeps_at given = option_and_then keeps_at (history_path given)
+use Rattle.pit.specs.Histories.{is_carried_on}
+use Rattle.pit.specs.PlanInputs.{input_if}
+use Rattle.pit.specs.PlanRun.{Told, plan_by}
 
 -- the inputs that an engine has, in the order in which their files are opened
 abbrev pub files_of : ArgMatches → Engine → List Input
@@ -71,12 +63,27 @@ pub record IsFileRun (engine : Engine) (opens : Input → Option Bool) (holds : 
   pub runs : IsResultOf (engine_run engine at given opens holds out IsUntouched) tt result
   pub quiet : IsQuiet
 
-pub record IsPlanRun (opens : Input → Option Bool) (holds : Input → Option (List ℕ)) (keeps : Option Bool) (given : ArgMatches) (IsUntouched : Type 0) (out lines : Writing) (result : Result Status CliFault) : Type 0 where
-  pub retries : ℕ
-  pub retries_are : IsRetries given retries
-  pub runs : IsResultOf (plan_files_run opens holds keeps given retries out lines IsUntouched) tt result
+pub record IsPlanRun (told : Told) (given : ArgMatches) (IsUntouched : Type 0) (out lines : Writing) (result : Result Status CliFault) : Type 0 where
+  pub options : PlanOptions
+  pub options_are : AreOptions given options
+  pub runs : IsResultOf (plan_by (is_carried_on given) told given options out lines IsUntouched) tt result
+
+-- the log of a history, with what was written or without, as the words ask for it
+abbrev pub log_on : Bool → Writing → List Reading → Step CliFault (Unit {0}) Status
+log_on with_writes out (model ∷ precedence ∷ history ∷ []) = log_run with_writes model precedence history out
+log_on with_writes out readings = judge_step (λ _ status. ⊥) (λ _ fault. ⊥)
+
+abbrev pub log_files_run : Bool → ArgMatches → (Input → Option Bool) → (Input → Option (List ℕ)) → Writing → Type 0 → Step CliFault (Unit {0}) Status
+log_files_run with_writes given opens holds out IsUntouched = in_turn (open_each opens holds (files_of given Log)) (run_step (log_on with_writes out) IsUntouched)
+
+pub record IsLogRun (opens : Input → Option Bool) (holds : Input → Option (List ℕ)) (given : ArgMatches) (IsUntouched IsQuiet : Type 0) (out : Writing) (result : Result Status CliFault) : Type 0 where
+  pub with_writes : Bool
+  pub asked : IsFlag given (codes "writes") with_writes
+  pub runs : IsResultOf (log_files_run with_writes given opens holds out IsUntouched) tt result
+  pub quiet : IsQuiet
 
 -- the result is that of the engine that is asked for
-abbrev pub IsRunOf : Engine → (Input → Option Bool) → (Input → Option (List ℕ)) → Option Bool → ArgMatches → Type 0 → Type 0 → Writing → Writing → Result Status CliFault → Type 0
-IsRunOf Plan opens holds keeps given IsUntouched IsQuiet out lines = IsPlanRun opens holds keeps given (IsUntouched × IsQuiet) out lines
-IsRunOf engine opens holds keeps given IsUntouched IsQuiet out lines = IsFileRun engine opens holds given IsUntouched IsQuiet out
+abbrev pub IsRunOf : Engine → Told → ArgMatches → Type 0 → Type 0 → Writing → Writing → Result Status CliFault → Type 0
+IsRunOf Plan told given IsUntouched IsQuiet out lines = IsPlanRun told given (IsUntouched × IsQuiet) out lines
+IsRunOf Log told given IsUntouched IsQuiet out lines = IsLogRun told.opens told.holds given IsUntouched IsQuiet out
+IsRunOf engine told given IsUntouched IsQuiet out lines = IsFileRun engine told.opens told.holds given IsUntouched IsQuiet out

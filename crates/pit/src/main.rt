@@ -4,11 +4,14 @@
 mod ending;
 mod fault;
 mod files;
-mod kept;
+mod histories;
+mod options;
 mod plan_files;
+mod plans;
 mod retries;
 mod runs;
 mod streams;
+mod system_disk;
 mod words;
 
 use clap::error::ErrorKind;
@@ -20,6 +23,7 @@ use runs::run;
 use std::process::ExitCode;
 use std::sync::Wait;
 use std::thread::Threads;
+use system_disk::SystemDisk;
 
 fn main(rt: HostRuntime) -> ExitCode {
     let _places = streams::hold(&rt);
@@ -39,12 +43,13 @@ fn answer<R: Threads + Wait + Sync>(rt: &HostRuntime, threads: &R) -> Result<Sta
         let refused = refusal(rt.alloc(), ErrorKind::ArgumentConflict);
         return Err(Fault::from(refused));
     }
+    let disk = SystemDisk::new(rt);
     let mut out = Out::new(rt.stdout());
     let mut report = Out::new(rt.stderr());
     Ok(run(
         threads,
         rt.alloc(),
-        rt,
+        &disk,
         engine,
         given,
         &mut out,

@@ -1,19 +1,20 @@
 //! The runs of the engines on the files that the words name. Files are opened in the order of the engine's inputs, and each before one is read.
-ghost use Rattle.std.specs.Prelude.{◌≡◌, ℕ, None, Option, codes};
+ghost use Rattle.std.specs.Prelude.{◌≡◌, ℕ, Bool, None, Option, codes};
 ghost use Rattle.pit_step.specs.Steps.{IsResultOf};
 ghost use Rattle.pit_step.specs.Devices.{writing_of};
-ghost use Rattle.pit_command.specs.Asked.{IsNumber};
+ghost use Rattle.pit_command.specs.Asked.{IsNumber, IsFlag};
 ghost use Rattle.pit_command.specs.declared.engine.Engine.TheVariants.{Value as value_engine, Check as check_engine, CheckAll as check_all_engine, Table as table_engine, Diff as diff_engine, Info as info_engine, Show as show_engine, Replay as replay_engine};
-ghost use Rattle.pit.specs.Runs.{file_bytes, file_opens, history_opens, IsRunOf, IsPlanRun, engine_run};
+ghost use Rattle.pit.specs.PlanRun.{told_of};
+ghost use Rattle.pit.specs.Files.{file_bytes, file_opens};
+ghost use Rattle.pit.specs.Runs.{IsRunOf, engine_run, log_files_run};
 
-use crate::files::{Disk, history_file, opened, opened_if};
-use crate::plan_files::plan_input;
-use crate::retries::retries_of;
+use crate::files::{Disk, opened, opened_if};
+use crate::plans::run_plan;
 use clap::ArgMatches;
 use pit_cli::{
-    CliFault, Input, Status, check, check_all, diff, info, plan, replay, show, table, value,
+    CliFault, Input, Status, check, check_all, diff, info, log, replay, show, table, value,
 };
-use pit_command::{Engine, at_of};
+use pit_command::{Engine, asks_writes, at_of};
 use pit_num::Sink;
 use std::alloc::Global;
 use std::sync::Wait;
@@ -29,12 +30,10 @@ pub fn run<D: Disk, R: Threads + Wait + Sync, W: Sink, L: Sink>(
     out: &mut W,
     report: &mut L,
 ) -> Result<Status, CliFault>
-    ensures { let opens = file_opens (D.opens_at disk.now) given.now in
-        let holds = file_bytes (D.bytes_at disk.now) given.now in
-        let written = writing_of (W.contents out.old) (W.contents out.new) (W.has_failed out.new) in
+    ensures { let written = writing_of (W.contents out.old) (W.contents out.new) (W.has_failed out.new) in
         let lines = writing_of (L.contents report.old) (L.contents report.new) (L.has_failed report.new) in
-        let keeps = history_opens (D.keeps_at disk.now) given.now in
-        IsRunOf engine opens holds keeps given.now (out.new ≡ out.old) (report.new ≡ report.old) written lines result }
+        let told = told_of (D.opens_at disk.now) (D.bytes_at disk.now) (D.meets_at disk.now) (D.is_there_at disk.now) (D.refusal_at disk.now) given.now in
+        IsRunOf engine told given.now (out.new ≡ out.old) (report.new ≡ report.old) written lines result }
 {
     match engine {
         Engine::Value => run_value(alloc, disk, given, out),
@@ -46,6 +45,7 @@ pub fn run<D: Disk, R: Threads + Wait + Sync, W: Sink, L: Sink>(
         Engine::Show => run_show(alloc, disk, given, out),
         Engine::Plan => run_plan(rt, alloc, disk, given, out, report),
         Engine::Replay => run_replay(alloc, disk, given, out),
+        Engine::Log => run_log(alloc, disk, given, out),
     }
 }
 
@@ -190,29 +190,28 @@ fn run_replay<D: Disk, W: Sink>(
     replay(alloc, alloc, &mut model, &mut precedence, &mut history, out)
 }
 
-fn run_plan<D: Disk, R: Threads + Wait + Sync, W: Sink, L: Sink>(
-    rt: &R,
+fn run_log<D: Disk, W: Sink>(
     alloc: Global,
     disk: &D,
     given: &ArgMatches<'_>,
     out: &mut W,
-    report: &mut L,
 ) -> Result<Status, CliFault>
     ensures { let opens = file_opens (D.opens_at disk.now) given.now in
         let holds = file_bytes (D.bytes_at disk.now) given.now in
         let written = writing_of (W.contents out.old) (W.contents out.new) (W.has_failed out.new) in
-        let lines = writing_of (L.contents report.old) (L.contents report.new) (L.has_failed report.new) in
-        let keeps = history_opens (D.keeps_at disk.now) given.now in
-        IsPlanRun opens holds keeps given.now ((out.new ≡ out.old) × (report.new ≡ report.old)) written lines result }
+        (with_writes : Bool) × IsFlag given.now (codes "writes") with_writes × IsResultOf (log_files_run with_writes given.now opens holds written (out.new ≡ out.old)) tt result }
 {
-    let retries = retries_of(given);
-    let input = match plan_input(alloc, disk, given) {
-        Ok(input) => input,
-        Err(fault) => return Err(fault),
-    };
-    let mut history = match history_file(disk, given) {
-        Ok(history) => history,
-        Err(fault) => return Err(fault),
-    };
-    plan(rt, alloc, input, retries, out, report, &mut history)
+    let with_writes = asks_writes(given);
+    let mut model = opened(disk, given, Input::Model)?;
+    let mut precedence = opened(disk, given, Input::Precedence)?;
+    let mut history = opened(disk, given, Input::History)?;
+    log(
+        alloc,
+        alloc,
+        &mut model,
+        &mut precedence,
+        &mut history,
+        with_writes,
+        out,
+    )
 }

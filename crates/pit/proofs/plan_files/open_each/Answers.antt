@@ -2,7 +2,7 @@ use Rattle.std.proofs.Common.{ℕ, List, [], ◌∷◌, ◌++◌, Option, inl, i
 use Rattle.std.proofs.lemmas.List.{get_or_default, map_push, take_more}
 use Rattle.pit_step.specs.declared.input.Input.{Input}
 use Rattle.pit_step.specs.declared.input.Input.TheVariants.{Model}
-use Rattle.pit.specs.Runs.{file_bytes, file_opens}
+use Rattle.pit.specs.Files.{file_bytes, file_opens}
 use Rattle.pit_step.proofs.CallerLemmas.{err_handed}
 use Rattle.pit.proofs.PlanFiles.{opens-stop, opens-more, opening-left}
 use Rattle.pit.proofs.plan_files.open_each.Goals as goal
@@ -35,8 +35,8 @@ loop-input-preserved g c =
     let i = c.loop-input.input-index in
     let input = slice_index_or inputs i Model in
     let is = get_or_default inputs i Model input c.loop-input-test.true in (
-      ap (λ xs. map (λ file. left file.reader) xs) c.in_ok-push.ensures.ok ∙ map_push (λ file. left file.reader) c.loop-input.files.items c.in_ok-file.file
-          ∙ ap (λ (os : List (Option (List ℕ))). os ++ left c.in_ok-file.file.reader ∷ []) c.loop-input.invariant.0
+      ap (λ xs. map left xs) c.in_ok-push.ensures.ok ∙ map_push left c.loop-input.files.items c.in_ok-file.file
+          ∙ ap (λ (os : List (Option (List ℕ))). os ++ left c.in_ok-file.file ∷ []) c.loop-input.invariant.0
           ∙ ap (λ (o : Option (List ℕ)). map holds (take i inputs) ++ o ∷ []) c.in_ok-file.ensures.file
           ∙ sym (map_push holds (take i inputs) input)
           ∙ ap (λ (xs : List Input). map holds xs) (ap (λ (x : Input). take i inputs ++ x ∷ []) is ∙ sym (take_more inputs i input c.loop-input-test.true)),

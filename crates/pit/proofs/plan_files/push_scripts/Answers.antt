@@ -1,7 +1,7 @@
 use Rattle.std.proofs.Common.{◌+◌, ◌++◌, ◌∷◌, [], List, ap, sym, ◌∙◌, append_assoc}
 use Rattle.pit_step.specs.declared.input.Input.{Input}
 use Rattle.pit_step.specs.declared.input.Input.TheVariants.{Script}
-use Rattle.pit.specs.PlanRun.{script_inputs}
+use Rattle.pit.specs.PlanInputs.{script_inputs}
 use Rattle.pit.proofs.PlanFiles.{scripts-more}
 use Rattle.pit.proofs.plan_files.push_scripts.Goals as goal
 

@@ -1,5 +1,5 @@
 use Rattle.std.proofs.Common.{◌≡◌, ◌++◌}
-use Rattle.pit.specs.PlanRun.{script_inputs}
+use Rattle.pit.specs.PlanInputs.{script_inputs}
 use Rattle.pit.proofs.plan_files.push_scripts.Given as goal
 
 abbrev pub invariant-loop-i : goal.invariant-loop-i

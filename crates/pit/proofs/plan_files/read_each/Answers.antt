@@ -6,7 +6,7 @@ use Rattle.pit_step.specs.Devices.{reading_of}
 use Rattle.pit_step.specs.Steps.{each}
 use Rattle.pit_step.proofs.CallerLemmas.{handed_on}
 use Rattle.pit.specs.PlanRun.{IsRead, read_step}
-use Rattle.pit.proofs.PlanFiles.{reading-left, reads-stop, reads-more, rest-kept, holds-at}
+use Rattle.pit.proofs.PlanFiles.{reading-left, reads-stop, reads-more, rest-more, holds-first}
 use Rattle.pit.proofs.plan_files.read_each.Goals as goal
 
 pub returns-in_err-bytes : goal.returns-in_err-bytes
@@ -21,14 +21,15 @@ returns-in_err-bytes g c holds tells =
           (get_or_default c.args.inputs.now i _ _ c.loop-i-test.true) (c.loop-i.invariant.1 holds tells)
           (record {
             reading = reading_of (left _) (left c.bytes_of.new.source.reader) c.bytes_of.new.source.has_failed;
-            before_is = holds-at (λ file. left file.reader) holds c.args.inputs.now c.args.files.now c.loop-i.files i c.loop-i-test.true c.requires c.loop-i.invariant.0 _ _ tells;
+            before_is = ap left (c.new-file.ensures.reader ∙ c.remove.ensures.value)
+                ∙ holds-first left holds c.args.inputs.now c.args.files.items c.loop-i.files.items i c.loop-i-test.true c.requires c.loop-i.invariant.0 _ _ tells;
             fails = c.in_err-bytes.ensures;
           }),
     ))
 
 pub loop-i-preserved : goal.loop-i-preserved
 loop-i-preserved g c = (
-  rest-kept (λ file. g.F.Read.remaining file.reader) (λ _. None) c.args.inputs.now c.args.files.now c.loop-i.files c.loop-i.i c.loop-i-test.true c.requires c.loop-i.invariant.0 c.bytes_of.new.source,
+  c.remove.ensures.by_index.1.1 ∙ rest-more (λ _. None) (λ _. None) c.args.inputs.now c.args.files.items c.loop-i.files.items c.loop-i.i c.loop-i-test.true c.requires c.loop-i.invariant.0,
   λ holds tells.
       let left = g.F.Read.remaining in
       let i = c.loop-i.i in
@@ -36,7 +37,8 @@ loop-i-preserved g c = (
       let input = slice_index_or c.args.inputs.now i Model in
       let read : IsRead holds input bytes.items = record {
         reading = reading_of (left _) (left c.bytes_of.new.source.reader) c.bytes_of.new.source.has_failed;
-        before_is = holds-at (λ file. left file.reader) holds c.args.inputs.now c.args.files.now c.loop-i.files i c.loop-i-test.true c.requires c.loop-i.invariant.0 _ Model tells;
+        before_is = ap left (c.new-file.ensures.reader ∙ c.remove.ensures.value)
+            ∙ holds-first left holds c.args.inputs.now c.args.files.items c.loop-i.files.items i c.loop-i-test.true c.requires c.loop-i.invariant.0 _ Model tells;
         whole = c.in_ok-bytes.ensures;
       } in
       let all = map (λ bytes. bytes.items) c.loop-i.texts.items in

@@ -6,6 +6,6 @@ use Rattle.pit.proofs.plan_files.read_each.Given as goal
 
 abbrev pub invariant-loop-i : goal.invariant-loop-i
 invariant-loop-i g l =
-    (drop l.i l.files ≡ drop l.i l.fn.files)
-    × ((holds : Input → Option (List ℕ)) → map (λ file. g.F.Read.remaining file.reader) l.fn.files ≡ map holds l.inputs
+    (l.files.items ≡ drop l.i l.fn.files.items)
+    × ((holds : Input → Option (List ℕ)) → map g.F.Read.remaining l.fn.files.items ≡ map holds l.inputs
     → (each (λ (n : ℕ). read_step holds) 1 (take l.i l.inputs)).Gives tt (map (λ bytes. bytes.items) l.texts.items))

@@ -27,3 +27,6 @@ returns-in-Plan g c = rw c.in-Plan.is c.run_plan.ensures
 
 pub returns-in-Replay : goal.returns-in-Replay
 returns-in-Replay g c = rw c.in-Replay.is (record { at = None; at_is = refl; runs = c.run_replay.ensures; quiet = refl })
+
+pub returns-in-Log : goal.returns-in-Log
+returns-in-Log g c = rw c.in-Log.is (record { with_writes = c.run_log.ensures.0; asked = c.run_log.ensures.1; runs = c.run_log.ensures.2; quiet = refl })

@@ -2,7 +2,7 @@ use Rattle.std.proofs.Common.{◌≡◌, ◌≢◌, Some, None, false, refl, sub
 use Rattle.pit_step.specs.declared.input.Input.TheVariants.{Blocks}
 use Rattle.pit_step.specs.Devices.{reading_of, writing_of}
 use Rattle.pit_step.proofs.CallerLemmas.{handed_on}
-use Rattle.pit.specs.Runs.{file_bytes, file_opens}
+use Rattle.pit.specs.Files.{file_bytes, file_opens}
 use Rattle.pit.proofs.InfoRun.{info_ran, no_model, no_precedence, no_blocks}
 use Rattle.pit.proofs.runs.run_info.Goals as goal
 

@@ -2,7 +2,8 @@ use Rattle.std.proofs.Common.{◌∷◌, [], None, false, inl, inr, refl}
 use Rattle.pit_step.specs.Devices.{reading_of, writing_of}
 use Rattle.pit_step.proofs.CallerLemmas.{handed_on}
 use Rattle.pit_command.specs.declared.engine.Engine.TheVariants.{Value}
-use Rattle.pit.specs.Runs.{file_bytes, file_opens, files_run}
+use Rattle.pit.specs.Files.{file_bytes, file_opens}
+use Rattle.pit.specs.Runs.{files_run}
 use Rattle.pit.proofs.EngineRuns.{ran}
 use Rattle.pit.proofs.runs.run_value.Goals as goal
 

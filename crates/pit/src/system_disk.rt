@@ -1,0 +1,133 @@
+ghost use Rattle.std.specs.Prelude.{None};
+
+use crate::files::Disk;
+use pit_file::{
+    FileFault, FileIdentity, HistoryFile, HistoryOutput, HostNames, Kind, Paths, Place, Stream, found,
+    identity_at, identity_of, is_among, open_stream,
+};
+use pit_num::{Failed, Out};
+use std::fs::File;
+use std::io;
+
+/// The system's files, of which nothing is told.
+#[derive(Drop)]
+pub struct SystemDisk<'a> {
+    rt: &'a HostRuntime,
+}
+
+impl<'a> SystemDisk<'a> {
+    pub fn new(rt: &'a HostRuntime) -> SystemDisk<'a> {
+        SystemDisk { rt }
+    }
+}
+
+/// A folder opens too, and fails once it is read.
+impl<'a> Disk for SystemDisk<'a> {
+    type File = File;
+
+    type History = HistoryOutput<Out<File>, HostNames<'a>>;
+
+    ghost opens_at = { λ _ _. None };
+
+    ghost bytes_at = { λ _ _. None };
+
+    ghost is_there_at = { λ _ _. None };
+
+    ghost meets_at = { λ _ _ _. None };
+
+    ghost refusal_at = { λ _ _ _. None };
+
+    fn open(&self, path: &str) -> io::Result<File> {
+        File::open(self.rt, path)
+    }
+
+    fn is_there(&self, path: &str) -> bool {
+        match self.rt.leads_to(path) {
+            Ok(Kind::Nothing) => false,
+            _ => true,
+        }
+    }
+
+    fn meets(&self, history: &str, _input: &str, file: &File) -> Result<bool, Failed> {
+        let Ok(Place::File(name)) = found(self.rt, history) else {
+            return Ok(false);
+        };
+        let names = HostNames::new(self.rt, name)?;
+        let own = names.history_identity()?;
+        let new = names.new_identity()?;
+        Ok(is_among(identity_of(file)?, &[own, new]))
+    }
+
+    fn prepare(
+        &self,
+        path: &str,
+        is_carried_on: bool,
+    ) -> Result<HistoryOutput<Out<File>, HostNames<'a>>, FileFault> {
+        match found(self.rt, path)? {
+            Place::File(name) => {
+                let file = prepared_file(self.rt, name)?;
+                Ok(HistoryOutput::File(file))
+            }
+            Place::Stream => {
+                let sink = opened_stream(self.rt, path, is_carried_on)?;
+                Ok(HistoryOutput::Stream(Stream { sink }))
+            }
+        }
+    }
+
+    fn is_new_file(&self, history: &HistoryOutput<Out<File>, HostNames<'a>>, path: &str) -> bool {
+        let HistoryOutput::File(file) = history else {
+            return false;
+        };
+        match file.names().new_identity() {
+            Ok(new) => is_at(self.rt, path, new),
+            Err(_) => false,
+        }
+    }
+
+    fn abandon(&self, history: &mut HistoryOutput<Out<File>, HostNames<'a>>) {
+        match history {
+            HistoryOutput::Stream(_) => {}
+            HistoryOutput::File(file) => file.abandon(),
+        }
+    }
+}
+
+/// The file of this name, in which no link is left, ready to be replaced.
+fn prepared_file<'a>(
+    rt: &'a HostRuntime,
+    name: String,
+) -> Result<HistoryFile<HostNames<'a>>, FileFault> {
+    let Ok(names) = HostNames::new(rt, name) else {
+        return Err(FileFault::CannotWrite);
+    };
+    let mut file = HistoryFile::new(names);
+    file.prepare()?;
+    Ok(file)
+}
+
+/// What a path leads to, which is no file, and keeps what it holds. A history that is carried on can't be written to it.
+fn opened_stream(
+    rt: &HostRuntime,
+    path: &str,
+    is_carried_on: bool,
+) -> Result<Out<File>, FileFault> {
+    if is_carried_on {
+        return Err(FileFault::CannotWrite);
+    }
+    match open_stream(rt, path) {
+        Ok(stream) => Ok(stream),
+        Err(_) => Err(FileFault::CannotWrite),
+    }
+}
+
+/// Whether a path leads to the file of this identity.
+fn is_at(rt: &HostRuntime, path: &str, file: Option<FileIdentity>) -> bool {
+    let Ok(name) = rt.resolved(path) else {
+        return false;
+    };
+    match identity_at(rt, name.as_str()) {
+        Ok(found) => is_among(file, &[found]),
+        Err(_) => false,
+    }
+}

@@ -1,0 +1,189 @@
+#!/usr/bin/env bash
+# Has a built `pit` write one history's file by two programs at once, of which one does or both do, one after the other: no entry is lost. Then it is
+# killed before and behind each call that opens, locks, writes, syncs or renames a file, or sets its permissions: the file holds the old history or the
+# whole new one, and the next program goes on from there.
+# usage: tests/carry_on.sh PIT [ROUNDS]      PIT is the path of the program; 50 rounds where their number isn't said. Wants a C compiler.
+set -u
+
+if [ $# -lt 1 ] || [ ! -x "$1" ]; then
+    echo "usage: $0 PIT [ROUNDS]" >&2
+    exit 2
+fi
+pit=$(realpath "$1")
+rounds=${2:-50}
+work=$(mktemp -d)
+trap 'rm -rf "$work"' EXIT
+cd "$work" || exit 2
+failures=0
+
+printf 'TYPE: CPIT\nNBLOCKS: 4\nNPERIODS: 2\nNRESOURCE_SIDE_CONSTRAINTS: 0\nDISCOUNT_RATE: 0\n' >model
+: >precedence
+printf 'begin\nput 0 0\ncommit\nbegin\nclear 0\ncommit\n' >script
+
+fail() {
+    echo "FAIL  $1"
+    failures=$((failures + 1))
+}
+
+# entries FILE: how many entries the history in a file has, where it is legal.
+entries() { "$pit" replay model precedence "$1" 2>err | sed -n '1s/^legal \([0-9]*\) .*/\1/p'; }
+
+# is_refused STATUS REPORT: a program was told that another one writes the history, and nothing else.
+is_refused() { [ "$1" = 3 ] && [ "$(cat "$2")" = 'pit: history is in use' ]; }
+
+# count FILE: how many entries stand in a file, where there is one.
+count() { echo $(($(wc -l 2>/dev/null <"$1" || echo 1) - 1)); }
+
+# One program holds the history while it waits for its script, and others are told so. Once it ends, something else reads the pipe, so that nobody
+# waits for it where it ended too early.
+mkfifo waited
+before=$failures
+for round in $(seq "$rounds"); do
+    entries=$(count held)
+    {
+        "$pit" plan --continue held model precedence waited >first.out 2>first.err
+        echo $? >first.status
+        cat waited >/dev/null
+    } &
+    # It opens the pipe behind the lock.
+    exec 7>waited
+    for way in --continue --history; do
+        "$pit" plan $way held model precedence script >second.out 2>second.err
+        status=$?
+        is_refused "$status" second.err && [ ! -s second.out ] || fail "round $round: $way beside a program that holds the history: status $status"
+    done
+    cat script >&7
+    exec 7>&-
+    while kill -0 $! 2>/dev/null; do
+        : <>waited
+        sleep 0.002
+    done
+    wait
+    [ "$(cat first.status)" = 0 ] || fail "round $round: the program that held the history: status $(cat first.status)"
+    [ "$(entries held)" = $((entries + 2)) ] && [ ! -e held.pit-new ] || fail "round $round: $(entries held) entries, wanted $((entries + 2))"
+done
+[ "$failures" -ne "$before" ] || echo "ok    one program holds the history, and others are told so: $rounds rounds"
+
+# Two programs begin at once: each adds its two entries, or is told that the history is in use.
+both=0
+before=$failures
+for round in $(seq "$rounds"); do
+    entries=$(count shared)
+    "$pit" plan --continue shared model precedence script >first.out 2>first.err &
+    "$pit" plan --continue shared model precedence script >second.out 2>second.err
+    second=$?
+    wait $!
+    first=$?
+    written=0
+    for end in "$first first.err" "$second second.err"; do
+        if [ "${end%% *}" = 0 ]; then
+            written=$((written + 1))
+        elif ! is_refused $end; then
+            fail "round $round: a program ended with ${end%% *}: $(cat "${end#* }")"
+        fi
+    done
+    [ "$written" -gt 0 ] || fail "round $round: neither program wrote the history"
+    [ "$written" -lt 2 ] || both=$((both + 1))
+    [ "$(entries shared)" = $((entries + 2 * written)) ] || fail "round $round: $(entries shared) entries, wanted $((entries + 2 * written))"
+    [ ! -e shared.pit-new ] || fail "round $round: a new file is left"
+done
+[ "$failures" -ne "$before" ] || echo "ok    two programs begin at once: in $both of $rounds rounds one after the other, else one of them"
+
+cat >kill.c <<'TEXT'
+#define _GNU_SOURCE
+#include <dlfcn.h>
+#include <fcntl.h>
+#include <signal.h>
+#include <stdarg.h>
+#include <stdlib.h>
+#include <sys/file.h>
+#include <sys/stat.h>
+#include <sys/types.h>
+#include <unistd.h>
+// Twice for each call: before it, and behind it.
+static void pass(void) {
+    static long passed;
+    const char *text = getenv("KILLED_AT");
+    if (text && __atomic_add_fetch(&passed, 1, __ATOMIC_SEQ_CST) == atol(text)) kill(getpid(), SIGKILL);
+}
+#define BETWEEN(TYPE, NAME, WITH, ...) \
+    TYPE (*next) WITH = (TYPE (*) WITH)dlsym(RTLD_NEXT, NAME); \
+    pass(); \
+    TYPE answer = next(__VA_ARGS__); \
+    pass(); \
+    return answer
+#define MODE(LAST) \
+    va_list rest; \
+    va_start(rest, LAST); \
+    mode_t mode = how & (O_CREAT | O_TMPFILE) ? va_arg(rest, mode_t) : 0; \
+    va_end(rest)
+int open(const char *path, int how, ...) { MODE(how); BETWEEN(int, "open", (const char *, int, ...), path, how, mode); }
+int open64(const char *path, int how, ...) { MODE(how); BETWEEN(int, "open64", (const char *, int, ...), path, how, mode); }
+int openat(int at, const char *path, int how, ...) { MODE(how); BETWEEN(int, "openat", (int, const char *, int, ...), at, path, how, mode); }
+int openat64(int at, const char *path, int how, ...) { MODE(how); BETWEEN(int, "openat64", (int, const char *, int, ...), at, path, how, mode); }
+ssize_t write(int file, const void *text, size_t size) { BETWEEN(ssize_t, "write", (int, const void *, size_t), file, text, size); }
+int flock(int file, int how) { BETWEEN(int, "flock", (int, int), file, how); }
+int fchmod(int file, mode_t mode) { BETWEEN(int, "fchmod", (int, mode_t), file, mode); }
+int fchown(int file, uid_t user, gid_t group) { BETWEEN(int, "fchown", (int, uid_t, gid_t), file, user, group); }
+int ftruncate(int file, off_t size) { BETWEEN(int, "ftruncate", (int, off_t), file, size); }
+int ftruncate64(int file, off64_t size) { BETWEEN(int, "ftruncate64", (int, off64_t), file, size); }
+int fsync(int file) { BETWEEN(int, "fsync", (int), file); }
+int fdatasync(int file) { BETWEEN(int, "fdatasync", (int), file); }
+int rename(const char *from, const char *to) { BETWEEN(int, "rename", (const char *, const char *), from, to); }
+int renameat(int from_at, const char *from, int to_at, const char *to) { BETWEEN(int, "renameat", (int, const char *, int, const char *), from_at, from, to_at, to); }
+int unlink(const char *path) { BETWEEN(int, "unlink", (const char *), path); }
+int unlinkat(int at, const char *path, int how) { BETWEEN(int, "unlinkat", (int, const char *, int), at, path, how); }
+TEXT
+${CC:-cc} -shared -fPIC -o kill.so kill.c -ldl || exit 2
+
+# holds FILE TEXT-FILE: it holds that text, or neither is there.
+holds() {
+    if [ -e "$2" ]; then cmp -s "$1" "$2"; else [ ! -e "$1" ]; fi
+}
+
+# killed NAME OLD WORD..: kills the program that writes F at each place in turn. OLD is what F held, or isn't there.
+killed() {
+    local name=$1 old=$2 at status entries old_left=0 new_left=0 before=$failures ends=0
+    shift 2
+    rm -f F F.pit-new
+    [ ! -e "$old" ] || cp "$old" F
+    "$pit" plan "$@" F model precedence script >whole.out 2>whole.err || fail "$name: status $? where nothing is killed"
+    cp F whole
+    for at in {1..400}; do
+        rm -f F F.pit-new
+        [ ! -e "$old" ] || cp "$old" F
+        { KILLED_AT=$at LD_PRELOAD=./kill.so "$pit" plan "$@" F model precedence script >out 2>err; } 2>/dev/null
+        status=$?
+        if [ "$status" = 0 ]; then
+            ends=1
+            break
+        fi
+        [ "$status" = 137 ] || fail "$name, place $at: status $status"
+        if holds F "$old"; then
+            old_left=$((old_left + 1))
+        elif cmp -s F whole; then
+            new_left=$((new_left + 1))
+            [ ! -e F.pit-new ] || fail "$name, place $at: the new file is there twice"
+        else
+            fail "$name, place $at: neither the old history nor the new one is left"
+        fi
+        entries=$(count F)
+        "$pit" plan --continue F model precedence script >out 2>err || fail "$name, place $at: the next program ended with $?"
+        [ "$(entries F)" = $((entries + 2)) ] && [ ! -e F.pit-new ] || fail "$name, place $at: the next program didn't go on"
+    done
+    [ "$ends" = 1 ] && [ "$old_left" -gt 0 ] && [ "$new_left" -gt 0 ] || fail "$name: $old_left places with the old history, and $new_left with the new one"
+    [ "$failures" -ne "$before" ] || echo "ok    $name: killed at $((old_left + new_left)) places, and the new history stands behind $new_left of them"
+}
+
+printf 'begin\nput 3 1\ncommit\n' >other
+"$pit" plan --history old model precedence other >out 2>err || fail 'no history to begin with'
+killed 'a history is new' none --history
+killed 'a history is replaced' old --history
+killed 'a history is carried on' old --continue
+killed 'a history begins' none --continue
+
+if [ "$failures" -ne 0 ]; then
+    echo "$failures failed"
+    exit 1
+fi
+echo 'all fine'
