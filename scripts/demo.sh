@@ -1,5 +1,5 @@
 #!/usr/bin/env bash
-# Four planners edit one schedule at once, and their history is gone over once more. With a ./pit that is there, a whole day on both examples;
+# Four planners edit one schedule at once, and their history is gone over once more. With a ./pit that is there, two days on both examples;
 # without one, the program is compiled without a proof and run by `rt try`.
 # usage: scripts/demo.sh, at the top of the repository. Solution and history are left in demo/.
 set -eu
@@ -16,7 +16,7 @@ run() {
 }
 
 if [ -x pit ]; then
-    echo 'A day with ./pit, on two examples. It takes a second.'
+    echo 'Two days with ./pit, on two examples. It takes a second.'
     run ./pit value $tiny/tiny.cpit $tiny/tiny.sol
     run ./pit check $tiny/tiny.cpit $tiny/tiny.prec $tiny/tiny.sol
     run ./pit check $hill/hill.cpit $hill/hill.prec $hill/hill.sol
@@ -26,6 +26,11 @@ if [ -x pit ]; then
     "${plan[@]}" >demo/new.sol
     run ./pit table $hill/hill.cpit demo/hill.history
     run ./pit replay $hill/hill.cpit $hill/hill.prec demo/hill.history
+    second=(./pit plan $hill/hill.cpit $hill/hill.prec --blocks $hill/hill.blocks --continue demo/hill.history $hill/second.script)
+    printf '\nThe next day:\n\n$ %s >demo/second.sol\n' "${second[*]}"
+    "${second[@]}" >demo/second.sol
+    printf '\n$ ./pit log %s %s demo/hill.history | tail -n 5\n' $hill/hill.cpit $hill/hill.prec
+    ./pit log $hill/hill.cpit $hill/hill.prec demo/hill.history | tail -n 5
     exit
 fi
 

@@ -1,16 +1,17 @@
 #!/usr/bin/env bash
 # Has a built `pit` plan on pits and scripts that are drawn from seeds, and replays each history: it is legal, has an entry for each line but the
 # first and a commit for each line that says so, and has the value that the report and the solution have. Then each reply is changed in turn: the
-# history is then illegal at that place.
-# usage: tests/replay.sh PIT [RUNS]      PIT is the path of the program; 200 runs where their number isn't said.
+# history is then illegal at that place. On the first of the pits planners then work for three days, each of which carries on the history of the day before.
+# usage: tests/replay.sh PIT [RUNS [DAYS]]      PIT is the path of the program; 200 runs, and 20 pits for three days, where their numbers aren't said.
 set -u
 
 if [ $# -lt 1 ] || [ ! -x "$1" ]; then
-    echo "usage: $0 PIT [RUNS]" >&2
+    echo "usage: $0 PIT [RUNS [DAYS]]" >&2
     exit 2
 fi
 pit=$(realpath "$1")
 runs=${2:-200}
+most=${3:-20}
 work=$(mktemp -d)
 trap 'rm -rf "$work"' EXIT
 cd "$work" || exit 2
@@ -100,6 +101,44 @@ $value"
     done
 }
 
+# bare HISTORY: its entries, each as if no entry revised a limit, as they stand in either format.
+bare() { sed '1d; s/"revises":\[\],//' "$1"; }
+
+# day NUMBER WORD..: one day, which goes on from the history of the day before. The history begins with that one and is legal, has the value that is
+# told, and is shown as the solution; its log has a line for each entry.
+day() {
+    local number=$1 status value lines commits
+    shift
+    [ ! -f day ] || cp day before
+    "$pit" plan model precedence --blocks blocks --continue day "$@" "${scripts[@]}" >solution 2>report
+    status=$?
+    [ "$status" -le 1 ] || fail "day $number: status $status, $(cat report)"
+    [ "$(head -1 report)" = 'history new' ] && [ "$number" -gt 1 ] && fail "day $number: a new history"
+    [ "$(head -1 report)" != 'history new' ] && [ "$number" -eq 1 ] && fail "day 1: no new history"
+    value=$(grep '^value ' report)
+    lines=$(wc -l <day)
+    commits=$(grep -c '"reply":{"committed":' day)
+    replay day 0 "legal $((lines - 1)) $commits
+$value"
+    if [ "$number" -gt 1 ]; then
+        cmp -s <(bare before) <(bare day | head -n "$(($(wc -l <before) - 1))") || fail "day $number doesn't begin with the day before"
+    fi
+    "$pit" show model day | tail -n +2 | cmp -s - solution || fail "day $number isn't shown as its solution"
+    [ "$("$pit" log model precedence day | grep -c '^entry ')" = "$((lines - 1))" ] || fail "day $number: its log"
+    [ ! -e day.pit-new ] || fail "day $number: a new file is left"
+}
+
+# days: three of them, the last in turn, which does the same once more.
+days() {
+    rm -f day before
+    day 1
+    day 2 --retries 0
+    cp day again
+    day 3 --in-turn
+    "$pit" plan model precedence --blocks blocks --continue again --in-turn "${scripts[@]}" >other 2>told
+    cmp -s day again && cmp -s solution other && cmp -s report told || fail "in turn, another outcome"
+}
+
 entries=0
 refused=0
 for ((seed = 1; seed <= runs; seed++)); do
@@ -109,7 +148,8 @@ for ((seed = 1; seed <= runs; seed++)); do
     audit
     cp solution start
     audit --start start
+    [ "$seed" -gt "$most" ] || days
 done
 [ "$entries" -gt "$((5 * runs))" ] || fail "no more than $entries entries"
 [ "$runs" -lt 20 ] || [ "$((2 * refused))" -lt "$runs" ] || fail "$refused of $runs starts are refused"
-echo "ok    $runs pits, $((2 * runs - refused)) plans, $entries entries replayed, each of them changed in turn"
+echo "ok    $runs pits, $((2 * runs - refused)) plans, $entries entries replayed, each of them changed in turn; three days on $((most < runs ? most : runs)) of them"

@@ -7,4 +7,5 @@ use Rattle.pit.specs.Retries.{IsRetries}
 
 pub record AreOptions (given : ArgMatches) (options : PlanOptions) : Type 0 where
   pub retries : IsRetries given options.retries
+  pub in_turn : IsFlag given (codes "in-turn") options.is_in_turn
   pub strict : IsFlag given (codes "strict") options.is_strict

@@ -5,7 +5,7 @@ ghost use Rattle.pit.specs.Options.{AreOptions};
 use crate::retries::retries_of;
 use clap::ArgMatches;
 use pit_cli::PlanOptions;
-use pit_command::is_strict;
+use pit_command::{is_in_turn, is_strict};
 
 /// How the words have a plan run and told.
 pub fn options_of(given: &ArgMatches<'_>) -> PlanOptions
@@ -14,6 +14,7 @@ pub fn options_of(given: &ArgMatches<'_>) -> PlanOptions
 {
     PlanOptions {
         retries: retries_of(given),
+        is_in_turn: is_in_turn(given),
         is_strict: is_strict(given),
     }
 }

@@ -1,5 +1,5 @@
 -- What was written of a run is that of one history.
-use Rattle.std.proofs.Common.{◌≡◌, ℕ, List, Option, Result, Ok, Err, sym, subst}
+use Rattle.std.proofs.Common.{◌≡◌, List, Option, Result, Ok, Err, sym, subst}
 use Rattle.pit_model.specs.Pit.{Pit}
 use Rattle.pit_desk.specs.History.{Answered}
 use Rattle.pit_desk.specs.declared.entry.TheConstants.{ENTRIES_MAX}
@@ -12,7 +12,7 @@ use Rattle.pit_step.specs.declared.fault.CliFault.{CliFault}
 use Rattle.pit_step.specs.declared.fault.CliFault.TheVariants as cli
 use Rattle.pit_cli.specs.Outcomes.{IsWritten, IsOneHistory, IsOfOneHistory}
 use Rattle.pit_cli.specs.Output.{Keeping, plan_run}
-use Rattle.pit_cli.specs.Planning.{Ran, IsRan, desk_judged, plan_judged}
+use Rattle.pit_cli.specs.Planning.{Ran, IsRan, plan_judged}
 use Rattle.pit_cli.specs.Texts.{Texts, Setup, pit_in, opening_in, scripts_in, texts_judged}
 use Rattle.pit_cli.specs.declared.plan_options.PlanOptions.{PlanOptions}
 use Rattle.pit_cli.proofs.OneOutcome.{given_written, stopped_written}
@@ -32,8 +32,8 @@ one-history texts options setup ran judged run =
     let opening = opening_in setup in
     let scripts = scripts_in setup in
     let before : List Answered = entries_before opening in
-    let same : pit_in setup ≡ pit = sym run.closed.goes_on.same_pit in
-    let report : IsReport pit before ENTRIES_MAX options.retries scripts ran.0 ran.1 = subst (λ (p : Pit). IsReport p before ENTRIES_MAX options.retries scripts ran.0 ran.1) same run in
+    let same : pit_in setup ≡ pit = sym run.report.closed.goes_on.same_pit in
+    let report : IsReport pit before ENTRIES_MAX options.retries scripts ran.0 ran.1 = subst (λ (p : Pit). IsReport p before ENTRIES_MAX options.retries scripts ran.0 ran.1) same run.report in
     let stands = judged_stands texts setup judged in
     record {
       opening = opening;
@@ -44,6 +44,7 @@ one-history texts options setup ran judged run =
       limit = report.closed.goes_on.limit;
       one_thread = of-one-thread pit before ENTRIES_MAX options.retries scripts ran.0 ran.1 report;
       one_by_one = one-by-one pit before ENTRIES_MAX options.retries scripts ran.0 ran.1 report;
+      turns = run.turns;
       each = each-planner pit before ENTRIES_MAX options.retries scripts ran.0 ran.1 report;
     }
 

@@ -1,21 +1,18 @@
 -- Texts stand for a pit, a start and scripts, or have one first fault.
-use Rattle.std.proofs.Common.{◌≡◌, ◌≢◌, ◌⊎◌, inl, inr, ℕ, List, [], Option, Some, None, refl, sym, ap, ◌∙◌}
+use Rattle.std.proofs.Common.{◌≡◌, ◌⊎◌, inl, inr, ℕ, List, Option, Some, None, refl, sym, ap, ◌∙◌}
 use Rattle.pit_model.specs.Pit.{Pit}
 use Rattle.pit_text.specs.Cutting.{cut_of, end_line}
 use Rattle.pit_text.specs.Stands.{StandsWhole, FailsWhole, HasOneResult}
-use Rattle.pit_text.specs.declared.error.TextError.{TextError}
 use Rattle.pit_text.proofs.CallerLemmas.{one_whole_result}
 use Rattle.pit_script.specs.Jobs.{Job, jobs_of, script_end, script_line}
 use Rattle.pit_script.specs.declared.error.ScriptCause.{ScriptCause}
 use Rattle.pit_script.specs.declared.error.ScriptError.{ScriptError}
 use Rattle.pit_script.specs.declared.fact.ScriptFact.{ScriptFact}
-use Rattle.pit_step.specs.declared.input.Input.{Input}
 use Rattle.pit_step.specs.declared.fault.CliFault.{CliFault}
 use Rattle.pit_step.specs.declared.fault.CliFault.TheVariants as cli
-use Rattle.pit_step.specs.Devices.{IsTextFault}
 use Rattle.pit_step.specs.Inputs.{IsModel, IsModelFault, IsOrder, IsOrderFault}
 use Rattle.pit_step.specs.Steps.{in_turn, beside, judge_step, may_step, run_step, each}
-use Rattle.pit_step.proofs.CallerLemmas.{IsSeen, IsOfInputs, never_two, inputs-seen, IsDecided, IsDecidedText, FailsOnly, judge-decided, in_turn-decided, in_turn-only, beside-decided, run-decided, may-decided, each-decided, each-untouched, each-only, decided-model, decided-order, decided-places, decided-solution}
+use Rattle.pit_step.proofs.CallerLemmas.{IsSeen, IsOfInputs, never_two, IsDecided, IsDecidedText, judge-decided, in_turn-decided, beside-decided, run-decided, may-decided, each-decided, each-untouched, each-only, decided-model, decided-order, decided-places}
 use Rattle.pit_opening.specs.Beginnings.{Begun, IsOpeningOf, IsOpeningFault}
 use Rattle.pit_opening.specs.Openings.{Opened}
 use Rattle.pit_opening.proofs.CallerLemmas.{IsEarly, text_early, beginning_early}

@@ -5,5 +5,6 @@ pub mod Refusals
 pub mod ReportEnd
 pub mod OneOutcome
 pub mod Closed
+pub mod ShownRun
 pub mod ReportLines
 pub mod OpenDesk

@@ -10,7 +10,7 @@ use Rattle.pit_desk.specs.History.{commits_of}
 use Rattle.pit_run.specs.Reports.{RunState}
 use Rattle.pit_step.specs.LineTexts.{value_text, shorts_text}
 use Rattle.pit_step.specs.Devices.{Writing}
-use Rattle.pit_file.specs.OutputState.{OutputState, HasKept, HasNotKept}
+use Rattle.pit_file.specs.OutputState.{OutputState, HasNotKept}
 use Rattle.pit_file.specs.OutputState.OutputState.{stream, file}
 use Rattle.pit_step.specs.Steps.{IsResultOf}
 use Rattle.pit_step.specs.declared.fault.CliFault.{CliFault}
@@ -18,13 +18,13 @@ use Rattle.pit_step.specs.declared.fault.CliFault.TheVariants as cli
 use Rattle.pit_step.specs.declared.status.Status.{Status}
 use Rattle.pit_step.specs.declared.status.Status.TheVariants.{Fine}
 use Rattle.pit_step.specs.Statuses.{fault_status}
-use Rattle.pit_step.proofs.CallerLemmas.{IsOfInputs, never_two, write-shown}
+use Rattle.pit_step.proofs.CallerLemmas.{never_two, write-shown}
 use Rattle.pit_cli.specs.ReportText.{runs_text}
 use Rattle.pit_opening.specs.Beginnings.{is_carried_on, is_unbegun}
 use Rattle.pit_cli.specs.declared.plan_options.PlanOptions.{PlanOptions}
 use Rattle.pit_cli.specs.Texts.{Texts, Setup}
 use Rattle.pit_cli.specs.Planning.{Ran, IsRan, IsRunFault, plan_judged}
-use Rattle.pit_cli.specs.Output.{status_by, all_whole, all_granted, new_line, report_text, Keeping, keep_step, Outputs, told_step, end_step, outputs_run, outputs_of, ran_end, ran_run, HasWhole, IsLeft, IsUnwritten, plan_run}
+use Rattle.pit_cli.specs.Output.{status_by, all_whole, all_granted, new_line, report_text, Keeping, keep_step, Outputs, told_step, outputs_run, outputs_of, ran_end, ran_run, HasWhole, IsLeft, IsUnwritten, plan_run}
 use Rattle.pit_cli.specs.Outcomes.{MayRun, AreRefused, IsWritten, IsDecisive, has_failed, has_failed_if, HasFailed}
 use Rattle.pit_opening.proofs.CallerLemmas.{IsEarly}
 use Rattle.pit_cli.proofs.DecidedTexts.{IsOneBeginning}

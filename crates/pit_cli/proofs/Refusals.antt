@@ -1,5 +1,5 @@
 -- Texts may be run, or are refused for one fault.
-use Rattle.std.proofs.Common.{◌≡◌, ◌≢◌, ◌⊎◌, inl, inr, ℕ, ◌≤◌, List, [], ◌∷◌, length, refl, sym, ap, subst, ◌∙◌, arith}
+use Rattle.std.proofs.Common.{◌≡◌, ◌≢◌, ◌⊎◌, inl, inr, ℕ, length, refl, sym, ap, ◌∙◌, arith}
 use Rattle.std.proofs.lemmas.Bool.Decides.{leb_tells}
 use Rattle.pit_model.specs.Pit.{Pit}
 use Rattle.pit_share.specs.Opening.{IsPlannerCount}
@@ -8,7 +8,7 @@ use Rattle.pit_step.specs.declared.fault.CliFault.{CliFault}
 use Rattle.pit_step.specs.declared.fault.CliFault.TheVariants as cli
 use Rattle.pit_step.specs.Statuses.{fault_status}
 use Rattle.pit_step.specs.Steps.{in_turn}
-use Rattle.pit_step.proofs.CallerLemmas.{IsOfInputs, never_two, IsDecided, in_turn-decided, pass-decided}
+use Rattle.pit_step.proofs.CallerLemmas.{IsOfInputs, IsDecided, in_turn-decided, pass-decided}
 use Rattle.pit_cli.specs.Texts.{Texts, Setup, pit_in, opening_in, scripts_in, texts_judged}
 use Rattle.pit_cli.specs.Planning.{desk_judged, count_judged, plan_judged}
 use Rattle.pit_cli.specs.Outcomes.{MayRun, AreRefused}

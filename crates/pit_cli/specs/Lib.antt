@@ -3,6 +3,7 @@ pub mod Planning
 pub mod ReportText
 pub mod Output
 pub mod Outcomes
+pub mod ShownRun
 pub mod Inside
 pub use Rattle.pit_step.specs.Steps
 pub use Rattle.pit_step.specs.Devices
@@ -34,3 +35,9 @@ pub use Rattle.pit_info.specs.Info
 pub use Rattle.pit_show.specs.Fronts
 pub use Rattle.pit_show.specs.ShowText
 pub use Rattle.pit_show.specs.Show
+pub use Rattle.pit_log.specs.Causes
+pub use Rattle.pit_log.specs.LogText
+pub use Rattle.pit_log.specs.Log
+pub use Rattle.pit_opening.specs.Beginnings
+pub use Rattle.pit_opening.specs.Openings
+pub use Rattle.pit_file.specs.OutputState

@@ -10,6 +10,7 @@ use Rattle.pit_script.specs.Jobs.{Job}
 use Rattle.pit_share.specs.Logs.{entries_of}
 use Rattle.pit_run.specs.Laws.{IsOneByOne}
 use Rattle.pit_run.specs.Reports.{RunState, RanScript}
+use Rattle.pit_run.specs.Turns.{IsInTurn}
 use Rattle.pit_step.specs.Devices.{Writing}
 use Rattle.pit_step.specs.declared.status.Status.{Status}
 use Rattle.pit_step.specs.declared.fault.CliFault.{CliFault}
@@ -55,7 +56,7 @@ pub record IsWritten (texts : Texts) (options : PlanOptions) (out lines : Writin
 
 -- The history is one of one thread on the pit of the texts, and may have as many entries as a history can. It begins with what they begin with; behind that each
 -- committed entry is a job of a planner's script, done on the schedule that the entries before it leave; and each planner's entries and outcomes are
--- those of its script.
+-- those of its script. Where planners take turns, their entries stand in the order of their numbers.
 pub record IsOneHistory (texts : Texts) (options : PlanOptions) (closed : State) (runs : List RunState) : Type 0 where
   pub opening : Opened
   pub scripts : List (List Job)
@@ -65,6 +66,7 @@ pub record IsOneHistory (texts : Texts) (options : PlanOptions) (closed : State)
   pub limit : closed.max_entries ≡ ENTRIES_MAX
   pub one_thread : IsOfOneThread closed.plan.pit closed.history (value_of closed.plan.pit (held_period (commits_of closed.history)))
   pub one_by_one : IsOneByOne closed.plan.pit (length (entries_before opening)) scripts closed.history
+  pub turns : options.is_in_turn ≡ true → IsInTurn (length scripts) (entries_before opening) closed.history
   pub each : (place : ℕ) (script : List Job) → slice_get scripts place ≡ Some script → (run : RunState) × (slice_get runs place ≡ Some run)
       × RanScript closed.plan.pit options.retries script (1 + place) (entries_of (1 + place) (drop (length (entries_before opening)) closed.history)) run
 

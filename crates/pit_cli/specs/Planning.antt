@@ -1,5 +1,7 @@
 -- What a run of scripts comes to, and its faults.
-use Rattle.std.specs.Prelude.{◌≡◌, ℕ, List, length, ⊤}
+use Rattle.std.specs.Prelude.{◌≡◌, ℕ, Bool, true, false, List, length, ⊤}
+use Rattle.pit_model.specs.Pit.{Pit}
+use Rattle.pit_desk.specs.History.{Answered}
 use Rattle.pit_desk.specs.State.{State}
 use Rattle.pit_desk.specs.declared.entry.TheConstants.{ENTRIES_MAX}
 use Rattle.pit_step.specs.declared.fault.CliFault.{CliFault}
@@ -9,7 +11,9 @@ use Rattle.pit_opening.specs.Openings.{entries_before, IsGoodOpening, IsDeskFaul
 use Rattle.pit_share.specs.Opening.{IsPlannerCount}
 use Rattle.pit_share.specs.Planners.{PlannerState}
 use Rattle.pit_share.specs.declared.error.CloseError.{CloseError}
+use Rattle.pit_script.specs.Jobs.{Job}
 use Rattle.pit_run.specs.Reports.{RunState, IsReport, IsUnclosed}
+use Rattle.pit_run.specs.Turns.{IsInTurn, IsTurnUnclosed}
 use Rattle.pit_cli.specs.Texts.{Texts, Setup, pit_in, opening_in, scripts_in, texts_judged}
 use Rattle.pit_cli.specs.declared.plan_options.PlanOptions.{PlanOptions}
 
@@ -34,17 +38,26 @@ plan_judged texts = in_turn (texts_judged texts) (in_turn desk_judged count_judg
 abbrev pub Ran : Type 0
 Ran = State × List RunState
 
--- memory or a place is wanting, or the logs of planners who have ended don't close the workspace
+-- the logs of planners who have ended don't close the workspace; of planners in turn, that of one turn
+abbrev pub IsNotClosed : Bool → Pit → List Answered → ℕ → ℕ → List (List Job) → Type 0
+IsNotClosed true pit opening max_entries retries scripts = (planner : ℕ) × (cause : CloseError) × IsTurnUnclosed pit opening max_entries retries scripts planner cause
+IsNotClosed false pit opening max_entries retries scripts = (logs : List PlannerState) × (cause : CloseError) × IsUnclosed pit opening max_entries retries scripts logs cause
+
+-- memory or a place is wanting, or a workspace isn't closed
 abbrev pub IsRunFault : Setup → PlanOptions → CliFault → Type 0
 IsRunFault setup options NoMemory = ⊤
 IsRunFault setup options NoPlace = ⊤
-IsRunFault setup options NotClosed =
-    (logs : List PlannerState) × (cause : CloseError) × IsUnclosed (pit_in setup) (entries_before (opening_in setup)) ENTRIES_MAX options.retries (scripts_in setup) logs cause
+IsRunFault setup options NotClosed = IsNotClosed options.is_in_turn (pit_in setup) (entries_before (opening_in setup)) ENTRIES_MAX options.retries (scripts_in setup)
 IsRunFault setup options other = ⊥
 
--- after the history that the desk was opened with, planners did their scripts, on a desk that may have as many entries as a history can
+-- planners did their scripts after this history, in turn where that is asked for
+pub record AreDone (is_in_turn : Bool) (pit : Pit) (opening : List Answered) (max_entries retries : ℕ) (scripts : List (List Job)) (ran : Ran) : Type 0 where
+  pub report : IsReport pit opening max_entries retries scripts ran.0 ran.1
+  pub turns : is_in_turn ≡ true → IsInTurn (length scripts) opening ran.0.history
+
+-- after the history that the desk was opened with, on a desk that may have as many entries as a history can
 abbrev pub IsRan : Setup → PlanOptions → Ran → Type 0
-IsRan setup options ran = IsReport (pit_in setup) (entries_before (opening_in setup)) ENTRIES_MAX options.retries (scripts_in setup) ran.0 ran.1
+IsRan setup options ran = AreDone options.is_in_turn (pit_in setup) (entries_before (opening_in setup)) ENTRIES_MAX options.retries (scripts_in setup) ran
 
 abbrev pub planners_step : PlanOptions → Step CliFault Setup Ran
 planners_step options = judge_step (λ setup. IsRan setup options) (λ setup. IsRunFault setup options)

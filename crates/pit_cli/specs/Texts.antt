@@ -1,5 +1,5 @@
 -- The texts of the inputs of `plan`: what they stand for, and their first fault.
-use Rattle.std.specs.Prelude.{◌≡◌, ◌⊎◌, ℕ, List, [], Option, Some, None}
+use Rattle.std.specs.Prelude.{◌≡◌, ◌⊎◌, ℕ, List, Option, Some, None}
 use Rattle.pit_model.specs.Pit.{Pit}
 use Rattle.pit_text.specs.Cutting.{cut_of, end_line}
 use Rattle.pit_text.specs.Stands.{StopsAt, StandsWhole, FailsWhole}

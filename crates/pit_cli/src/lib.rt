@@ -8,6 +8,7 @@
 #![tactic(auto)]
 
 mod engine;
+mod laws;
 mod outcome;
 mod plan_input;
 mod plan_options;
@@ -17,6 +18,7 @@ mod running;
 mod texts;
 
 pub use engine::plan;
+pub use laws::one_solution;
 pub use outcome::{one_closed_history, one_outcome};
 pub use pit_all::check_all;
 pub use pit_diff::diff;

@@ -1,9 +1,8 @@
 //! From a pit, what a plan begins with, and scripts to the report of their run.
-ghost use Rattle.std.specs.Prelude.{◌≡◌, ◌≤◌, ℕ, List, All, length, map, IfOk, OnOk, IfErr, MatchResult};
+ghost use Rattle.std.specs.Prelude.{◌≡◌, ◌≤◌, true, false, ℕ, List, All, length, map, IfOk, OnOk, IfErr, MatchResult};
 ghost use Rattle.pit_model.specs.Pit.{Pit};
 ghost use Rattle.pit_desk.specs.History.{Answered};
 ghost use Rattle.pit_script.specs.Jobs.{Job};
-ghost use Rattle.pit_run.specs.Reports.{IsReport};
 ghost use Rattle.pit_cli.specs.Inside.Runs.{IsFaultOn};
 ghost use Rattle.pit_opening.specs.Openings.{IsOpeningIn};
 ghost use Rattle.pit_share.specs.Opening.{IsPlannerCount, IsOpenError};
@@ -11,7 +10,7 @@ ghost use Rattle.pit_share.specs.declared.blank.TheConstants.{PLANNERS_MAX};
 ghost use Rattle.pit_job.specs.declared.planner_run.TheConstants.{RETRIES_MAX};
 ghost use Rattle.pit_step.specs.Steps.{in_turn};
 ghost use Rattle.pit_cli.specs.Texts.{Setup};
-ghost use Rattle.pit_cli.specs.Planning.{desk_judged, count_judged, planners_step};
+ghost use Rattle.pit_cli.specs.Planning.{AreDone, desk_judged, count_judged, planners_step};
 
 use crate::plan_options::PlanOptions;
 use pit_board::Session;
@@ -19,7 +18,7 @@ use pit_desk::Desk;
 use pit_job::Open;
 use pit_model::Instance;
 use pit_opening::{Opening, desk_of};
-use pit_run::{Report, RunError, run};
+use pit_run::{InTurnError, Report, RunError, run, run_in_turn};
 use pit_script::Script;
 use pit_share::{Blank, OpenError, Workspace};
 use pit_step::CliFault;
@@ -29,7 +28,7 @@ use std::sync::Wait;
 use std::thread::Threads;
 
 /// Opens a desk with what a plan begins with, for `ENTRIES_MAX` entries, and a workspace on the desk; has planners do the scripts, each in a thread of
-/// its own, and closes the workspace.
+/// its own, and closes the workspace; or, in turn, one workspace for each planner.
 pub fn run_scripts<R: Threads + Wait + Sync, A: Allocator + Copy + Drop + Send + Sync>(
     rt: &R,
     alloc: A,
@@ -46,8 +45,53 @@ pub fn run_scripts<R: Threads + Wait + Sync, A: Allocator + Copy + Drop + Send +
         MatchResult result (λ report. run.Gives setup (report.closed, report.runs.items)) (run.Fails setup) }
 {
     match desk_of(alloc, pit, opening) {
-        Ok(desk) => run_on(rt, alloc, desk, scripts, options.retries),
+        Ok(desk) => run_as(rt, alloc, desk, scripts, options),
         Err(fault) => Err(fault),
+    }
+}
+
+/// Has planners do the scripts on a desk, each in a thread or in turn.
+fn run_as<R: Threads + Wait + Sync, A: Allocator + Copy + Drop + Send + Sync>(
+    rt: &R,
+    alloc: A,
+    desk: Desk<A>,
+    scripts: &[Script<A>],
+    options: PlanOptions,
+) -> Result<Report<A>, CliFault>
+    requires pits { All (λ script. script.pit ≡ desk.plan.pit) scripts.now }
+    requires few { options.retries ≤ RETRIES_MAX }
+    ensures count { OnOk result (IsPlannerCount (length scripts.now)) }
+    ensures ok { let jobs = map (λ script. script.jobs) scripts.now in
+        IfOk result (λ report. AreDone options.is_in_turn desk.plan.pit desk.history desk.max_entries options.retries jobs (report.closed, report.runs.items)) }
+    ensures err { IfErr result (IsFaultOn options.is_in_turn desk.plan.pit desk.history desk.max_entries options.retries (map (λ script. script.jobs) scripts.now)) }
+{
+    if options.is_in_turn {
+        return run_turns(rt, alloc, desk, scripts, options.retries);
+    }
+    run_on(rt, alloc, desk, scripts, options.retries)
+}
+
+/// Has planners take turns with the scripts on a desk.
+fn run_turns<R: Wait, A: Allocator + Copy + Drop>(
+    rt: &R,
+    alloc: A,
+    desk: Desk<A>,
+    scripts: &[Script<A>],
+    retries: u32,
+) -> Result<Report<A>, CliFault>
+    requires pits { All (λ script. script.pit ≡ desk.plan.pit) scripts.now }
+    requires few { retries ≤ RETRIES_MAX }
+    ensures count { OnOk result (IsPlannerCount (length scripts.now)) }
+    ensures ok { let jobs = map (λ script. script.jobs) scripts.now in
+        IfOk result (λ report. AreDone true desk.plan.pit desk.history desk.max_entries retries jobs (report.closed, report.runs.items)) }
+    ensures err { IfErr result (IsFaultOn true desk.plan.pit desk.history desk.max_entries retries (map (λ script. script.jobs) scripts.now)) }
+{
+    match run_in_turn(rt, alloc, desk, scripts, retries, &Open) {
+        Ok(report) => Ok(report),
+        Err(InTurnError::PlannerCount) => Err(CliFault::PlannerCount),
+        Err(InTurnError::NoPlace) => Err(CliFault::NoPlace),
+        Err(InTurnError::NoMemory) => Err(CliFault::NoMemory),
+        Err(InTurnError::NotClosed { .. }) => Err(CliFault::NotClosed),
     }
 }
 
@@ -63,8 +107,8 @@ fn run_on<R: Threads + Wait + Sync, A: Allocator + Copy + Drop + Send + Sync>(
     requires few { retries ≤ RETRIES_MAX }
     ensures count { OnOk result (IsPlannerCount (length scripts.now)) }
     ensures ok { let jobs = map (λ script. script.jobs) scripts.now in
-        IfOk result (λ report. IsReport desk.plan.pit desk.history desk.max_entries retries jobs report.closed report.runs.items) }
-    ensures err { IfErr result (IsFaultOn desk.plan.pit desk.history desk.max_entries retries (map (λ script. script.jobs) scripts.now)) }
+        IfOk result (λ report. AreDone false desk.plan.pit desk.history desk.max_entries retries jobs (report.closed, report.runs.items)) }
+    ensures err { IfErr result (IsFaultOn false desk.plan.pit desk.history desk.max_entries retries (map (λ script. script.jobs) scripts.now)) }
 {
     let Ok(planners) = u32::try_from(scripts.len()) else {
         return Err(CliFault::PlannerCount);
@@ -109,8 +153,8 @@ fn run_in<
     requires few { retries ≤ RETRIES_MAX }
     ensures count { OnOk result (IsPlannerCount (length scripts.now)) }
     ensures ok { let jobs = map (λ script. script.jobs) scripts.now in
-        IfOk result (λ report. IsReport S.instance S.opening S.max_entries retries jobs report.closed report.runs.items) }
-    ensures err { IfErr result (IsFaultOn S.instance S.opening S.max_entries retries (map (λ script. script.jobs) scripts.now)) }
+        IfOk result (λ report. AreDone false S.instance S.opening S.max_entries retries jobs (report.closed, report.runs.items)) }
+    ensures err { IfErr result (IsFaultOn false S.instance S.opening S.max_entries retries (map (λ script. script.jobs) scripts.now)) }
 {
     let (workspace, seats) = match Workspace::<S, O, A>::open(own, alloc, desk, planners, blank) {
         Ok(opened) => opened,
@@ -126,7 +170,7 @@ fn run_in<
 /// The fault of a workspace that can't be opened.
 fn workspace_fault(error: OpenError) -> CliFault
     ensures { (pit : Pit) (opening : List Answered) (max_entries retries : ℕ) (scripts : List (List Job)) → IsOpenError (length scripts) error
-        → IsFaultOn pit opening max_entries retries scripts result }
+        → IsFaultOn false pit opening max_entries retries scripts result }
 {
     match error {
         OpenError::PlannerCount => CliFault::PlannerCount,

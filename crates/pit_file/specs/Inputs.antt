@@ -1,5 +1,5 @@
 -- Which files are inputs.
-use Rattle.std.specs.Prelude.{ℕ, Bool, false, ◌&&◌, ◌||◌, ◌==◌, List, [], ◌∷◌, Option, Some, None}
+use Rattle.std.specs.Prelude.{Bool, false, ◌&&◌, ◌||◌, ◌==◌, List, [], ◌∷◌, Option, Some, None}
 use Rattle.pit_file.specs.declared.identity.FileIdentity.{FileIdentity}
 
 -- both are one regular file: the same number on the same device

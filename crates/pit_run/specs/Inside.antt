@@ -1,3 +1,4 @@
 -- Definitions that no public contract cites.
 pub mod Reports
 pub mod Shared
+pub mod Turns

@@ -1,4 +1,5 @@
 pub mod Reports
+pub mod Turns
 pub mod Laws
 pub mod Inside
 pub use Rattle.pit_script.specs.Words

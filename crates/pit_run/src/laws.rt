@@ -1,5 +1,5 @@
 //! Laws of runs.
-ghost use Rattle.std.specs.Prelude.{◌≡◌, ℕ, ◌+◌, List, slice_get, Some, length, drop};
+ghost use Rattle.std.specs.Prelude.{◌≡◌, ℕ, ◌+◌, ◌≤◌, List, slice_get, Some, length, drop};
 ghost use Rattle.pit_model.specs.Pit.{Pit};
 ghost use Rattle.pit_plan.specs.Schedule.{held_period, value_of};
 ghost use Rattle.pit_desk.specs.History.{Answered, commits_of};
@@ -8,6 +8,7 @@ ghost use Rattle.pit_desk.specs.OneThread.{IsOfOneThread};
 ghost use Rattle.pit_script.specs.Jobs.{Job};
 ghost use Rattle.pit_share.specs.Logs.{entries_of};
 ghost use Rattle.pit_run.specs.Reports.{RunState, IsReport, RanScript};
+ghost use Rattle.pit_run.specs.Turns.{IsInTurn};
 ghost use Rattle.pit_run.specs.Laws.{IsOneByOne};
 
 /// A law of reports: the run of each planner is that of its own script and of its own entries past the opening ones.
@@ -25,4 +26,11 @@ pub fn one_after_another()
         → IsOfOneThread pit desk.history (value_of pit (held_period (commits_of desk.history))) }
     ensures one_by_one { (pit : Pit) (opening : List Answered) (max_entries retries : ℕ) (scripts : List (List Job)) (desk : State) (runs : List RunState) → IsReport pit opening max_entries retries scripts desk runs
         → IsOneByOne pit (length opening) scripts desk.history }
+{}
+
+/// A law of turns: behind the opening history no entry is of an earlier planner than one before it.
+pub fn in_turn()
+    ensures { (planners : ℕ) (opening history : List Answered) → IsInTurn planners opening history
+        → (i j : ℕ) (e f : Answered) → length opening ≤ i → i ≤ j → slice_get history i ≡ Some e → slice_get history j ≡ Some f
+        → e.call.planner ≤ f.call.planner }
 {}

@@ -1,9 +1,15 @@
-ghost use Rattle.std.specs.Prelude.{◌≡◌};
+ghost use Rattle.std.specs.Prelude.{◌≡◌, ◌≤◌};
+ghost use Rattle.pit_job.specs.declared.planner_run.TheConstants.{RETRIES_MAX};
 ghost use Rattle.pit_run.specs.Inside.Reports.{run_of};
+ghost use Rattle.pit_run.specs.Turns.{DidScript};
 
-use pit_job::{Outcome, RunEnd};
+use pit_board::Session;
+use pit_job::{Gate, Outcome, RunEnd, run_script};
+use pit_script::Script;
+use pit_share::{PlannerLog, Seat, Workspace};
 use std::alloc::Allocator;
 use std::marker::Model;
+use std::sync::Wait;
 
 /// How a planner's jobs ended.
 #[derive(Drop)]
@@ -53,4 +59,24 @@ impl<A: Allocator + Drop> PlannerRun<A> {
     {
         self.ended
     }
+}
+
+/// Does a planner's script.
+pub(crate) fn run_planner<S: Session, O: Wait + Drop, A: Allocator + Copy + Drop, R: Wait, G: Gate>(
+    rt: &R,
+    alloc: A,
+    workspace: &Workspace<S, O, A>,
+    seat: Seat<S, A>,
+    script: &Script<A>,
+    retries: u32,
+    gate: &G,
+) -> (PlannerLog<S, A>, PlannerRun<A>)
+    requires pit { script.now.pit ≡ S.instance }
+    requires few { retries ≤ RETRIES_MAX }
+    ensures { DidScript S.instance retries script.now.jobs seat result.0 result.1 }
+{
+    let planner = seat.sit(workspace);
+    let number = planner.number();
+    let (planner, outcomes, ended) = run_script(rt, alloc, planner, script, retries, gate);
+    (planner.finish(), PlannerRun::new(number, outcomes, ended))
 }

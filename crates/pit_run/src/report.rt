@@ -26,3 +26,15 @@ pub enum RunError<S: Session, R: Wait + Drop, A: Allocator + Copy + Drop> {
         cause: CloseError,
     },
 }
+
+/// Why planners who were to take turns left no report. The number of planners is looked at first.
+#[derive(Clone, Copy, Debug, PartialEq, Eq)]
+pub enum InTurnError {
+    /// There are no scripts, or more than `PLANNERS_MAX`.
+    PlannerCount,
+    /// A planner got no place at the board.
+    NoPlace,
+    NoMemory,
+    /// The planner's turn has ended, and the workspace was not closed by the logs.
+    NotClosed { planner: u32, cause: CloseError },
+}

@@ -5,10 +5,10 @@ ghost use Rattle.pit_share.specs.Opening.{AreSeats};
 ghost use Rattle.pit_share.specs.declared.blank.TheConstants.{PLANNERS_MAX};
 ghost use Rattle.pit_run.specs.Reports.{PlannerRan, AllRan};
 
-use crate::planner_run::PlannerRun;
+use crate::planner_run::{PlannerRun, run_planner};
 use crate::shared::Shared;
 use pit_board::Session;
-use pit_job::{Gate, RunEnd, run_script};
+use pit_job::{Gate, RunEnd};
 use pit_script::Script;
 use pit_share::{PlannerLog, Seat, Workspace};
 use std::alloc::Allocator;
@@ -17,28 +17,6 @@ use std::sync::Wait;
 use std::sync::atomic::Ordering;
 use std::thread;
 use std::thread::{Promise, PromisedHandle, Scope, Threads};
-
-/// Does a planner's script.
-fn run_planner<S: Session, O: Wait + Drop, A: Allocator + Copy + Drop, R: Wait, G: Gate>(
-    shared: &Shared<'_, S, O, A, R, G>,
-    seat: Seat<S, A>,
-    script: &Script<A>,
-) -> (PlannerLog<S, A>, PlannerRun<A>)
-    requires { script.now.pit ≡ S.instance }
-    ensures { PlannerRan S.instance shared.now.retries script.now.jobs seat result.0 result.1 }
-{
-    let planner = seat.sit(shared.workspace);
-    let number = planner.number();
-    let (planner, outcomes, ended) = run_script(
-        shared.rt,
-        shared.alloc,
-        planner,
-        script,
-        shared.retries,
-        shared.gate,
-    );
-    (planner.finish(), PlannerRun::new(number, outcomes, ended))
-}
 
 /// Hands in the empty log of a planner whose thread wasn't started.
 fn finish_planner<S: Session, O: Wait + Drop, A: Allocator + Copy + Drop>(
@@ -82,7 +60,15 @@ fn run_unless_refused<S: Session, O: Wait + Drop, A: Allocator + Copy + Drop, R:
     if shared.refused.load(Ordering::SeqCst) == number as u64 {
         return finish_planner(shared.alloc, shared.workspace, seat);
     }
-    run_planner(shared, seat, script)
+    run_planner(
+        shared.rt,
+        shared.alloc,
+        shared.workspace,
+        seat,
+        script,
+        shared.retries,
+        shared.gate,
+    )
 }
 
 /// Starts a planner's thread. Where it is refused, the planner is finished here.
@@ -191,7 +177,7 @@ fn run_all<
 }
 
 /// Adds a log where there is room for it.
-fn push_log<S: Session, A: Allocator + Copy + Drop>(
+pub(crate) fn push_log<S: Session, A: Allocator + Copy + Drop>(
     logs: &mut Vec<PlannerLog<S, A>, A>,
     log: PlannerLog<S, A>,
 )
@@ -203,7 +189,10 @@ fn push_log<S: Session, A: Allocator + Copy + Drop>(
 }
 
 /// Adds a run where there is room for it.
-fn push_run<A: Allocator + Copy + Drop>(runs: &mut Vec<PlannerRun<A>, A>, run: PlannerRun<A>)
+pub(crate) fn push_run<A: Allocator + Copy + Drop>(
+    runs: &mut Vec<PlannerRun<A>, A>,
+    run: PlannerRun<A>,
+)
     requires { length runs.old.items < vec_capacity runs.old }
     ensures items { runs.new.items ≡ runs.old.items ++ run ∷ [] }
     ensures room { vec_capacity runs.old ≤ vec_capacity runs.new }

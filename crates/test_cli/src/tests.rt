@@ -36,6 +36,7 @@ struct Given<'a> {
 
 const OPTIONS: PlanOptions = PlanOptions {
     retries: 3,
+    is_in_turn: false,
     is_strict: false,
 };
 

@@ -7,6 +7,7 @@ mod calls;
 mod limits;
 mod memory;
 mod opened;
+mod resumed;
 mod revised;
 mod steps;
 mod twice;

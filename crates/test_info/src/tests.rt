@@ -1,4 +1,5 @@
 //! Pits in numbers, of the small pit but where a test says otherwise.
+mod cut;
 mod faults;
 mod memory;
 mod unknown;

@@ -8,6 +8,7 @@ mod lines;
 mod memory;
 mod planning;
 mod rows;
+mod turns;
 
 use pit_board::Session;
 use pit_desk::{AuditFault, Desk, Entry, audit};

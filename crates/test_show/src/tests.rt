@@ -2,7 +2,6 @@
 mod cut;
 mod faults;
 mod memory;
-mod texts;
 mod worked;
 
 use pit_num::{In, Out, Sink, Source};

@@ -1,4 +1,5 @@
 //! Tables of schedules, of the small pit but where a test says otherwise.
+mod cut;
 mod faults;
 mod memory;
 mod texts;

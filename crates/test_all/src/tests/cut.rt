@@ -1,22 +1,12 @@
 //! A history that is cut behind each byte.
 use super::is_checked;
-use super::texts::{LOADING, LOADING_FRONTS};
+use super::texts::LOADING_FRONTS;
 use LinesCause::NotJson;
 use pit_lines::{LinesCause, LinesError};
+use pit_sample::{LOADING, line_feeds};
 use pit_step::{CliFault, Input, Status};
 use std::alloc::Global;
 use std::process::Abort;
-
-/// How many line feeds a text has.
-fn feeds(text: &[u8]) -> usize {
-    let mut count = 0usize;
-    for b in text {
-        if *b == b'\n' {
-            count = count.wrapping_add(1);
-        }
-    }
-    count
-}
 
 /// Whether the last line of a part is whole. The part of no byte is a solution, which mines no block.
 fn is_whole(part: &[u8]) -> bool {
@@ -30,8 +20,8 @@ fn is_whole(part: &[u8]) -> bool {
 fn entries(part: &[u8]) -> usize {
     match part.last() {
         None => 0,
-        Some(b'\n') => feeds(part).wrapping_sub(1),
-        Some(_) => feeds(part),
+        Some(b'\n') => line_feeds(part).wrapping_sub(1),
+        Some(_) => line_feeds(part),
     }
 }
 
@@ -53,7 +43,7 @@ fn assert_part(rt: &impl Abort, alloc: Global, part: &[u8]) {
     let fault = CliFault::Lines {
         file: Input::Schedule,
         error: LinesError {
-            line: (feeds(part) as u64).wrapping_add(1),
+            line: (line_feeds(part) as u64).wrapping_add(1),
             cause: NotJson,
         },
     };

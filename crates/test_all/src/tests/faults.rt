@@ -1,8 +1,7 @@
 //! The line of each fault, and its status; and which of the two a text is.
 use super::answered;
-use super::texts::{LOADING, REVISING};
 use pit_num::In;
-use pit_sample::{TINY_MODEL, TINY_PRECEDENCE};
+use pit_sample::{LOADING, REVISING, TINY_MODEL, TINY_PRECEDENCE};
 use pit_step::{CliFault, Input, Status};
 use std::alloc::{AllocError, Global};
 use std::process::Abort;

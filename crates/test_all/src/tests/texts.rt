@@ -1,12 +1,5 @@
 //! Schedules of the small pit, and what is written of them.
 
-/// A block that is too much for its period is mined in the next.
-pub(super) const LOADING: &str = "{\"format\":1}
-{\"act\":\"commit\",\"job\":1,\"planner\":1,\"reads\":[],\"reply\":{\"committed\":1},\"start\":0,\"writes\":[[0,0],[1,0]]}
-{\"act\":\"commit\",\"job\":2,\"planner\":1,\"reads\":[],\"reply\":{\"over\":[0,0,\"5000000\",\"4000000\"]},\"start\":1,\"writes\":[[3,0]]}
-{\"act\":\"commit\",\"job\":3,\"planner\":1,\"reads\":[],\"reply\":{\"committed\":2},\"start\":1,\"writes\":[[3,1]]}
-";
-
 /// What it leaves is worth -10 + 20.5 + 5 * 0.909090909091, with a load of 4 in period 0 and of 1 in period 1.
 pub(super) const LOADING_FINE: &str = "value 15.045454545455000000\nfine\n";
 
@@ -17,13 +10,6 @@ pub(super) const LOADING_FRONTS: &[&str] = &[
     "value 10.500000000000000000\nshort 0 1 0.000000 1.000000\nbroken 0 over 0 short 1\n",
     LOADING_FINE,
 ];
-
-/// A limit is raised, so that a block fits in, and can't be lowered again.
-pub(super) const REVISING: &str = "{\"format\":2}
-{\"act\":\"commit\",\"job\":1,\"planner\":1,\"reads\":[],\"reply\":{\"committed\":1},\"revises\":[],\"start\":0,\"writes\":[[0,0],[1,0]]}
-{\"act\":\"commit\",\"job\":2,\"planner\":1,\"reads\":[],\"reply\":{\"committed\":2},\"revises\":[[0,0,\"5000000\"]],\"start\":1,\"writes\":[[3,0]]}
-{\"act\":\"commit\",\"job\":3,\"planner\":1,\"reads\":[],\"reply\":{\"over\":[0,0,\"5000000\",\"4000000\"]},\"revises\":[[0,0,\"4000000\"]],\"start\":2,\"writes\":[]}
-";
 
 /// What it leaves is worth -10 + 20.5 + 5. The load of 5 in period 0 is at its limit, and no block is in period 1.
 pub(super) const REVISING_SHORT: &str =

@@ -1,7 +1,7 @@
 //! Worked examples, byte for byte.
 use super::is_checked;
-use super::texts::{LOADING, LOADING_FINE, REVISING, REVISING_SHORT};
-use pit_sample::TINY_SOLUTION;
+use super::texts::{LOADING_FINE, REVISING_SHORT};
+use pit_sample::{LOADING, REVISING, TINY_SOLUTION};
 use pit_step::Status;
 use std::alloc::{AllocError, Global};
 use std::test::Fail;

@@ -19,7 +19,8 @@ const SWAP: &[u8] = b"begin\nput 2 1\nclear 3\ncommit\n";
 const SWAP_REPORT: &[u8] = b"planner 1 job 1 committed 3 tries 1\nvalue 37.772727272730000000\n";
 
 /// The entry that it makes, behind the three of the history.
-const SWAP_LINE: &[u8] = br#"{"act":"commit","job":1,"planner":1,"reads":[],"reply":{"committed":3},"start":2,"writes":[[2,1],[3,null]]}
+const SWAP_LINE: &[u8] =
+    br#"{"act":"commit","job":1,"planner":1,"reads":[],"reply":{"committed":3},"start":2,"writes":[[2,1],[3,null]]}
 "#;
 
 fn kept<R: Threads + Wait + Abort + Sync>(rt: &R, alloc: Global, given: Given<'_>) -> Ended {
@@ -90,12 +91,7 @@ fn a_solution_knows_no_revised_limit(rt: HostRuntime) {
         load: 5_000_000,
         limit: 4_000_000,
     };
-    assert_refused(
-        &rt,
-        rt.alloc(),
-        given,
-        CliFault::Start(BreachLine(breach)),
-    );
+    assert_refused(&rt, rt.alloc(), given, CliFault::Start(BreachLine(breach)));
 }
 
 /// The last reply isn't the one that is due.
@@ -135,7 +131,8 @@ planner 1 job 3 committed 4 tries 1
 value 15.045454545455000000
 ";
 
-const AGAIN_LINES: &[u8] = br#"{"act":"commit","job":1,"planner":1,"reads":[],"reply":{"committed":3},"start":2,"writes":[[0,0],[1,0]]}
+const AGAIN_LINES: &[u8] =
+    br#"{"act":"commit","job":1,"planner":1,"reads":[],"reply":{"committed":3},"start":2,"writes":[[0,0],[1,0]]}
 {"act":"commit","job":2,"planner":1,"reads":[],"reply":{"over":[0,0,"5000000","4000000"]},"start":3,"writes":[[3,0]]}
 {"act":"commit","job":3,"planner":1,"reads":[],"reply":{"committed":4},"start":3,"writes":[[3,1]]}
 "#;
@@ -218,4 +215,27 @@ value 4.545454545455000000
 ";
     let found = planned(&rt, rt.alloc(), given);
     assert_ended(&rt, &found, Ok(Status::Fine), b"3 1\n", report);
+}
+
+const IN_TURN: PlanOptions = PlanOptions {
+    is_in_turn: true,
+    ..OPTIONS
+};
+
+/// The first moves what the second then clears.
+#[test]
+fn planners_take_turns(rt: HostRuntime) {
+    let given = Given {
+        begins: Begins::Schedule(b"3 1\n"),
+        scripts: &[b"begin\nshift 3 -1\ncommit\n", b"begin\nclear 3\ncommit\n"],
+        options: IN_TURN,
+        ..BARE
+    };
+    let report = b"planner 1 job 1 committed 2 tries 1
+planner 2 job 1 committed 3 tries 1
+value 0.000000000000000000
+short 0 1 0.000000 1.000000
+";
+    let found = planned(&rt, rt.alloc(), given);
+    assert_ended(&rt, &found, Ok(Status::Failed), b"", report);
 }

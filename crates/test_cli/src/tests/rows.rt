@@ -1,6 +1,7 @@
 //! Worked plans.
 use super::{
-    BARE, Begins, CANNOT_WRITE, Given, ROOM, ROOMS, Rooms, assert_ended, history_of, planned, planned_in,
+    BARE, Begins, CANNOT_WRITE, Given, ROOM, ROOMS, Rooms, assert_ended, history_of, planned,
+    planned_in,
 };
 use pit_sample::{TINY_BLOCKS, TINY_SOLUTION};
 use pit_step::Status;

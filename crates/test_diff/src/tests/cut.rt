@@ -1,22 +1,11 @@
 //! A history that is cut behind each byte, beside itself.
 use super::is_told;
-use super::texts::LOADING;
 use LinesCause::NotJson;
 use pit_lines::{LinesCause, LinesError};
+use pit_sample::{LOADING, line_feeds};
 use pit_step::{CliFault, Input, Status};
 use std::alloc::Global;
 use std::process::Abort;
-
-/// How many line feeds a text has.
-fn feeds(text: &[u8]) -> u64 {
-    let mut count = 0u64;
-    for b in text {
-        if *b == b'\n' {
-            count = count.wrapping_add(1);
-        }
-    }
-    count
-}
 
 /// Whether the last line of a part is whole. The part of no byte is a solution, which mines no block.
 fn is_whole(part: &[u8]) -> bool {
@@ -38,7 +27,7 @@ fn assert_part(rt: &impl Abort, alloc: Global, part: &[u8]) {
     let fault = CliFault::Lines {
         file: Input::Old,
         error: LinesError {
-            line: feeds(part).wrapping_add(1),
+            line: (line_feeds(part) as u64).wrapping_add(1),
             cause: NotJson,
         },
     };

@@ -1,8 +1,7 @@
 //! The first fault of the inputs, and its line.
 use super::diff_to;
-use super::texts::{LOADING, REVISING};
 use pit_num::Out;
-use pit_sample::TINY_MODEL;
+use pit_sample::{LOADING, REVISING, TINY_MODEL};
 use std::alloc::{AllocError, Global};
 use std::process::Abort;
 use std::test::Fail;

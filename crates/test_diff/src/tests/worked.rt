@@ -1,8 +1,8 @@
 //! Worked examples, byte for byte.
-use super::texts::{FREEING, LOADING, REVISING};
+use super::texts::FREEING;
 use super::{diff_to, is_told};
 use pit_num::Out;
-use pit_sample::TINY_SOLUTION;
+use pit_sample::{LOADING, REVISING, TINY_SOLUTION};
 use pit_step::Status;
 
 /// An old schedule, a new one, and what differs. Block 0 is worth -10 in period 0, block 1 20.5, block 2 30 and block 3 5; in period 1 that is

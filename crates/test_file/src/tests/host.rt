@@ -1,5 +1,5 @@
 //! The steps over the system's files, each test in a folder of its own.
-use super::places::{emptied, holds, is_missing, mode_of, put};
+use super::places::{emptied, holds, is_missing, mode_of, put, removed};
 use pit_file::{FileFault, FileIdentity, HistoryFile, HistoryOut, HostNames};
 use pit_num::Failed;
 
@@ -40,6 +40,7 @@ fn replaces(rt: HostRuntime) {
     assert!(rt; holds(&rt, name, NEW));
     assert!(rt; mode_of(&rt, name) == 0o640);
     assert!(rt; is_missing(&rt, new_name));
+    assert!(rt; removed(&rt, "test_file_replaces"));
 }
 
 // A file that the test makes has the mode of a new one.
@@ -52,6 +53,7 @@ fn makes(rt: HostRuntime) {
     assert!(rt; is_replaced(&rt, name, new_name, mode, NEW));
     assert!(rt; holds(&rt, name, NEW));
     assert!(rt; mode_of(&rt, name) == mode);
+    assert!(rt; removed(&rt, "test_file_makes"));
 }
 
 // The same where a program that was ended left a file of another mode.
@@ -64,6 +66,7 @@ fn makes_again(rt: HostRuntime) {
     let mode = mode_of(&rt, "test_file_makes_again/other");
     assert!(rt; is_replaced(&rt, name, new_name, mode, b""));
     assert!(rt; holds(&rt, name, b""));
+    assert!(rt; removed(&rt, "test_file_makes_again"));
 }
 
 /// Whether of two that would write one history the first is let in, until it is done.
@@ -89,6 +92,7 @@ fn lets_one_in(rt: HostRuntime) {
     assert!(rt; is_one_let_in(&rt, name, new_name));
     assert!(rt; holds(&rt, name, NEW));
     assert!(rt; !is_missing(&rt, new_name));
+    assert!(rt; removed(&rt, "test_file_lets_one_in"));
 }
 
 /// Whether what stands at the new file's name is refused, and nothing is done to it.

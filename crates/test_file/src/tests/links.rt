@@ -1,6 +1,6 @@
 //! Where a history's path leads, what may stand at the new file's name, and which files are one.
 use super::host::{is_new_file_input, stays_unfit};
-use super::places::{emptied, holds, put};
+use super::places::{emptied, holds, put, removed};
 use pit_file::{
     FileFault, FileIdentity, Place, found, identity_at, identity_of, is_among, open_stream,
 };
@@ -36,6 +36,7 @@ fn files(rt: HostRuntime) {
     assert!(rt; leads_to_file(&rt, "test_file_files/here/link", "/test_file_files/h"));
     assert!(rt; leads_to_file(&rt, "test_file_files/here/new", "/test_file_files/new"));
     assert!(rt; leads_to_file(&rt, "test_file_no_such", "/test_file_no_such"));
+    assert!(rt; removed(&rt, "test_file_files"));
 }
 
 const LOST: &[&str] = &[
@@ -56,6 +57,7 @@ fn lost(rt: HostRuntime) {
     for path in LOST {
         assert!(rt; is_lost(&rt, path));
     }
+    assert!(rt; removed(&rt, "test_file_lost"));
 }
 
 /// Whether a stream at a path takes a text.
@@ -74,6 +76,7 @@ fn streams(rt: HostRuntime) {
     assert!(rt; !is_taken(&rt, "test_file_streams"));
     assert!(rt; !is_taken(&rt, "/dev/full"));
     assert!(rt; is_taken(&rt, "/dev/null"));
+    assert!(rt; removed(&rt, "test_file_streams"));
 }
 
 #[test]
@@ -93,6 +96,7 @@ fn new_names(rt: HostRuntime) {
     assert!(rt; fs::remove_dir(&rt, new_name).is_ok());
     assert!(rt; fs::hard_link(&rt, name, new_name).is_ok());
     assert!(rt; stays_unfit(&rt, name, new_name));
+    assert!(rt; removed(&rt, "test_file_new_names"));
 }
 
 /// What the file at a path is known by, once it is opened.
@@ -118,6 +122,7 @@ fn inputs(rt: HostRuntime) {
     assert!(rt; opened_identity(&rt, "/dev/null") == Ok(None));
     assert!(rt; identity_at(&rt, "test_file_inputs") == Ok(None));
     assert!(rt; identity_at(&rt, "test_file_inputs/no") == Ok(None));
+    assert!(rt; removed(&rt, "test_file_inputs"));
 }
 
 /// The file of a number on a device.

@@ -8,6 +8,11 @@ pub fn emptied(rt: &HostRuntime, name: &str) -> bool {
     fs::create_dir(rt, name).is_ok()
 }
 
+/// Removes a folder with all that it has.
+pub fn removed(rt: &HostRuntime, name: &str) -> bool {
+    fs::remove_dir_all(rt, name).is_ok()
+}
+
 /// Makes a file with a text, of this mode, or of a new file's where that is 0.
 pub fn put(rt: &HostRuntime, path: &str, text: &[u8], mode: u32) -> bool {
     if fs::write(rt, path, text).is_err() {

@@ -1,23 +1,12 @@
 //! A history that is cut behind each byte.
 use super::rows::{REVISING, history_of};
-use super::worked::REVISING_TEXT;
 use super::{are_same, fault, read};
 use pit_desk::Entry;
 use pit_lines::LinesCause::{NotFormat, NotJson};
 use pit_lines::LinesError;
+use pit_sample::{REVISING as REVISING_TEXT, line_feeds};
 use std::alloc::Global;
 use std::process::Abort;
-
-/// How many line feeds a text has.
-fn feeds(text: &[u8]) -> u64 {
-    let mut count = 0u64;
-    for b in text {
-        if *b == b'\n' {
-            count = count.wrapping_add(1);
-        }
-    }
-    count
-}
 
 /// What is wrong with a part of the text: its last line isn't whole.
 fn fault_of(part: &[u8]) -> Option<LinesError> {
@@ -25,7 +14,7 @@ fn fault_of(part: &[u8]) -> Option<LinesError> {
         None => Some(fault(1, NotFormat)),
         Some(b'}') if is_line_end(part) => None,
         Some(b'\n') => None,
-        Some(_) => Some(fault(feeds(part).wrapping_add(1), NotJson)),
+        Some(_) => Some(fault((line_feeds(part) as u64).wrapping_add(1), NotJson)),
     }
 }
 
@@ -48,7 +37,7 @@ fn assert_part(rt: &impl Abort, alloc: Global, part: &[u8]) {
 
 /// These are the entries of a part.
 fn assert_rows(rt: &impl Abort, alloc: Global, part: &[u8], history: &[Entry<Global>]) {
-    let lines = feeds(part).wrapping_add(if part.ends_with(b"\n") { 0 } else { 1 });
+    let lines = (line_feeds(part) as u64).wrapping_add(if part.ends_with(b"\n") { 0 } else { 1 });
     let rows = REVISING
         .get(..lines.wrapping_sub(1) as usize)
         .expect(rt, "rows");

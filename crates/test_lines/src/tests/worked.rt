@@ -1,25 +1,7 @@
 //! Worked examples, byte for byte.
 use super::rows::{GIVEN_UP, GREATEST, LOADING, MEETING, REVISING, Row, history_of};
 use super::{are_same, read, written};
-
-const MEETING_TEXT: &str = "{\"format\":1}
-{\"act\":\"commit\",\"job\":0,\"planner\":0,\"reads\":[],\"reply\":{\"committed\":1},\"start\":0,\"writes\":[[3,1]]}
-{\"act\":\"commit\",\"job\":1,\"planner\":2,\"reads\":[],\"reply\":{\"committed\":2},\"start\":1,\"writes\":[[3,null]]}
-{\"act\":\"commit\",\"job\":1,\"planner\":1,\"reads\":[[3,1]],\"reply\":{\"moved\":[3,2]},\"start\":1,\"writes\":[[3,0]]}
-{\"act\":\"withdraw\",\"job\":1,\"planner\":1,\"reads\":[[3,null]],\"reply\":\"withdrawn\",\"start\":2,\"writes\":[]}
-";
-
-const LOADING_TEXT: &str = "{\"format\":1}
-{\"act\":\"commit\",\"job\":1,\"planner\":1,\"reads\":[],\"reply\":{\"committed\":1},\"start\":0,\"writes\":[[0,0],[1,0]]}
-{\"act\":\"commit\",\"job\":2,\"planner\":1,\"reads\":[],\"reply\":{\"over\":[0,0,\"5000000\",\"4000000\"]},\"start\":1,\"writes\":[[3,0]]}
-{\"act\":\"commit\",\"job\":3,\"planner\":1,\"reads\":[],\"reply\":{\"committed\":2},\"start\":1,\"writes\":[[3,1]]}
-";
-
-pub(super) const REVISING_TEXT: &str = "{\"format\":2}
-{\"act\":\"commit\",\"job\":1,\"planner\":1,\"reads\":[],\"reply\":{\"committed\":1},\"revises\":[],\"start\":0,\"writes\":[[0,0],[1,0]]}
-{\"act\":\"commit\",\"job\":2,\"planner\":1,\"reads\":[],\"reply\":{\"committed\":2},\"revises\":[[0,0,\"5000000\"]],\"start\":1,\"writes\":[[3,0]]}
-{\"act\":\"commit\",\"job\":3,\"planner\":1,\"reads\":[],\"reply\":{\"over\":[0,0,\"5000000\",\"4000000\"]},\"revises\":[[0,0,\"4000000\"]],\"start\":2,\"writes\":[]}
-";
+use pit_sample::{LOADING as LOADING_TEXT, MEETING as MEETING_TEXT, REVISING as REVISING_TEXT};
 
 const GIVEN_UP_TEXT: &str = "{\"format\":2}
 {\"act\":\"commit\",\"job\":1,\"planner\":1,\"reads\":[],\"reply\":{\"committed\":1},\"revises\":[],\"start\":0,\"writes\":[]}

@@ -1,22 +1,12 @@
 //! A history that is cut behind each byte.
-use super::histories::{LOADING, LOADING_FRONTS, MEETING, MEETING_FRONTS};
+use super::histories::{LOADING_FRONTS, MEETING_FRONTS};
 use super::is_replayed;
 use LinesCause::{NotFormat, NotJson};
 use pit_lines::{LinesCause, LinesError};
+use pit_sample::{LOADING, MEETING, line_feeds};
 use pit_step::{CliFault, Input, Status};
 use std::alloc::Global;
 use std::process::Abort;
-
-/// How many line feeds a text has.
-fn feeds(text: &[u8]) -> usize {
-    let mut count = 0usize;
-    for b in text {
-        if *b == b'\n' {
-            count = count.wrapping_add(1);
-        }
-    }
-    count
-}
 
 /// A history, and what is written of its first entries.
 type Row = (&'static str, &'static [&'static str]);
@@ -24,8 +14,8 @@ type Row = (&'static str, &'static [&'static str]);
 /// What is written of a part whose last line is whole.
 fn written_of(part: &[u8], fronts: &[&'static str]) -> Option<&'static str> {
     let whole = match part.last() {
-        Some(b'\n') => feeds(part),
-        _ => feeds(part).wrapping_add(1),
+        Some(b'\n') => line_feeds(part),
+        _ => line_feeds(part).wrapping_add(1),
     };
     fronts.get(whole.wrapping_sub(1)).copied()
 }
@@ -44,7 +34,7 @@ fn assert_part(rt: &impl Abort, alloc: Global, row: Row, part: &[u8]) {
     let (text, fronts) = row;
     let is_right = match cause_of(part, text) {
         Some(cause) => {
-            let line = (feeds(part) as u64).wrapping_add(1);
+            let line = (line_feeds(part) as u64).wrapping_add(1);
             let fault = CliFault::Lines {
                 file: Input::History,
                 error: LinesError { line, cause },

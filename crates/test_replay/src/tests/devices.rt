@@ -1,8 +1,8 @@
 //! Devices that give or take little, and then fail.
-use super::histories::{LOADING, LOADING_LEGAL};
+use super::histories::LOADING_LEGAL;
 use super::{is_answer, replay_to, replayed};
 use pit_num::In;
-use pit_sample::{Broken, Narrow, TINY_MODEL, TINY_PRECEDENCE};
+use pit_sample::{Broken, LOADING, Narrow, TINY_MODEL, TINY_PRECEDENCE};
 use pit_step::{CliFault, Input, Status};
 use std::alloc::Global;
 

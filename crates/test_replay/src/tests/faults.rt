@@ -1,8 +1,9 @@
 //! The line of each fault, and its status.
-use super::histories::LOADING;
 use super::replayed;
 use pit_num::In;
-use pit_sample::{TINY_COEFFICIENTS, TINY_HEADER, TINY_MODEL, TINY_OBJECTIVE, TINY_PRECEDENCE};
+use pit_sample::{
+    LOADING, TINY_COEFFICIENTS, TINY_HEADER, TINY_MODEL, TINY_OBJECTIVE, TINY_PRECEDENCE,
+};
 use pit_step::{CliFault, Input, Status};
 use std::alloc::{AllocError, Global};
 use std::process::Abort;

@@ -1,13 +1,5 @@
 //! Worked histories, and what their replays write.
 
-/// Two planners meet: what one of them reads is written by the other, and so it gives up.
-pub(super) const MEETING: &str = "{\"format\":1}
-{\"act\":\"commit\",\"job\":0,\"planner\":0,\"reads\":[],\"reply\":{\"committed\":1},\"start\":0,\"writes\":[[3,1]]}
-{\"act\":\"commit\",\"job\":1,\"planner\":2,\"reads\":[],\"reply\":{\"committed\":2},\"start\":1,\"writes\":[[3,null]]}
-{\"act\":\"commit\",\"job\":1,\"planner\":1,\"reads\":[[3,1]],\"reply\":{\"moved\":[3,2]},\"start\":1,\"writes\":[[3,0]]}
-{\"act\":\"withdraw\",\"job\":1,\"planner\":1,\"reads\":[[3,null]],\"reply\":\"withdrawn\",\"start\":2,\"writes\":[]}
-";
-
 /// No block is mined at its end.
 pub(super) const MEETING_LEGAL: &str = "legal 4 2\nvalue 0.000000000000000000\n";
 
@@ -20,13 +12,6 @@ pub(super) const MEETING_FRONTS: &[&str] = &[
     MEETING_LEGAL,
 ];
 
-/// A block that is too much for its period is mined in the next.
-pub(super) const LOADING: &str = "{\"format\":1}
-{\"act\":\"commit\",\"job\":1,\"planner\":1,\"reads\":[],\"reply\":{\"committed\":1},\"start\":0,\"writes\":[[0,0],[1,0]]}
-{\"act\":\"commit\",\"job\":2,\"planner\":1,\"reads\":[],\"reply\":{\"over\":[0,0,\"5000000\",\"4000000\"]},\"start\":1,\"writes\":[[3,0]]}
-{\"act\":\"commit\",\"job\":3,\"planner\":1,\"reads\":[],\"reply\":{\"committed\":2},\"start\":1,\"writes\":[[3,1]]}
-";
-
 /// -10 + 20.5 + 5 * 0.909090909091.
 pub(super) const LOADING_LEGAL: &str = "legal 3 2\nvalue 15.045454545455000000\n";
 
@@ -37,13 +22,6 @@ pub(super) const LOADING_FRONTS: &[&str] = &[
     "legal 2 1\nvalue 10.500000000000000000\n",
     LOADING_LEGAL,
 ];
-
-/// A limit is raised, so that a block fits in, and can't be lowered again.
-pub(super) const REVISING: &str = "{\"format\":2}
-{\"act\":\"commit\",\"job\":1,\"planner\":1,\"reads\":[],\"reply\":{\"committed\":1},\"revises\":[],\"start\":0,\"writes\":[[0,0],[1,0]]}
-{\"act\":\"commit\",\"job\":2,\"planner\":1,\"reads\":[],\"reply\":{\"committed\":2},\"revises\":[[0,0,\"5000000\"]],\"start\":1,\"writes\":[[3,0]]}
-{\"act\":\"commit\",\"job\":3,\"planner\":1,\"reads\":[],\"reply\":{\"over\":[0,0,\"5000000\",\"4000000\"]},\"revises\":[[0,0,\"4000000\"]],\"start\":2,\"writes\":[]}
-";
 
 /// -10 + 20.5 + 5.
 pub(super) const REVISING_LEGAL: &str = "legal 3 2\nvalue 15.500000000000000000\n";

@@ -1,8 +1,7 @@
 //! Histories of which one thing is changed.
-use super::histories::{
-    GIVING_UP, GIVING_UP_LEGAL, LOADING, LOADING_LEGAL, MEETING, MEETING_LEGAL, REVISING,
-};
+use super::histories::{GIVING_UP, GIVING_UP_LEGAL, LOADING_LEGAL, MEETING_LEGAL};
 use super::is_replayed;
+use pit_sample::{LOADING, MEETING, REVISING};
 use pit_step::Status;
 use std::alloc::{AllocError, Global};
 use std::test::Fail;

@@ -1,6 +1,7 @@
 //! Worked examples, byte for byte.
-use super::histories::{LOADING, LOADING_LEGAL, MEETING, MEETING_LEGAL, REVISING, REVISING_LEGAL};
+use super::histories::{LOADING_LEGAL, MEETING_LEGAL, REVISING_LEGAL};
 use super::is_replayed;
+use pit_sample::{LOADING, MEETING, REVISING};
 use pit_step::Status;
 use std::alloc::Global;
 

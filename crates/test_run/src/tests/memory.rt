@@ -12,7 +12,7 @@ use std::sync::Wait;
 use std::thread::Threads;
 
 /// Jobs of each kind, past the first doublings of outcomes, logs and history.
-const SCRIPT: &[u8] = b"begin
+pub(super) const SCRIPT: &[u8] = b"begin
 put 0 0
 put 1 0
 commit

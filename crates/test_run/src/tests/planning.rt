@@ -14,6 +14,7 @@ use std::thread::Threads;
 
 const OPTIONS: PlanOptions = PlanOptions {
     retries: 3,
+    is_in_turn: false,
     is_strict: false,
 };
 

@@ -14,17 +14,17 @@ use std::thread;
 use std::thread::Threads;
 
 /// Blocks with their periods.
-type Pairs = &'static [(u32, Option<u32>)];
+pub(super) type Pairs = &'static [(u32, Option<u32>)];
 
 /// What is expected of an entry.
-struct Line {
-    planner: u32,
-    job: u32,
-    start: u32,
-    reads: Pairs,
-    writes: Pairs,
-    act: Act,
-    reply: EntryReply,
+pub(super) struct Line {
+    pub(super) planner: u32,
+    pub(super) job: u32,
+    pub(super) start: u32,
+    pub(super) reads: Pairs,
+    pub(super) writes: Pairs,
+    pub(super) act: Act,
+    pub(super) reply: EntryReply,
 }
 
 /// Whether it is the entry, which revises nothing.
@@ -43,7 +43,7 @@ fn has_pairs(entry: &Entry<Global>, line: &Line) -> bool {
         && entry.revises.items().is_empty()
 }
 
-fn assert_history(rt: &impl Abort, report: &Report<Global>, lines: &[Line]) {
+pub(super) fn assert_history(rt: &impl Abort, report: &Report<Global>, lines: &[Line]) {
     let history = report.closed.desk().history();
     assert!(rt; history.len() == lines.len());
     for (entry, line) in history.iter().zip(lines.iter()) {
@@ -99,9 +99,9 @@ impl Gate for Between {
     }
 }
 
-const FIRST: &[u8] = b"begin\nshift 3 -1\ncommit\n";
+pub(super) const FIRST: &[u8] = b"begin\nshift 3 -1\ncommit\n";
 
-const SECOND: &[u8] = b"begin\nclear 3\ncommit\n";
+pub(super) const SECOND: &[u8] = b"begin\nclear 3\ncommit\n";
 
 /// The entries of those two scripts, up to the one that was moved.
 const MOVED: &[Line] = &[

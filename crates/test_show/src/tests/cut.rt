@@ -1,8 +1,8 @@
 //! A history that is cut behind each byte.
 use super::is_shown;
-use super::texts::LOADING;
 use LinesCause::NotJson;
 use pit_lines::{LinesCause, LinesError};
+use pit_sample::{LOADING, line_feeds};
 use pit_step::{CliFault, Input, Status};
 use std::alloc::Global;
 use std::process::Abort;
@@ -15,20 +15,9 @@ const FRONTS: &[&str] = &[
     "% commits 2 sum 067cbacbcebf1d0897baba929209ce0b79b9c0eeebed4d67337f33960cf5fece\n0 0\n1 0\n3 1\n",
 ];
 
-/// How many line feeds a text has.
-fn feeds(text: &[u8]) -> usize {
-    let mut count = 0usize;
-    for b in text {
-        if *b == b'\n' {
-            count = count.wrapping_add(1);
-        }
-    }
-    count
-}
-
 /// How many entries a part has, where its last line is whole.
 fn entries(part: &[u8]) -> Option<usize> {
-    let feeds = feeds(part);
+    let feeds = line_feeds(part);
     match part.last() {
         Some(b'\n') => Some(feeds.wrapping_sub(1)),
         Some(_) if LOADING.as_bytes().get(part.len()) == Some(&b'\n') => Some(feeds),
@@ -46,7 +35,7 @@ fn assert_part(rt: &impl Abort, alloc: Global, part: &[u8]) {
     let fault = CliFault::Lines {
         file: Input::Schedule,
         error: LinesError {
-            line: (feeds(part) as u64).wrapping_add(1),
+            line: (line_feeds(part) as u64).wrapping_add(1),
             cause: NotJson,
         },
     };

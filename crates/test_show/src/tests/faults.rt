@@ -1,8 +1,7 @@
 //! The line of each fault, its status, and which of several is told.
 use super::answered;
-use super::texts::{LOADING, REVISING};
 use pit_num::In;
-use pit_sample::TINY_MODEL;
+use pit_sample::{LOADING, REVISING, TINY_MODEL};
 use std::alloc::{AllocError, Global};
 use std::process::Abort;
 use std::test::Fail;

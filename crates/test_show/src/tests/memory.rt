@@ -1,18 +1,12 @@
 //! Want of memory, devices that fail, and what is freed after a fault.
-use super::texts::{LOADING, REVISING};
-use linked_list_allocator::LocalHeap;
-use pit_refuse::Refusing;
-use pit_sample::{Broken, Narrow, TINY_MODEL};
+use pit_sample::{
+    Broken, Ending, Heap, LOADING, Narrow, REVISING, TINY_MODEL, Trial, long_history, refuse_each,
+};
 use pit_show::show;
 use pit_step::{CliFault, Input, Status};
 use std::alloc::Global;
+use std::fmt::Write;
 use std::process::Abort;
-
-/// An allocator that refuses one request.
-type Heap<'a> = &'a Refusing<LocalHeap>;
-
-/// The bytes of a heap, of which no call takes half.
-const BYTES: usize = 4_194_304;
 
 /// The bytes that a device gives or takes at once, so that what is read grows by doubling.
 const PIECE: usize = 1_000;
@@ -20,78 +14,58 @@ const PIECE: usize = 1_000;
 /// More calls than it takes to read a text.
 const ALL: usize = 1_000;
 
-/// A schedule, how many calls its device answers before it fails, the commits that are asked for, what is answered, and what is written, for
+/// A model, a schedule, how many calls its device answers before it fails, the commits that are asked for, what is answered, and what is written, for
 /// which alone there is room.
 #[derive(Clone, Copy)]
-struct Run {
-    schedule: &'static str,
+struct Run<'a> {
+    model: &'a [u8],
+    schedule: &'a str,
     calls: usize,
     at: Option<u32>,
     answer: Result<Status, CliFault>,
-    written: &'static str,
+    written: &'a str,
 }
 
 /// What is answered. What takes no allocator but the JSON values is given the heap.
 fn answer_of(
     heap: Heap<'_>,
     plain: Global,
-    run: Run,
+    run: Run<'_>,
     out: &mut Narrow,
 ) -> Result<Status, CliFault> {
     show(
         heap,
         plain,
-        &mut Broken::new(TINY_MODEL, PIECE, ALL),
+        &mut Broken::new(run.model, PIECE, ALL),
         &mut Broken::new(run.schedule.as_bytes(), PIECE, run.calls),
         run.at,
         out,
     )
 }
 
-/// Whether the run ends as it has to. Else it answers want of memory, and writes nothing. All memory is given back.
-fn is_right(rt: &impl Abort, heap: Heap<'_>, plain: Global, run: Run) -> bool {
-    let mut out = Narrow::new(plain, PIECE, run.written.len());
-    let answer = answer_of(heap, plain, run, &mut out);
-    assert!(rt; heap.used() == 0);
-    if answer == Err(CliFault::NoMemory) {
-        assert!(rt; out.held().is_empty());
-        return false;
-    }
-    assert_eq!(rt; answer, run.answer);
-    assert!(rt; out.held() == run.written.as_bytes());
-    true
-}
-
-/// Runs, and runs again where want of memory was answered, which is exactly where the allocator has refused.
-fn run_twice(rt: &impl Abort, heap: Heap<'_>, plain: Global, run: Run) {
-    let before = heap.count();
-    let is_done = is_right(rt, heap, plain, run);
-    assert!(rt; is_done != heap.count().has_refused_since(before));
-    assert!(rt;
-        is_done || is_right(rt, heap, plain, run),
-        "no memory twice"
-    );
-}
-
-/// Whether no request had the number.
-fn is_whole(rt: &impl Abort, alloc: Global, number: u64, run: Run) -> bool {
-    let heap = Refusing::over_heap(alloc, BYTES, number).expect(rt, "a heap");
-    run_twice(rt, &heap, alloc, run);
-    !heap.count().has_refused()
-}
-
-/// Refuses each request in turn, up to the one behind the last, which is above this number.
-fn refuse_each(rt: &impl Abort, alloc: Global, run: Run, least: u64) {
-    for number in 1..1_000 {
-        if is_whole(rt, alloc, number, run) {
-            assert!(rt; number > least);
-            return;
+impl<'a> Trial for Run<'a> {
+    fn ending(&self, heap: Heap<'_>, plain: Global) -> Ending {
+        let mut out = Narrow::new(plain, PIECE, self.written.len());
+        let answer = answer_of(heap, plain, *self, &mut out);
+        let is_freed = heap.used() == 0;
+        let is_unwritten = out.held().is_empty();
+        let is_written = out.held() == self.written.as_bytes();
+        drop(out);
+        if !is_freed {
+            return Ending::Wrong("memory that was not given back");
         }
+        if answer == Err(CliFault::NoMemory) && is_unwritten {
+            return Ending::NoMemory;
+        }
+        if answer == self.answer && is_written {
+            return Ending::Whole;
+        }
+        Ending::Wrong("another answer, or another text")
     }
-    panic!(rt; "never whole");
 }
 
-const RIGHT: Run = Run {
+const RIGHT: Run<'static> = Run {
+    model: TINY_MODEL,
     schedule: LOADING,
     calls: ALL,
     at: None,
@@ -100,7 +74,7 @@ const RIGHT: Run = Run {
 };
 
 /// Whole histories and a front of one, a solution, and one of which nothing is shown.
-const RUNS: &[Run] = &[
+const RUNS: &[Run<'static>] = &[
     RIGHT,
     Run {
         schedule: REVISING,
@@ -125,12 +99,12 @@ const RUNS: &[Run] = &[
 #[test]
 fn of_the_small_pit(rt: HostRuntime) {
     for run in RUNS {
-        refuse_each(&rt, rt.alloc(), *run, 10);
+        refuse_each(rt.alloc(), run, 10).expect(&rt, "a whole run");
     }
 }
 
 /// Ends that aren't whole: an entry that doesn't fit, too few commits, devices that fail.
-const OTHERS: &[Run] = &[
+const OTHERS: &[Run<'static>] = &[
     Run {
         schedule: "{\"format\":1}\n{\"act\":\"commit\",\"job\":1,\"planner\":1,\"reads\":[],\"reply\":{\"committed\":1},\"start\":0,\"writes\":[[4,0],[1,0]]}\n",
         answer: Err(CliFault::Illegal {
@@ -170,6 +144,50 @@ const OTHERS: &[Run] = &[
 #[test]
 fn is_freed_after_a_fault(rt: HostRuntime) {
     for run in OTHERS {
-        refuse_each(&rt, rt.alloc(), *run, 1);
+        refuse_each(rt.alloc(), run, 1).expect(&rt, "a whole run");
     }
+}
+
+/// The number of entries of a long history.
+const ENTRIES: u32 = 40;
+
+/// Each request is refused in turn past each doubling of what the entries are kept in and read into. The sum was made by another program.
+#[test]
+fn of_a_long_history(rt: HostRuntime) {
+    let text = long_history(rt.alloc(), ENTRIES).expect(&rt, "memory");
+    let run = Run {
+        schedule: text.as_str(),
+        written: "% commits 40 sum 4c1455ad89215b19570aa364b2d9c8a04c7817f56a1bc4eba995a96b06399549\n3 1\n",
+        ..RIGHT
+    };
+    refuse_each(rt.alloc(), &run, 50).expect(&rt, "a whole run");
+}
+
+/// The number of blocks of a pit of one period and no resource.
+const BLOCKS: u32 = 300;
+
+const LONG: &[u8] =
+    b"TYPE: CPIT\nNBLOCKS: 300\nNPERIODS: 1\nNRESOURCE_SIDE_CONSTRAINTS: 0\nDISCOUNT_RATE: 0\nEOF\n";
+
+/// Each of its blocks.
+fn long_solution(rt: &impl Abort, alloc: Global) -> String {
+    let mut text = String::new(alloc);
+    for block in 0..BLOCKS {
+        let written = write!(text, "{block} 0\n");
+        assert!(rt; written.is_ok());
+    }
+    text
+}
+
+/// The same of a solution and of what is written of it, which is longer than 1,024 bytes.
+#[test]
+fn of_a_long_solution(rt: HostRuntime) {
+    let text = long_solution(&rt, rt.alloc());
+    let run = Run {
+        model: LONG,
+        schedule: text.as_str(),
+        written: text.as_str(),
+        ..RIGHT
+    };
+    refuse_each(rt.alloc(), &run, 18).expect(&rt, "a whole run");
 }

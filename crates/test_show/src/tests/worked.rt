@@ -1,6 +1,6 @@
 //! Worked examples, byte for byte. The sums are those of `sha256sum`.
 use super::is_shown;
-use super::texts::{LOADING, MOVING, REVISING};
+use pit_sample::{LOADING, MEETING, REVISING};
 use pit_step::{CliFault, Status};
 
 /// A schedule, the commits that are asked for, and what is written.
@@ -31,7 +31,7 @@ const ROWS: &[Row] = &[
     (LOADING, Some(2), LOADED),
     (LOADING, Some(1), FIRST),
     (LOADING, Some(0), NONE),
-    (MOVING, None, MOVED),
+    (MEETING, None, MOVED),
     (REVISING, None, REVISED),
     (REVISING, Some(1), FIRST),
     (SOLUTION, None, SOLUTION),
@@ -64,7 +64,7 @@ fn is_written(rt: HostRuntime) {
 const FEW: &[(&str, u32, u32)] = &[
     (LOADING, 3, 2),
     (LOADING, 4_294_967_295, 2),
-    (MOVING, 4, 2),
+    (MEETING, 4, 2),
     (SOLUTION, 2, 1),
     ("", 1, 0),
 ];

@@ -3,8 +3,8 @@ use super::num::Shut;
 use super::tiny::{BLOCKS, HISTORY, MODEL, PRECEDENCE};
 use pit_book::{LinesCause, LinesError};
 use pit_cli::{
-    Beginning, BreachLine, CliFault, Input, PlanInput, PlanOptions, ReadError, Status, Stream, check,
-    plan, read_all, replay, value,
+    Beginning, BreachLine, CliFault, Input, PlanInput, PlanOptions, ReadError, Status, Stream,
+    check, plan, read_all, replay, value,
 };
 use pit_num::{In, Out};
 use pit_plan::Breach;
@@ -84,6 +84,7 @@ value 15.045454545455000000
 
 const OPTIONS: PlanOptions = PlanOptions {
     retries: 3,
+    is_in_turn: false,
     is_strict: false,
 };
 

@@ -1,19 +1,11 @@
 //! Want of memory, and what is freed after a fault.
-use super::texts::{REVISING, REVISING_TABLE, SOLUTION, SOLUTION_TABLE};
-use linked_list_allocator::LocalHeap;
-use pit_refuse::Refusing;
-use pit_sample::{Broken, Narrow, TINY_MODEL};
+use super::texts::{REVISING_TABLE, SOLUTION, SOLUTION_TABLE};
+use pit_sample::{Broken, Ending, Heap, Narrow, REVISING, TINY_MODEL, Trial, refuse_each};
 use pit_step::{CliFault, Input, Status};
 use pit_table::table;
 use std::alloc::Global;
 use std::fmt::Write;
 use std::process::Abort;
-
-/// An allocator that refuses one request.
-type Heap<'a> = &'a Refusing<LocalHeap>;
-
-/// The bytes of a heap, of which no call takes half.
-const BYTES: usize = 4_194_304;
 
 /// The bytes that a device gives or takes at once, so that what is read grows by doubling.
 const PIECE: usize = 1_000;
@@ -47,47 +39,25 @@ fn answer_of(
     )
 }
 
-/// Whether the run ends as it has to. Else it answers want of memory, and writes nothing. All memory is given back.
-fn is_right(rt: &impl Abort, heap: Heap<'_>, plain: Global, run: Run<'_>) -> bool {
-    let mut out = Narrow::new(plain, PIECE, run.written.len());
-    let answer = answer_of(heap, plain, run, &mut out);
-    assert!(rt; heap.used() == 0);
-    if answer == Err(CliFault::NoMemory) {
-        assert!(rt; out.held().is_empty());
-        return false;
-    }
-    assert_eq!(rt; answer, run.answer);
-    assert!(rt; out.held() == run.written.as_bytes());
-    true
-}
-
-/// Runs, and runs again where want of memory was answered, which is exactly where the allocator has refused.
-fn run_twice(rt: &impl Abort, heap: Heap<'_>, plain: Global, run: Run<'_>) {
-    let before = heap.count();
-    let is_done = is_right(rt, heap, plain, run);
-    assert!(rt; is_done != heap.count().has_refused_since(before));
-    assert!(rt;
-        is_done || is_right(rt, heap, plain, run),
-        "no memory twice"
-    );
-}
-
-/// Whether no request had the number.
-fn is_whole(rt: &impl Abort, alloc: Global, number: u64, run: Run<'_>) -> bool {
-    let heap = Refusing::over_heap(alloc, BYTES, number).expect(rt, "a heap");
-    run_twice(rt, &heap, alloc, run);
-    !heap.count().has_refused()
-}
-
-/// Refuses each request in turn, up to the one behind the last, which is above this number.
-fn refuse_each(rt: &impl Abort, alloc: Global, run: Run<'_>, least: u64) {
-    for number in 1..1_000 {
-        if is_whole(rt, alloc, number, run) {
-            assert!(rt; number > least);
-            return;
+impl<'a> Trial for Run<'a> {
+    fn ending(&self, heap: Heap<'_>, plain: Global) -> Ending {
+        let mut out = Narrow::new(plain, PIECE, self.written.len());
+        let answer = answer_of(heap, plain, *self, &mut out);
+        let is_freed = heap.used() == 0;
+        let is_unwritten = out.held().is_empty();
+        let is_written = out.held() == self.written.as_bytes();
+        drop(out);
+        if !is_freed {
+            return Ending::Wrong("memory that was not given back");
         }
+        if answer == Err(CliFault::NoMemory) && is_unwritten {
+            return Ending::NoMemory;
+        }
+        if answer == self.answer && is_written {
+            return Ending::Whole;
+        }
+        Ending::Wrong("another answer, or another text")
     }
-    panic!(rt; "never whole");
 }
 
 const RIGHT: Run<'static> = Run {
@@ -111,7 +81,7 @@ const RUNS: &[Run<'static>] = &[
 #[test]
 fn of_the_small_pit(rt: HostRuntime) {
     for run in RUNS {
-        refuse_each(&rt, rt.alloc(), *run, 10);
+        refuse_each(rt.alloc(), run, 10).expect(&rt, "a whole run");
     }
 }
 
@@ -140,7 +110,7 @@ const OTHERS: &[Run<'static>] = &[
 #[test]
 fn is_freed_after_a_fault(rt: HostRuntime) {
     for run in OTHERS {
-        refuse_each(&rt, rt.alloc(), *run, 0);
+        refuse_each(rt.alloc(), run, 0).expect(&rt, "a whole run");
     }
 }
 
@@ -177,5 +147,5 @@ fn of_a_long_table(rt: HostRuntime) {
         written: written.as_str(),
         ..RIGHT
     };
-    refuse_each(&rt, rt.alloc(), run, 12);
+    refuse_each(rt.alloc(), &run, 12).expect(&rt, "a whole run");
 }

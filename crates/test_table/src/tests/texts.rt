@@ -1,12 +1,5 @@
 //! Schedules of the small pit, and their tables.
 
-/// A limit is raised, so that a block fits in, and can't be lowered again.
-pub(super) const REVISING: &str = "{\"format\":2}
-{\"act\":\"commit\",\"job\":1,\"planner\":1,\"reads\":[],\"reply\":{\"committed\":1},\"revises\":[],\"start\":0,\"writes\":[[0,0],[1,0]]}
-{\"act\":\"commit\",\"job\":2,\"planner\":1,\"reads\":[],\"reply\":{\"committed\":2},\"revises\":[[0,0,\"5000000\"]],\"start\":1,\"writes\":[[3,0]]}
-{\"act\":\"commit\",\"job\":3,\"planner\":1,\"reads\":[],\"reply\":{\"over\":[0,0,\"5000000\",\"4000000\"]},\"revises\":[[0,0,\"4000000\"]],\"start\":2,\"writes\":[]}
-";
-
 /// Period 0 is worth -10 + 20.5 + 5, with a load of 2 + 2 + 1, which is at its limit. No block is in period 1.
 pub(super) const REVISING_TABLE: &str =
     "period,blocks,value,cumulative,load_0,lower_0,upper_0,room_0

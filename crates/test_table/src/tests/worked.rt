@@ -1,7 +1,7 @@
 //! Worked examples, byte for byte.
 use super::is_tabled;
-use super::texts::{REVISING, REVISING_TABLE, SOLUTION, SOLUTION_TABLE};
-use pit_sample::TINY_MODEL;
+use super::texts::{REVISING_TABLE, SOLUTION, SOLUTION_TABLE};
+use pit_sample::{REVISING, TINY_MODEL};
 use pit_step::Status;
 
 /// A schedule of the small pit, and its table.

@@ -1,4 +1,4 @@
-use Rattle.std.proofs.Common.{List, ℕ, inl, map, subst, sym}
+use Rattle.std.proofs.Common.{inl, map, subst, sym}
 use Rattle.std.proofs.lemmas.Result.{MatchResult-weaker}
 use Rattle.pit_cli.specs.Texts.{texts_judged}
 use Rattle.pit_cli.proofs.OpenDesk.{judged_gives, judged_fails}

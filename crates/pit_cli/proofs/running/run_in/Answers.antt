@@ -1,4 +1,4 @@
-use Rattle.std.proofs.Common.{ℕ, length, map, rules, subst, sym, ◌∙◌}
+use Rattle.std.proofs.Common.{ℕ, map, rules, subst, sym, ◌∙◌}
 use Rattle.std.proofs.lemmas.List.{length-map}
 use Rattle.pit_share.specs.Opening.{IsOpenError, IsPlannerCount}
 use Rattle.pit_run.specs.Reports.{IsUnclosed}

@@ -9,6 +9,6 @@ returns-in-Err g c = inl (c.in-Err.ensures, (tt, tt))
 
 pub returns-in-Ok : goal.returns-in-Ok
 returns-in-Ok g c =
-    from_desk ((c.args.pit, c.args.opening), map (λ script. script.jobs) c.args.scripts.now) c.args.options (λ report. (report.closed, report.runs.items)) c.in-Ok.desk c.in-Ok.ensures c.run_on.result
-    (subst (λ (n : ℕ). OnOk c.run_on.result (IsPlannerCount n)) (sym (length-map c.args.scripts.now (λ script. script.jobs))) c.run_on.ensures.count)
-    c.run_on.ensures.ok c.run_on.ensures.err
+    from_desk ((c.args.pit, c.args.opening), map (λ script. script.jobs) c.args.scripts.now) c.args.options (λ report. (report.closed, report.runs.items)) c.in-Ok.desk c.in-Ok.ensures c.run_as.result
+    (subst (λ (n : ℕ). OnOk c.run_as.result (IsPlannerCount n)) (sym (length-map c.args.scripts.now (λ script. script.jobs))) c.run_as.ensures.count)
+    c.run_as.ensures.ok c.run_as.ensures.err

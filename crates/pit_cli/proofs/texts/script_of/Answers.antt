@@ -1,6 +1,6 @@
 use Rattle.std.proofs.Common.{◌≡◌, rules}
 use Rattle.pit_script.specs.declared.error.ScriptCause.TheVariants.{NoMemory}
-use Rattle.pit_cli.proofs.Wanting.{script-stands, script-wants}
+use Rattle.pit_cli.proofs.Wanting.{script-wants}
 use Rattle.pit_cli.proofs.texts.script_of.Goals as goal
 
 pub returns-in-Err-clause-result : goal.returns-in-Err-clause-result

@@ -1,0 +1,63 @@
+#!/usr/bin/env bash
+# Times `pit log` and `pit log --writes`, in turn with `pit replay` of the same history: five rounds.
+# usage: bench/log.sh [-n JOBS] PIT NAME..   reads NAME.cpit, NAME.prec and NAME.sol, whose lines have two fields
+# Four planners with JOBS each (250,000 where it isn't said), of one block, which is read and put where it is, plan from the solution, and leave a
+# history. Prints the middle of the seconds and of the peak memory of each, the bytes that it wrote, and the middle of five ratios to `replay` in the
+# same round. Wants GNU time.
+set -eu
+
+usage() {
+    sed -n '/^# usage/s/^# //p' "$0" >&2
+    exit 2
+}
+. "$(dirname "$(realpath "$0")")/measure.sh"
+words n:t: 250000 "$@"
+run_on "${others[@]}"
+
+# middle: the third of five numbers.
+middle() { sort -g | sed -n 3p; }
+
+# script NAME SEED: a planner's jobs.
+script() {
+    awk -v jobs="$count" -v x="$2" '
+        FILENAME != ARGV[1] && $1 == "NBLOCKS:" { blocks = $2; exit }
+        FILENAME == ARGV[1] { period[$1] = $2 }
+        END {
+            for (; jobs > 0; jobs--) {
+                x = (x * 1664525 + 1013904223) % 4294967296
+                b = int(x / 256) % blocks
+                print "begin\nread", b
+                if (b in period) print "put", b, period[b]; else print "clear", b
+                print "commit"
+            }
+        }' "$1.sol" "$1.cpit" >"$work/script.$2"
+}
+
+# turn KEY WORD..: one run, whose seconds and memory go to the list of the key, with its ratios to the last run of `replay`.
+turn() {
+    local key=$1
+    shift
+    seconds=()
+    memory=()
+    best "$key" 1 "$pit" "$@"
+    [ "$key" != replay ] || base="${seconds[replay]} ${memory[replay]}"
+    echo "${seconds[$key]} ${memory[$key]} $base $(wc -c <"$work/out")" >>"$work/$key"
+}
+
+for name in "${names[@]}"; do
+    rm -f "$work"/*
+    for seed in 1 2 3 4; do script "$name" "$seed"; done
+    "$pit" plan "$name.cpit" "$name.prec" --start "$name.sol" --history "$work/history" "$work"/script.[1-4] >"$work/left" 2>"$work/told" || [ $? -eq 1 ]
+    for round in 1 2 3 4 5; do
+        turn replay replay "$name.cpit" "$name.prec" "$work/history"
+        turn log log "$name.cpit" "$name.prec" "$work/history"
+        turn writes log --writes "$name.cpit" "$name.prec" "$work/history"
+    done
+    echo "$(basename "$name"), $(($(wc -l <"$work/history") - 1)) entries, $(wc -c <"$work/history") bytes"
+    for key in replay log writes; do
+        awk -v key="$key" -v s="$(cut -d ' ' -f 1 "$work/$key" | middle)" -v m="$(cut -d ' ' -f 2 "$work/$key" | middle)" \
+            -v rs="$(awk '{ print $1 / $3 }' "$work/$key" | middle)" -v rm="$(awk '{ print ($2 * 1024 - $5) / ($4 * 1024) }' "$work/$key" | middle)" \
+            -v b="$(cut -d ' ' -f 5 "$work/$key" | middle)" \
+            'BEGIN { printf "%-6s %8.2f s %10d KB, text %d bytes   to replay: time %.2f, memory without the text %.2f\n", key, s, m, b, rs, rm }'
+    done
+done

@@ -1,0 +1,316 @@
+-- How turns are put together.
+use Rattle.std.proofs.lemmas.List.{take-append-drop, take-append-le, take_all, drop-append-le, drop_all, append-nil}
+use Rattle.std.proofs.lemmas.List.Elements.{All-nil, All-cons, All-append, All-push, All-contains}
+use Rattle.std.proofs.lemmas.Option.{slice_get-get_or}
+use Rattle.std.proofs.lemmas.Bool.Decides.{leb_tells, nat_tests}
+use Rattle.std.proofs.Math.Seq.{take-suc}
+use Rattle.std.proofs.Common.{◌≡◌, ℕ, zero, suc, ◌+◌, ◌<◌, ◌≤◌, ◌==◌, Bool, true, false, List, [], ◌∷◌, ◌++◌, length, get_or, take, drop, refl, sym, ap, subst, ◌∙◌, arith, inl, inr, append_assoc, length-append, length-take, add-zero, add-one}
+use Rattle.std.specs.Prelude.{All, Contains, ◌≢◌, ◌||◌}
+use Rattle.pit_model.specs.Pit.{Pit}
+use Rattle.pit_desk.specs.History.{Answered, commits_of}
+use Rattle.pit_desk.specs.State.{State, IsDeskKept}
+use Rattle.pit_desk.specs.Noted.{AreHeld}
+use Rattle.pit_desk.proofs.Legal.{commits_of-append}
+use Rattle.pit_script.specs.Jobs.{Job}
+use Rattle.pit_share.specs.Planners.{PlannerState, planner_of}
+use Rattle.pit_share.specs.Logs.{entries_of, entries_in, has_log, IsPlanner}
+use Rattle.pit_share.specs.Opening.{IsPlannerCount}
+use Rattle.pit_share.specs.GoingOn.{GoesOn}
+use Rattle.pit_share.specs.Snapshots.{AreSnapshots}
+use Rattle.pit_share.specs.Closing.{IsClosed, IsCloseError}
+use Rattle.pit_share.specs.declared.error.CloseError.{CloseError}
+use Rattle.pit_share.proofs.Noted.{snapshots-none}
+use Rattle.pit_job.specs.Runs.{RanFrom}
+use Rattle.pit_job.specs.declared.outcome.Outcome.{Outcome}
+use Rattle.pit_job.specs.declared.outcome.RunEnd.{RunEnd}
+use Rattle.pit_job.specs.declared.outcome.RunEnd.TheVariants as end
+use Rattle.pit_run.specs.Reports.{RunState, RanScript, AllDid, IsReport}
+use Rattle.pit_run.specs.Turns.{entries_by_planner, TookTurn, DidInTurn, IsTurnUnclosed, IsInTurnError}
+use Rattle.pit_run.proofs.ByPlanner.{IsOf, IsUpTo, entries_of-own, none-of, by_planner-up_to, entries_of-earlier, entries_of-last, by_planner-next, get-front}
+use Rattle.pit_run.specs.Inside.Turns.{IsTurn, IsUnclosedTurn, IsTurnError}
+use Rattle.pit_run.specs.declared.report.InTurnError.{InTurnError}
+use Rattle.pit_run.specs.declared.report.InTurnError.TheVariants as error
+
+-- ---- one planner more
+
+ran-not-without : (pit : Pit) (retries n : ℕ) (script : List Job) (es : List Answered) (jobs : List Outcome) (ended : RunEnd) → RanFrom pit retries n script es jobs ended → ended ≢ end.NoThread
+ran-not-without pit retries n [] es [] ended ran without = absurd (cc (ran.1, without))
+ran-not-without pit retries n [] es (o ∷ os) ended ran without = absurd ran
+ran-not-without pit retries n (task ∷ rest) es [] end.NoThread ran without = absurd ran.0
+ran-not-without pit retries n (task ∷ rest) es [] end.Whole ran without = absurd ran.0
+ran-not-without pit retries n (task ∷ rest) es [] (end.Full job) ran without = absurd (cc without)
+ran-not-without pit retries n (task ∷ rest) es [] (end.NoMemory job) ran without = absurd (cc without)
+ran-not-without pit retries n (task ∷ rest) es [] (end.NoEntry job) ran without = absurd (cc without)
+ran-not-without pit retries n (task ∷ rest) es (o ∷ os) ended ran without = ran-not-without pit retries (n + 1) rest ran.1 os ended ran.4 without
+
+-- entries of a later planner leave what the earlier ones did
+did-earlier : (pit : Pit) (retries n k : ℕ) (past own : List Answered) (scripts : List (List Job)) (runs : List RunState) → n + length scripts ≤ suc k → All (IsOf (suc k)) own
+    → AllDid pit retries n past scripts runs → AllDid pit retries n (past ++ own) scripts runs
+did-earlier pit retries n k past own [] [] early all did = tt
+did-earlier pit retries n k past own [] (run ∷ runs) early all did = absurd did
+did-earlier pit retries n k past own (script ∷ scripts) [] early all did = absurd did
+did-earlier pit retries n k past own (script ∷ scripts) (run ∷ runs) early all (first, rest) =
+    let same = entries_of-earlier n k past own (omega (arith, early)) all in
+    (subst (λ (es : List Answered). RanScript pit retries script n es run) (sym same) first, did-earlier pit retries (n + 1) k past own scripts runs (omega (arith, early)) all rest)
+
+did-more : (pit : Pit) (retries n : ℕ) (past : List Answered) (scripts : List (List Job)) (runs : List RunState) (script : List Job) (run : RunState) → AllDid pit retries n past scripts runs
+    → RanScript pit retries script (n + length scripts) (entries_of (n + length scripts) past) run → AllDid pit retries n past (scripts ++ script ∷ []) (runs ++ run ∷ [])
+did-more pit retries n past [] [] script run did last = (subst (λ (m : ℕ). RanScript pit retries script m (entries_of m past) run) (add-zero n) last, tt)
+did-more pit retries n past [] (x ∷ runs) script run did last = absurd did
+did-more pit retries n past (x ∷ scripts) [] script run did last = absurd did
+did-more pit retries n past (x ∷ scripts) (y ∷ runs) script run (first, rest) last =
+    let same : n + length (x ∷ scripts) ≡ (n + 1) + length scripts = omega arith in
+    (first, did-more pit retries (n + 1) past scripts runs script run rest (subst (λ (m : ℕ). RanScript pit retries script m (entries_of m past) run) same last))
+
+-- ---- a history that goes on from one that goes on
+
+front-is : {X : Type 0} (xs ys : List X) → take (length xs) (xs ++ ys) ≡ xs
+front-is xs ys = take-append-le (length xs) xs ys (omega arith) ∙ take_all (length xs) xs (omega arith)
+
+rest-is : {X : Type 0} (xs ys : List X) → drop (length xs) (xs ++ ys) ≡ ys
+rest-is xs ys = drop-append-le (length xs) xs ys (omega arith) ∙ ap (λ zs. zs ++ ys) (drop_all (length xs) xs (omega arith))
+
+commits-of-front : (k : ℕ) (history : List Answered) → length (commits_of (take k history)) ≤ length (commits_of history)
+commits-of-front zero history = omega arith
+commits-of-front (suc k) [] = omega arith
+commits-of-front (suc k) (e ∷ es) = simp length-append (omega (arith, commits-of-front k es))
+
+snapshots-on : (opened : ℕ) (history own : List Answered) → AreSnapshots opened history → AreSnapshots (length history) (history ++ own) → AreSnapshots opened (history ++ own)
+snapshots-on opened history own first second = record {
+  each = λ k e past at seen.
+      elim (leb_tells (length history) k) [
+        | inl late ↦ second.each k e late.1 at seen
+        | inr early ↦
+            let less : k < length history = omega (arith, early.1) in
+            let front : take k (history ++ own) ≡ take k history = take-append-le k history own (omega (arith, less)) in
+            let few : e.call.start ≤ length (commits_of (take k history)) = subst (λ (es : List Answered). e.call.start ≤ length (commits_of es)) front seen in
+            let within : e.call.start ≤ length (commits_of history) = omega (arith, few, commits-of-front k history) in
+            let same = ap (take e.call.start) (commits_of-append history own) ∙ take-append-le e.call.start (commits_of history) (commits_of own) within in
+            subst (λ l. AreHeld l e.call.reads) (sym same) (first.each k e past (get-front history own k e less at) few)
+      ];
+}
+
+pub goes-on-none : (planners : ℕ) (desk : State) → GoesOn desk.plan.pit desk.history desk.max_entries planners desk
+goes-on-none planners desk = record {
+  same_pit = refl;
+  limit = refl;
+  begins = take_all (length desk.history) desk.history (omega arith);
+  ours = subst (All (λ e. IsPlanner planners e.call.planner)) (sym (drop_all (length desk.history) desk.history (omega arith))) (All-nil (λ e. IsPlanner planners e.call.planner));
+  snapshots = snapshots-none desk.history;
+}
+
+-- what is past the opening is what was past it, and what is past that
+past-on : (opening history more : List Answered) → take (length opening) history ≡ opening → take (length history) more ≡ history
+    → (more ≡ opening ++ (drop (length opening) history ++ drop (length history) more)) × (more ≡ history ++ drop (length history) more)
+past-on opening history more first second =
+    let past = drop (length opening) history in
+    let own = drop (length history) more in
+    let here : history ≡ opening ++ past = sym (take-append-drop (length opening) history) ∙ ap (λ (es : List Answered). es ++ past) first in
+    let there : more ≡ history ++ own = sym (take-append-drop (length history) more) ∙ ap (λ (es : List Answered). es ++ own) second in
+    (there ∙ (ap (λ (es : List Answered). es ++ own) here ∙ append_assoc opening past own), there)
+
+goes-on-on : (pit : Pit) (opening : List Answered) (max_entries planners : ℕ) (desk next : State) → GoesOn pit opening max_entries planners desk → GoesOn pit desk.history max_entries planners next
+    → GoesOn pit opening max_entries planners next × (drop (length opening) next.history ≡ drop (length opening) desk.history ++ drop (length desk.history) next.history)
+goes-on-on pit opening max_entries planners desk next first second =
+    let past = drop (length opening) desk.history in
+    let own = drop (length desk.history) next.history in
+    let parts = past-on opening desk.history next.history first.begins second.begins in
+    let rest : drop (length opening) next.history ≡ past ++ own = ap (drop (length opening)) parts.0 ∙ rest-is opening (past ++ own) in (
+      record {
+        same_pit = second.same_pit;
+        limit = second.limit;
+        begins = ap (take (length opening)) parts.0 ∙ front-is opening (past ++ own);
+        ours = subst (All (λ e. IsPlanner planners e.call.planner)) (sym rest) (All-append (λ e. IsPlanner planners e.call.planner) past own first.ours second.ours);
+        snapshots =
+            subst (AreSnapshots (length opening)) (sym parts.1) (snapshots-on (length opening) desk.history own first.snapshots (subst (AreSnapshots (length desk.history)) parts.1 second.snapshots));
+      },
+      rest,
+    )
+
+-- ---- a turn
+
+has-log : (q : ℕ) (logs : List PlannerState) → has_log q logs ≡ true → (log : PlannerState) × Contains logs log × (log.number ≡ q)
+has-log q [] has = absurd (cc has)
+has-log q (x ∷ logs) has = by (x.number == q) refl has (has-log q logs)
+  where
+    by : (b : Bool) → (x.number == q) ≡ b → (b || has_log q logs) ≡ true → (has_log q logs ≡ true → (log : PlannerState) × Contains logs log × (log.number ≡ q))
+        → (log : PlannerState) × Contains (x ∷ logs) log × (log.number ≡ q)
+    by true is rest more = (x, (0, omega arith, refl), grind (arith, nat_tests, is))
+    by false is rest more =
+        let found = more rest in
+        let at = found.1 in
+        (found.0, (suc at.0, omega (arith, at.1), at.2), found.2)
+
+-- only the planner whose turn it was has entries
+turn-own : (pit : Pit) (opening : List Answered) (max_entries planners retries planner : ℕ) (script : List Job) (desk : State) (run : RunState) (logs : List PlannerState)
+    → IsClosed pit opening max_entries planners logs desk → TookTurn pit retries script planner logs run → All (IsOf planner) (drop (length opening) desk.history)
+turn-own pit opening max_entries planners retries planner script desk run logs closed took i e less =
+    let past = drop (length opening) desk.history in
+    let q = (get_or past i e).call.planner in
+    let one : IsPlanner planners q = closed.goes_on.ours i e less in
+    by (q == planner) refl one
+  where
+    past : List Answered
+    past = drop (length opening) desk.history
+
+    q : ℕ
+    q = (get_or past i e).call.planner
+
+    by : (b : Bool) → (q == planner) ≡ b → IsPlanner planners q → q ≡ planner
+    by true is one = grind (arith, nat_tests, is)
+    by false is one =
+        let found = has-log q logs (closed.whole.each q one) in
+        let log = found.0 in
+        let other : log.number ≢ planner = λ same. absurd (grind (arith, nat_tests, is, found.2, same)) in
+        let empty : log.items ≡ [] = All-contains (λ l. l.number ≢ planner → l.items ≡ []) logs log took.others found.1 other in
+        let none : entries_of q past ≡ [] = (closed.logged.each q one).each log found.1 found.2 ∙ empty in
+        absurd (none-of q past none i e less refl)
+
+-- and those are its script's
+turn-ran : (pit : Pit) (opening : List Answered) (max_entries planners retries planner : ℕ) (script : List Job) (desk : State) (run : RunState) (turn : IsTurn pit opening max_entries planners retries planner script desk run)
+    → IsPlanner planners planner → RanFrom pit retries 1 script (drop (length opening) desk.history) run.jobs run.ended
+turn-ran pit opening max_entries planners retries planner script desk run turn one =
+    let past = drop (length opening) desk.history in
+    let took = turn.took in
+    let own = turn-own pit opening max_entries planners retries planner script desk run turn.logs turn.closed took in
+    let logged : entries_of planner past ≡ took.log.items = (turn.closed.logged.each planner one).each took.log took.among took.did.of_log in
+    subst (λ (es : List Answered). RanFrom pit retries 1 script es run.jobs run.ended) (sym logged ∙ entries_of-own planner past own) took.did.ran
+
+-- ---- turn after turn
+
+pub in-turn-none : (retries planners : ℕ) (desk : State) → IsDeskKept desk → DidInTurn desk.plan.pit desk.history desk.max_entries retries planners [] desk []
+in-turn-none retries planners desk kept = record {
+  kept = kept;
+  goes_on = goes-on-none planners desk;
+  did = tt;
+  started = All-nil (λ run. run.ended ≢ end.NoThread);
+  in_turn = record { turns = sym (append-nil desk.history) };
+}
+
+pub in-turn-next : (pit : Pit) (opening : List Answered) (max_entries retries planners : ℕ) (done : List (List Job)) (desk : State) (runs : List RunState) (script : List Job) (next : State) (run : RunState)
+    → DidInTurn pit opening max_entries retries planners done desk runs → length done < planners → IsTurn pit desk.history max_entries planners retries (suc (length done)) script next run
+    → DidInTurn pit opening max_entries retries planners (done ++ script ∷ []) next (runs ++ run ∷ [])
+in-turn-next pit opening max_entries retries planners done desk runs script next run so_far less turn =
+    let k = length done in
+    let past = drop (length opening) desk.history in
+    let own = drop (length desk.history) next.history in
+    let all : All (IsOf (suc k)) own = turn-own pit desk.history max_entries planners retries (suc k) script next run turn.logs turn.closed turn.took in
+    let ran : RanFrom pit retries 1 script own run.jobs run.ended = turn-ran pit desk.history max_entries planners retries (suc k) script next run turn (omega arith, omega (arith, less)) in
+    let on = goes-on-on pit opening max_entries planners desk next so_far.goes_on turn.closed.goes_on in
+    let parts = past-on opening desk.history next.history so_far.goes_on.begins turn.closed.goes_on.begins in
+    let turns : past ≡ entries_by_planner k past = ap (drop (length opening)) so_far.in_turn.turns ∙ rest-is opening (entries_by_planner k past) in
+    let few : All (IsUpTo k) past = subst (All (IsUpTo k)) (sym turns) (by_planner-up_to k past) in
+    let mine : own ≡ entries_of (suc k) (past ++ own) = sym (entries_of-last k past own few all) in
+    let number : suc k ≡ 1 + k = omega arith in
+    let last : RanScript pit retries script (suc k) (entries_of (suc k) (past ++ own)) run =
+    record { number = turn.took.did.of_run; ran = inl (subst (λ (es : List Answered). RanFrom pit retries 1 script es run.jobs run.ended) mine ran) } in
+    let before = did-earlier pit retries 1 k past own done runs (omega arith) all so_far.did in
+    let more = did-more pit retries 1 (past ++ own) done runs script run before (subst (λ (n : ℕ). RanScript pit retries script n (entries_of n (past ++ own)) run) number last) in
+    let many : suc k ≡ length (done ++ script ∷ []) = omega (arith, length-append done (script ∷ [])) in
+    let by_planner : past ++ own ≡ entries_by_planner (suc k) (past ++ own) = by_planner-next k past own turns all in
+    let in_order : drop (length opening) next.history ≡ entries_by_planner (length (done ++ script ∷ [])) (drop (length opening) next.history) =
+    subst (λ (n : ℕ). drop (length opening) next.history ≡ entries_by_planner n (drop (length opening) next.history)) many
+    (subst (λ (es : List Answered). es ≡ entries_by_planner (suc k) es) (sym on.1) by_planner) in
+    record {
+      kept = turn.closed.kept;
+      goes_on = on.0;
+      did = subst (λ (es : List Answered). AllDid pit retries 1 es (done ++ script ∷ []) (runs ++ run ∷ [])) (sym on.1) more;
+      started = All-push (λ run. run.ended ≢ end.NoThread) runs run so_far.started (ran-not-without pit retries 1 script own run.jobs run.ended ran);
+      in_turn = record { turns = parts.0 ∙ ap (λ (es : List Answered). opening ++ es) (sym on.1 ∙ in_order) };
+    }
+
+-- a desk that goes on has the opening one's pit and limit
+pub in-turn-at : (pit : Pit) (opening : List Answered) (max_entries retries planners n k : ℕ) (scripts : List (List Job)) (desk : State) (runs more : List RunState) (next : State) (run : RunState)
+    → DidInTurn pit opening max_entries retries planners (take k scripts) desk runs → k < length scripts → length scripts ≡ planners → n ≡ k + 1 → more ≡ runs ++ run ∷ []
+    → IsTurn desk.plan.pit desk.history desk.max_entries planners retries (k + 1) (get_or scripts k []) next run
+    → DidInTurn pit opening max_entries retries planners (take n scripts) next more
+in-turn-at pit opening max_entries retries planners n k scripts desk runs more next run so_far less many is added turn =
+    let script = get_or scripts k [] in
+    let done : length (take k scripts) ≡ k = omega (arith, length-take k scripts, less) in
+    let number : k + 1 ≡ suc (length (take k scripts)) = omega (arith, done) in
+    let here = subst (λ (p : Pit). IsTurn p desk.history desk.max_entries planners retries (k + 1) script next run) so_far.goes_on.same_pit turn in
+    let there = subst (λ (m : ℕ). IsTurn pit desk.history m planners retries (k + 1) script next run) so_far.goes_on.limit here in
+    let took = subst (λ (p : ℕ). IsTurn pit desk.history max_entries planners retries p script next run) number there in
+    let all = in-turn-next pit opening max_entries retries planners (take k scripts) desk runs script next run so_far (omega (arith, done, less, many)) took in
+    let front : take n scripts ≡ take k scripts ++ script ∷ [] = ap (λ (m : ℕ). take m scripts) (is ∙ add-one k) ∙ take-suc scripts k [] less in
+    rw (front, added) all
+
+pub in-turn-unclosed : (pit : Pit) (opening : List Answered) (max_entries retries planners k : ℕ) (scripts : List (List Job)) (desk : State) (runs : List RunState) (cause : CloseError)
+    → DidInTurn pit opening max_entries retries planners (take k scripts) desk runs → k < length scripts → length scripts ≡ planners
+    → IsUnclosedTurn desk.plan.pit desk.history desk.max_entries planners retries (k + 1) (get_or scripts k []) cause
+    → IsTurnUnclosed pit opening max_entries retries scripts (k + 1) cause
+in-turn-unclosed pit opening max_entries retries planners k scripts desk runs cause so_far less many unclosed =
+    let script = get_or scripts k [] in
+    let here = subst (λ (p : Pit). IsUnclosedTurn p desk.history desk.max_entries planners retries (k + 1) script cause) so_far.goes_on.same_pit unclosed in
+    let there = subst (λ (m : ℕ). IsUnclosedTurn pit desk.history m planners retries (k + 1) script cause) so_far.goes_on.limit here in
+    record {
+      place = k;
+      script = script;
+      number = omega arith;
+      at = slice_get-get_or scripts k [] less;
+      left = desk;
+      before = runs;
+      did_before = subst (λ (p : ℕ). DidInTurn pit opening max_entries retries p (take k scripts) desk runs) (sym many) so_far;
+      logs = there.logs;
+      run = there.run;
+      took = there.took;
+      refused = subst (λ (p : ℕ). IsCloseError pit desk.history max_entries p there.logs cause) (sym many) there.refused;
+    }
+
+pub in-turn-error : (pit : Pit) (opening : List Answered) (max_entries retries planners k : ℕ) (scripts : List (List Job)) (desk : State) (runs : List RunState) (why : InTurnError)
+    → DidInTurn pit opening max_entries retries planners (take k scripts) desk runs → k < length scripts → length scripts ≡ planners → IsPlannerCount planners
+    → IsTurnError desk.plan.pit desk.history desk.max_entries planners retries (k + 1) (get_or scripts k []) why → IsInTurnError pit opening max_entries retries scripts why
+in-turn-error pit opening max_entries retries planners k scripts desk runs error.PlannerCount so_far less many count err = absurd (err count)
+in-turn-error pit opening max_entries retries planners k scripts desk runs error.NoPlace so_far less many count err = subst IsPlannerCount (sym many) count
+in-turn-error pit opening max_entries retries planners k scripts desk runs error.NoMemory so_far less many count err = subst IsPlannerCount (sym many) count
+in-turn-error pit opening max_entries retries planners k scripts desk runs (error.NotClosed who cause) so_far less many count err =
+    let unclosed = in-turn-unclosed pit opening max_entries retries planners k scripts desk runs cause so_far less many err.1 in
+    (subst IsPlannerCount (sym many) count, subst (λ (p : ℕ). IsTurnUnclosed pit opening max_entries retries scripts p cause) (sym err.0) unclosed)
+
+-- ---- what that reports
+
+abbrev logs_of : ℕ → List Answered → List PlannerState
+logs_of zero past = []
+logs_of (suc k) past = planner_of (suc k) (entries_of (suc k) past) [] ∷ logs_of k past
+
+logs_of-count : (k : ℕ) (past : List Answered) → length (entries_by_planner k past) ≡ entries_in (logs_of k past)
+logs_of-count zero past = refl
+logs_of-count (suc k) past = omega (arith, length-append (entries_by_planner k past) (entries_of (suc k) past), logs_of-count k past)
+
+logs_of-each : (k : ℕ) (past : List Answered) (q : ℕ) → IsPlanner k q → has_log q (logs_of k past) ≡ true
+logs_of-each zero past q one = absurd (omega (arith, one.0, one.1))
+logs_of-each (suc k) past q one = by (suc k == q) refl (logs_of-each k past q)
+  where
+    by : (b : Bool) → (suc k == q) ≡ b → (IsPlanner k q → has_log q (logs_of k past) ≡ true) → (b || has_log q (logs_of k past)) ≡ true
+    by true is rest = refl
+    by false is rest =
+        let differs : suc k ≢ q = λ same. absurd (grind (arith, nat_tests, is, same)) in
+        rest (one.0, omega (arith, one.1, differs))
+
+logs_of-logged : (k : ℕ) (past : List Answered) → All (λ log. entries_of log.number past ≡ log.items) (logs_of k past)
+logs_of-logged zero past = All-nil (λ log. entries_of log.number past ≡ log.items)
+logs_of-logged (suc k) past =
+    All-cons (λ log. entries_of log.number past ≡ log.items) (planner_of (suc k) (entries_of (suc k) past) []) (logs_of k past) refl (logs_of-logged k past)
+
+pub in-turn-report : (pit : Pit) (opening : List Answered) (max_entries retries : ℕ) (scripts : List (List Job)) (desk : State) (runs : List RunState)
+    → DidInTurn pit opening max_entries retries (length scripts) scripts desk runs → IsReport pit opening max_entries retries scripts desk runs
+in-turn-report pit opening max_entries retries scripts desk runs all =
+    let n = length scripts in
+    let past = drop (length opening) desk.history in
+    let many : length desk.history ≡ length opening + length (entries_by_planner n past) = ap length all.in_turn.turns ∙ length-append opening (entries_by_planner n past) in
+    record {
+      logs = logs_of n past;
+      closed = record {
+        kept = all.kept;
+        goes_on = all.goes_on;
+        count = omega (arith, many, logs_of-count n past);
+        whole = record { each = logs_of-each n past };
+        logged = record {
+          each = λ q one. record {
+            each = λ log among same.
+                subst (λ (m : ℕ). entries_of m past ≡ log.items) same (All-contains (λ log. entries_of log.number past ≡ log.items) (logs_of n past) log (logs_of-logged n past) among);
+          };
+        };
+      };
+      did = all.did;
+    }

@@ -1,0 +1,39 @@
+use Rattle.std.proofs.lemmas.List.{length-map}
+use Rattle.std.proofs.lemmas.Result.{IfOk-weaker}
+use Rattle.std.proofs.Common.{◌≡◌, ℕ, List, length, map, sym, subst}
+use Rattle.pit_script.specs.Jobs.{Job}
+use Rattle.pit_run.specs.Reports.{IsReport}
+use Rattle.pit_run.specs.Turns.{AllStarted, IsInTurn, DidInTurn}
+use Rattle.pit_run.proofs.Turns.{in-turn-report}
+use Rattle.pit_run.proofs.in_turn.run_in_turn.Goals as goal
+
+pub returns-clause-ok : goal.returns-clause-ok
+returns-clause-ok g c =
+    let desk = c.args.desk in
+    let scripts = c.args.scripts.now in
+    let jobs = map {B = List Job} (λ script. script.jobs) scripts in
+    let many : length jobs ≡ length scripts = length-map scripts _ in
+    IfOk-weaker c.turns.result (λ report. DidInTurn desk.plan.pit desk.history desk.max_entries c.args.retries (length scripts) jobs report.closed report.runs.items)
+    (λ report. IsReport desk.plan.pit desk.history desk.max_entries c.args.retries jobs report.closed report.runs.items)
+    (λ report did.
+    in-turn-report desk.plan.pit desk.history desk.max_entries c.args.retries jobs report.closed report.runs.items
+    (subst (λ (n : ℕ). DidInTurn desk.plan.pit desk.history desk.max_entries c.args.retries n jobs report.closed report.runs.items) (sym many) did))
+    c.turns.ensures.ok
+
+pub returns-clause-in_turn : goal.returns-clause-in_turn
+returns-clause-in_turn g c =
+    let desk = c.args.desk in
+    let scripts = c.args.scripts.now in
+    let jobs = map {B = List Job} (λ script. script.jobs) scripts in
+    let many : length jobs ≡ length scripts = length-map scripts _ in
+    IfOk-weaker c.turns.result (λ report. DidInTurn desk.plan.pit desk.history desk.max_entries c.args.retries (length scripts) jobs report.closed report.runs.items)
+    (λ report. IsInTurn (length scripts) desk.history report.closed.history)
+    (λ report did. subst (λ (n : ℕ). IsInTurn n desk.history report.closed.history) many did.in_turn) c.turns.ensures.ok
+
+pub returns-clause-started : goal.returns-clause-started
+returns-clause-started g c =
+    let desk = c.args.desk in
+    let scripts = c.args.scripts.now in
+    let jobs = map {B = List Job} (λ script. script.jobs) scripts in
+    IfOk-weaker c.turns.result (λ report. DidInTurn desk.plan.pit desk.history desk.max_entries c.args.retries (length scripts) jobs report.closed report.runs.items)
+    (λ report. AllStarted report.runs.items) (λ report did. did.started) c.turns.ensures.ok

@@ -1,0 +1,28 @@
+use Rattle.std.proofs.lemmas.List.Elements.{All-nil, All-push, All-weaker, Contains-push}
+use Rattle.std.proofs.lemmas.List.{get_or_default}
+use Rattle.std.proofs.Common.{◌≡◌, ◌∙◌, ◌+◌, ◌∷◌, ◌++◌, [], ℕ, List, subst, sym}
+use Rattle.std.specs.Prelude.{All, Contains, ◌≢◌}
+use Rattle.pit_share.specs.Planners.{PlannerState}
+use Rattle.pit_run.specs.Turns.{DidScript}
+use Rattle.pit_run.proofs.in_turn.take_turn.Goals as goal
+
+pub returns : goal.returns
+returns g c =
+    let planner = c.args.k + 1 in
+    let front = c.finish_all.new.logs.items in
+    let log = c.run_planner-log.result.0 in
+    let run = c.run_planner-log.result.1 in
+    let seats : List ℕ = c.args.seats.items in
+    let number : c.remove-seat.result ≡ planner =
+    c.remove-seat.ensures.value ∙ (get_or_default seats c.args.k c.remove-seat.result 0 c.requires.place ∙ c.requires.seats.each c.args.k c.requires.place) in
+    let did : DidScript g.S.Session.instance c.args.retries c.args.script.now.jobs planner log run =
+    subst (λ (n : ℕ). DidScript g.S.Session.instance c.args.retries c.args.script.now.jobs n log run) number c.run_planner-log.ensures in
+    let logs : c.push_log.new.logs.items ≡ front ++ log ∷ [] = c.push_log.ensures.items in
+    let empty = All-weaker (λ other. other.items ≡ []) (λ other. other.number ≢ planner → other.items ≡ []) (λ other none differs. none) front (c.finish_all.ensures.empty (subst (λ (ls : List PlannerState). All (λ other. other.items ≡ []) ls) (sym c.requires.none) (All-nil (λ other. other.items ≡ [])))) in
+    record {
+      log = log;
+      among = subst (λ (ls : List PlannerState). Contains ls log) (sym logs) (Contains-push front log);
+      did = did;
+      others = subst (λ (ls : List PlannerState). All (λ other. other.number ≢ planner → other.items ≡ []) ls) (sym logs)
+          (All-push (λ other. other.number ≢ planner → other.items ≡ []) front log empty (λ differs. absurd (differs did.of_log)));
+    }

@@ -1,0 +1,10 @@
+use Rattle.pit_share.specs.declared.blank.TheConstants.{PLANNERS_MAX}
+use Rattle.pit_run.proofs.in_turn.turn.Given as goal
+
+-- the count of what is blank
+abbrev pub ghosts-turn_in-S-Ledger : goal.ghosts-turn_in-S-Ledger
+ghosts-turn_in-S-Ledger g a = record { name = a.blank.ledger; parts = PLANNERS_MAX }
+
+-- its list, and the desk that is at hand
+abbrev pub ghosts-turn_in-S-Session : goal.ghosts-turn_in-S-Session
+ghosts-turn_in-S-Session g a = record { book = a.blank.book; instance = a.desk.plan.pit; opening = a.desk.history; max_entries = a.desk.max_entries; planners = a.planners }

@@ -1,0 +1,232 @@
+//! Planners one after the other, in one thread.
+ghost use Rattle.std.specs.Prelude.{◌≡◌, ◌+◌, ◌<◌, ◌≤◌, ◌↔◌, ℕ, List, [], All, length, map, slice_index_or, vec_capacity, IfOk, OnOk, IfErr, IsTrue};
+ghost use Rattle.pit_model.specs.Pit.{Pit};
+ghost use Rattle.pit_desk.specs.History.{Answered};
+ghost use Rattle.pit_script.specs.Jobs.{Job};
+ghost use Rattle.pit_share.specs.Opening.{AreSeats, IsPlannerCount, IsOpenError};
+ghost use Rattle.pit_share.specs.declared.blank.TheConstants.{PLANNERS_MAX};
+ghost use Rattle.pit_job.specs.declared.planner_run.TheConstants.{RETRIES_MAX};
+ghost use Rattle.pit_run.specs.Reports.{IsReport};
+ghost use Rattle.pit_run.specs.Turns.{AllStarted, IsInTurn, TookTurn, DidInTurn, IsInTurnError};
+ghost use Rattle.pit_run.specs.Inside.Turns.{IsTurn, IsTurnError};
+
+use crate::planner_run::{PlannerRun, run_planner};
+use crate::report::{InTurnError, Report};
+use crate::threads::{push_log, push_run};
+use pit_board::Session;
+use pit_desk::Desk;
+use pit_job::Gate;
+use pit_script::Script;
+use pit_share::{Blank, Closed, OpenError, PLANNERS_MAX, PlannerLog, Seat, Workspace};
+use std::alloc::Allocator;
+use std::marker::Brand;
+use std::sync::Wait;
+
+/// Does script k as planner k, in this thread and planner after planner, on a desk. Each turn has a workspace of its own on what the turns before
+/// left, which is freed before the next one is opened. On an error all is freed, the desk too. The closed desk has the items of the last planner's
+/// log alone.
+pub fn run_in_turn<R: Wait, A: Allocator + Copy + Drop, G: Gate>(
+    rt: &R,
+    alloc: A,
+    desk: Desk<A>,
+    scripts: &[Script<A>],
+    retries: u32,
+    gate: &G,
+) -> Result<Report<A>, InTurnError>
+    requires pit { All (λ script. script.pit ≡ desk.plan.pit) scripts.now }
+    requires few { retries ≤ RETRIES_MAX }
+    ensures count { OnOk result (IsPlannerCount (length scripts.now)) }
+    ensures ok { IfOk result (λ report.
+        IsReport desk.plan.pit desk.history desk.max_entries retries (map (λ script. script.jobs) scripts.now) report.closed report.runs.items) }
+    ensures in_turn { IfOk result (λ report. IsInTurn (length scripts.now) desk.history report.closed.history) }
+    ensures started { IfOk result (λ report. AllStarted report.runs.items) }
+    ensures err { IfErr result (IsInTurnError desk.plan.pit desk.history desk.max_entries retries (map (λ script. script.jobs) scripts.now)) }
+{
+    if !is_planner_count(scripts) {
+        return Err(InTurnError::PlannerCount);
+    }
+    let Ok(runs) = Vec::with_capacity(alloc, scripts.len()) else {
+        return Err(InTurnError::NoMemory);
+    };
+    turns(rt, alloc, desk, scripts, retries, gate, runs)
+}
+
+/// Whether there may be a planner for each script.
+fn is_planner_count<A: Allocator + Copy + Drop>(scripts: &[Script<A>]) -> bool
+    ensures { IsTrue result ↔ IsPlannerCount (length scripts.now) }
+{
+    scripts.len() >= 1 && scripts.len() <= PLANNERS_MAX as usize
+}
+
+/// The turns of all planners, where there is room for their runs.
+fn turns<R: Wait, A: Allocator + Copy + Drop, G: Gate>(
+    rt: &R,
+    alloc: A,
+    desk: Desk<A>,
+    scripts: &[Script<A>],
+    retries: u32,
+    gate: &G,
+    runs: Vec<PlannerRun<A>, A>,
+) -> Result<Report<A>, InTurnError>
+    requires pit { All (λ script. script.pit ≡ desk.plan.pit) scripts.now }
+    requires few { retries ≤ RETRIES_MAX }
+    requires count { IsPlannerCount (length scripts.now) }
+    requires none { runs.items ≡ [] }
+    requires room { length scripts.now ≤ vec_capacity runs }
+    ensures ok { IfOk result (λ report.
+        DidInTurn desk.plan.pit desk.history desk.max_entries retries (length scripts.now) (map (λ script. script.jobs) scripts.now) report.closed report.runs.items) }
+    ensures err { IfErr result (IsInTurnError desk.plan.pit desk.history desk.max_entries retries (map (λ script. script.jobs) scripts.now)) }
+{
+    desk.shows_kept();
+    let mut runs = runs;
+    let (first, run) = match turn(rt, alloc, desk, scripts, 0, retries, gate) {
+        Ok(turn) => turn,
+        Err(error) => return Err(error),
+    };
+    push_run(&mut runs, run);
+    let mut closed = first;
+    for k in 1..scripts.len() {
+        let (next, run) = match turn(rt, alloc, closed.into_desk(), scripts, k, retries, gate) {
+            Ok(turn) => turn,
+            Err(error) => return Err(error),
+        };
+        closed = next;
+        push_run(&mut runs, run);
+    }
+    Ok(Report { closed, runs })
+}
+
+/// The turn of the planner whose number is one more, on a desk.
+fn turn<R: Wait, A: Allocator + Copy + Drop, G: Gate>(
+    rt: &R,
+    alloc: A,
+    desk: Desk<A>,
+    scripts: &[Script<A>],
+    k: usize,
+    retries: u32,
+    gate: &G,
+) -> Result<(Closed<A>, PlannerRun<A>), InTurnError>
+    requires pit { All (λ script. script.pit ≡ desk.plan.pit) scripts.now }
+    requires few { retries ≤ RETRIES_MAX }
+    requires count { length scripts.now ≤ PLANNERS_MAX }
+    requires place { k < length scripts.now }
+    ensures ok { let script = slice_index_or (map (λ script. script.jobs) scripts.now) k [] in
+        IfOk result (λ turn. IsTurn desk.plan.pit desk.history desk.max_entries (length scripts.now) retries (k + 1) script turn.0 turn.1) }
+    ensures err { let script = slice_index_or (map (λ script. script.jobs) scripts.now) k [] in
+        IfErr result (IsTurnError desk.plan.pit desk.history desk.max_entries (length scripts.now) retries (k + 1) script) }
+{
+    let planners = scripts.len() as u32;
+    turn_in::<Brand, _, _, _, _>(
+        rt,
+        rt,
+        alloc,
+        desk,
+        planners,
+        Blank::new(),
+        &scripts[k],
+        k,
+        retries,
+        gate,
+    )
+}
+
+/// The same under a session's name. `own` is the handle that the board's writer keeps.
+fn turn_in<S: Session, O: Wait + Drop, R: Wait, A: Allocator + Copy + Drop, G: Gate>(
+    own: O,
+    rt: &R,
+    alloc: A,
+    desk: Desk<A>,
+    planners: u32,
+    blank: Blank,
+    script: &Script<A>,
+    k: usize,
+    retries: u32,
+    gate: &G,
+) -> Result<(Closed<A>, PlannerRun<A>), InTurnError>
+    requires pit { desk.plan.pit ≡ S.instance }
+    requires history { desk.history ≡ S.opening }
+    requires limit { desk.max_entries ≡ S.max_entries }
+    requires planners { planners ≡ S.planners }
+    requires ledger { blank.ledger ≡ S.name }
+    requires parts { S.parts ≡ PLANNERS_MAX }
+    requires book { blank.book ≡ S.book }
+    requires script { script.now.pit ≡ S.instance }
+    requires few { retries ≤ RETRIES_MAX }
+    requires place { k < planners }
+    ensures ok { IfOk result (λ turn. IsTurn S.instance S.opening S.max_entries S.planners retries (k + 1) script.now.jobs turn.0 turn.1) }
+    ensures err { IfErr result (IsTurnError S.instance S.opening S.max_entries S.planners retries (k + 1) script.now.jobs) }
+{
+    let (workspace, seats) = match Workspace::<S, O, A>::open(own, alloc, desk, planners, blank) {
+        Ok(opened) => opened,
+        Err((_desk, error)) => return Err(open_error(error)),
+    };
+    let Ok(logs) = Vec::with_capacity(alloc, seats.len()) else {
+        return Err(InTurnError::NoMemory);
+    };
+    let (logs, run) = take_turn(rt, alloc, &workspace, seats, logs, script, k, retries, gate);
+    match workspace.close(logs) {
+        Ok(closed) => Ok((closed, run)),
+        Err((_workspace, _logs, cause)) => Err(InTurnError::NotClosed {
+            planner: k as u32 + 1,
+            cause,
+        }),
+    }
+}
+
+/// Why a workspace can't be opened.
+fn open_error(error: OpenError) -> InTurnError
+    ensures { (pit : Pit) (opening : List Answered) (max_entries planners retries planner : ℕ) (script : List Job) → IsOpenError planners error
+        → IsTurnError pit opening max_entries planners retries planner script result }
+{
+    match error {
+        OpenError::PlannerCount => InTurnError::PlannerCount,
+        OpenError::NoPlace => InTurnError::NoPlace,
+        OpenError::NoMemory => InTurnError::NoMemory,
+    }
+}
+
+/// Has all planners hand in empty logs but the one whose number is one more, who then does the script.
+fn take_turn<S: Session, O: Wait + Drop, R: Wait, A: Allocator + Copy + Drop, G: Gate>(
+    rt: &R,
+    alloc: A,
+    workspace: &Workspace<S, O, A>,
+    seats: Vec<Seat<S, A>, A>,
+    logs: Vec<PlannerLog<S, A>, A>,
+    script: &Script<A>,
+    k: usize,
+    retries: u32,
+    gate: &G,
+) -> (Vec<PlannerLog<S, A>, A>, PlannerRun<A>)
+    requires pit { script.now.pit ≡ S.instance }
+    requires few { retries ≤ RETRIES_MAX }
+    requires seats { AreSeats (length seats.items) seats.items }
+    requires place { k < length seats.items }
+    requires none { logs.items ≡ [] }
+    requires room { length seats.items ≤ vec_capacity logs }
+    ensures { TookTurn S.instance retries script.now.jobs (k + 1) result.0.items result.1 }
+{
+    let mut seats = seats;
+    let mut logs = logs;
+    let seat = seats.remove(k);
+    finish_all(workspace, &mut seats, &mut logs);
+    let (log, run) = run_planner(rt, alloc, workspace, seat, script, retries, gate);
+    push_log(&mut logs, log);
+    (logs, run)
+}
+
+/// Hands in an empty log for each seat.
+fn finish_all<S: Session, O: Wait + Drop, A: Allocator + Copy + Drop>(
+    workspace: &Workspace<S, O, A>,
+    seats: &mut Vec<Seat<S, A>, A>,
+    logs: &mut Vec<PlannerLog<S, A>, A>,
+)
+    requires room { length logs.old.items + length seats.old.items < vec_capacity logs.old }
+    ensures empty { All (λ log. log.items ≡ []) logs.old.items → All (λ log. log.items ≡ []) logs.new.items }
+    ensures room { length logs.new.items < vec_capacity logs.new }
+{
+    let Some(seat) = seats.pop() else {
+        return;
+    };
+    push_log(logs, seat.sit(workspace).finish());
+    finish_all(workspace, seats, logs);
+}
