@@ -1,4 +1,5 @@
 pub mod PlanFiles
+pub mod Apart
 pub mod History
 pub mod EngineRuns
 pub mod InfoRun

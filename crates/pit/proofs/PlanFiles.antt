@@ -1,5 +1,5 @@
 -- The files of inputs, one after the other.
-use Rattle.std.proofs.Common.{◌≡◌, ◌≢◌, inl, inr, ℕ, zero, suc, ◌+◌, ◌<◌, ◌≤◌, List, [], ◌∷◌, ◌++◌, length, map, take, drop, slice_index_or, refl, ap, subst, sym, ◌∙◌, arith, Option, None, Some, Bool, if◌then◌else◌, is_some, option_map, false, true}
+use Rattle.std.proofs.Common.{◌≡◌, ◌≢◌, inl, inr, ℕ, zero, suc, ◌+◌, ◌<◌, ◌≤◌, List, [], ◌∷◌, ◌++◌, length, map, take, drop, slice_index_or, refl, ap, subst, sym, ◌∙◌, arith, Option, None, Some, Bool, is_some, option_map, false, true}
 use Rattle.std.specs.List.{range_with_len}
 use Rattle.std.proofs.lemmas.List.{take_more, get_or-map, get_or-drop, drop-drop, length-append, map_push}
 use Rattle.pit_step.specs.declared.input.Input.{Input}

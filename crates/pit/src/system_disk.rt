@@ -2,8 +2,8 @@ ghost use Rattle.std.specs.Prelude.{None};
 
 use crate::files::Disk;
 use pit_file::{
-    FileFault, FileIdentity, HistoryFile, HistoryOutput, HostNames, Kind, Paths, Place, Stream, found,
-    identity_at, identity_of, is_among, open_stream,
+    FileFault, FileIdentity, HistoryFile, HistoryOutput, HostNames, Kind, Paths, Place, Stream,
+    found, identity_at, identity_of, is_among, open_stream,
 };
 use pit_num::{Failed, Out};
 use std::fs::File;

@@ -29,7 +29,7 @@ returns-in_err-bytes g c holds tells =
 
 pub loop-i-preserved : goal.loop-i-preserved
 loop-i-preserved g c = (
-  c.remove.ensures.by_index.1.1 ∙ rest-more (λ _. None) (λ _. None) c.args.inputs.now c.args.files.items c.loop-i.files.items c.loop-i.i c.loop-i-test.true c.requires c.loop-i.invariant.0,
+  c.remove.ensures.by_index.2 ∙ rest-more (λ _. None) (λ _. None) c.args.inputs.now c.args.files.items c.loop-i.files.items c.loop-i.i c.loop-i-test.true c.requires c.loop-i.invariant.0,
   λ holds tells.
       let left = g.F.Read.remaining in
       let i = c.loop-i.i in

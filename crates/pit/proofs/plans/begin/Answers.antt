@@ -8,12 +8,12 @@ pub returns-in-Err : goal.returns-in-Err
 returns-in-Err g c = inl (c.in-Err.ensures, (tt, (refl, refl)))
 
 pub returns-in-Err-prepared : goal.returns-in-Err-prepared
-returns-in-Err-prepared g c = inr (c.in-Ok.input, c.in-Ok.ensures, inl (c.in-Err-prepared.ensures, (refl, refl)))
+returns-in-Err-prepared g c = inr (c.in-Ok.input, c.in-Ok.ensures, inl (c.in-Err-prepared.ensures.fault, (refl, refl)))
 
 pub returns : goal.returns
 returns g c =
-    let ready = ready_history (history_refusal (g.D.Disk.refusal_at c.args.disk.now) c.args.given.now) c.args.given.now g.D.History.HistoryOut.state c.in-Ok-prepared.history c.plan.new.history
-    c.plan.ensures.same c.in-Ok-prepared.ensures.named c.in-Ok-prepared.ensures.ready c.in-Ok-prepared.ensures.new in
-    MatchResult-weaker c.plan.result c.plan.ensures.done
+    let ready = ready_history (history_refusal (g.D.Disk.refusal_at c.args.disk.now) c.args.given.now) c.args.given.now g.D.History.HistoryOut.state c.in-Ok-prepared.history c.plan-answer.new.history
+    c.plan-answer.ensures.same c.in-Ok-prepared.ensures.named c.in-Ok-prepared.ensures.ready c.in-Ok-prepared.ensures.new in
+    MatchResult-weaker c.plan-answer.result c.plan-answer.ensures.done
     (λ status gives. (c.in-Ok.input, c.in-Ok.ensures, ((c.in-Ok.input, _), (refl, ready), gives)))
     (λ fault fails. inr (c.in-Ok.input, c.in-Ok.ensures, inr ((c.in-Ok.input, _), (refl, ready), fails)))

@@ -10,10 +10,10 @@ returns g c =
     let model = reading_of (left c.in_ok-model.model.reader) (left c.log.new.model.reader) c.log.new.model.has_failed in
     let precedence = reading_of (left c.in_ok-precedence.precedence.reader) (left c.log.new.precedence.reader) c.log.new.precedence.has_failed in
     let history = reading_of (left c.in_ok-history.history.reader) (left c.log.new.history.reader) c.log.new.history.has_failed in
-    let are_open = ((c.in_ok-model.ensures.opens, c.in_ok-model.ensures.file), ((c.in_ok-precedence.ensures.opens, c.in_ok-precedence.ensures.file), ((c.in_ok-history.ensures.opens, c.in_ok-history.ensures.file), refl))) in (
+    let all = model ∷ precedence ∷ history ∷ [] in (
       c.asks_writes-with_writes.result,
       c.asks_writes-with_writes.ensures,
-      MatchResult-weaker c.log.result c.log.ensures (λ status gives. (model ∷ precedence ∷ history ∷ [], are_open, gives)) (λ fault fails. inr (model ∷ precedence ∷ history ∷ [], are_open, fails)),
+      MatchResult-weaker c.log.result c.log.ensures (λ status gives. (all, ((c.in_ok-model.ensures.opens, c.in_ok-model.ensures.file), ((c.in_ok-precedence.ensures.opens, c.in_ok-precedence.ensures.file), ((c.in_ok-history.ensures.opens, c.in_ok-history.ensures.file), refl))), gives)) (λ fault fails. inr (all, ((c.in_ok-model.ensures.opens, c.in_ok-model.ensures.file), ((c.in_ok-precedence.ensures.opens, c.in_ok-precedence.ensures.file), ((c.in_ok-history.ensures.opens, c.in_ok-history.ensures.file), refl))), fails)),
     )
 
 pub returns-in_err-model : goal.returns-in_err-model
