@@ -4,7 +4,7 @@
 # make test           the whole gate: every proof, test, must-fail edit and stored run that no earlier run kept; then the shell tests. Leaves ./pit
 # make install        puts the program, its manual page and its completions for bash under PREFIX (/usr/local), itself below DESTDIR
 # make uninstall      removes what make install put there
-# make audit          what the gate leaves out: on a copy of the tree further edits, planted bodies, further tests; and a soak of ./pit. Takes hours
+# make audit          what the gate leaves out: on a copy of the tree further edits, planted bodies, further tests; a soak of ./pit; 200 drawn days. Takes hours
 # make clean          removes what was built
 .PHONY: demo check test install uninstall audit clean
 .DELETE_ON_ERROR:
@@ -78,6 +78,7 @@ uninstall:
 audit: pit
 	audit/run.sh
 	audit/soak.py ./pit
+	tests/replay.sh ./pit 200 200
 
 clean:
 	rm -rf pit pit.new pit.1 pit.bash demo crates/*/out
