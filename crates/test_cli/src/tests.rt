@@ -149,6 +149,7 @@ fn planned_in<R: Threads + Wait + Abort + Sync>(
     let mut report = Narrow::new(alloc, 7, rooms.report);
     let mut history = device_if(alloc, rooms.history);
     let input = input_of(rt, alloc, given);
+    assert!(rt; given.options.retries <= 1000);
     let answer = plan(
         rt,
         alloc,

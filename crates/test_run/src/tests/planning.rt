@@ -22,11 +22,19 @@ fn nothing(alloc: Global) -> Opening<Global> {
     Opening::start(Vec::new(alloc))
 }
 
-/// A start that mines one block.
-fn start_of(rt: &impl Abort, alloc: Global, pair: (u32, u32)) -> Opening<Global> {
+/// What no planner leaves of a pit of which this block is mined in this period at the start.
+fn from_start<R: Threads + Wait + Abort + Sync>(
+    rt: &R,
+    alloc: Global,
+    pit: Instance<Global>,
+    block: u32,
+    period: u32,
+) -> Result<Report<Global>, CliFault> {
+    assert!(rt; block < pit.blocks());
+    assert!(rt; period < pit.periods());
     let mut pairs = Vec::new(alloc);
-    assert!(rt; pairs.push(pair).is_ok());
-    Opening::start(pairs)
+    assert!(rt; pairs.push((block, period)).is_ok());
+    run_scripts(rt, alloc, pit, Opening::start(pairs), &[], OPTIONS)
 }
 
 /// What planners leave of the small pit, of which no block is mined at the start.
@@ -123,10 +131,7 @@ fn a_limit_below_zero(rt: HostRuntime) {
 #[test]
 fn an_early_start(rt: HostRuntime) {
     let pit = tiny(&rt, rt.alloc());
-    assert!(rt; pit.blocks() > 2);
-    assert!(rt; pit.periods() > 0);
-    let start = start_of(&rt, rt.alloc(), (2, 0));
-    let answer = run_scripts(&rt, rt.alloc(), pit, start, &[], OPTIONS);
+    let answer = from_start(&rt, rt.alloc(), pit, 2, 0);
     let fault = CliFault::Start(BreachLine(Breach::Precedence {
         block: 2,
         before: 0,
@@ -137,10 +142,7 @@ fn an_early_start(rt: HostRuntime) {
 #[test]
 fn a_start_over_a_limit(rt: HostRuntime) {
     let pit = limited(&rt, rt.alloc(), 1_000_000);
-    assert!(rt; pit.blocks() > 0);
-    assert!(rt; pit.periods() > 0);
-    let start = start_of(&rt, rt.alloc(), (0, 0));
-    let answer = run_scripts(&rt, rt.alloc(), pit, start, &[], OPTIONS);
+    let answer = from_start(&rt, rt.alloc(), pit, 0, 0);
     let fault = CliFault::Start(BreachLine(Breach::Over {
         resource: 0,
         period: 0,
