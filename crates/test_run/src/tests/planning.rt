@@ -1,7 +1,7 @@
 //! Runs from a start, and what is answered where planners can't begin.
 use super::rows::THREE;
 use super::{assert_legal, scripts_of, tiny};
-use pit_cli::{Opening, PlanOptions, run_scripts};
+use pit_cli::{Beginning, PlanOptions, opening_of, run_scripts};
 use pit_model::Instance;
 use pit_plan::Breach;
 use pit_run::Report;
@@ -18,36 +18,44 @@ const OPTIONS: PlanOptions = PlanOptions {
     is_strict: false,
 };
 
-fn nothing(alloc: Global) -> Opening<Global> {
-    Opening::start(Vec::new(alloc))
+/// What planners leave of a pit, on which they begin with this.
+fn run_from<R: Threads + Wait + Abort + Sync>(
+    rt: &R,
+    alloc: Global,
+    pit: Instance<Global>,
+    beginning: Beginning<Global>,
+    texts: &[&[u8]],
+) -> Result<Report<Global>, CliFault> {
+    let opening = match opening_of(alloc, alloc, beginning, &pit) {
+        Ok(opening) => opening,
+        Err(_) => panic!(rt; "no opening"),
+    };
+    let scripts = scripts_of(rt, alloc, &pit, texts);
+    let answer = run_scripts(rt, alloc, pit, opening, scripts.as_slice(), OPTIONS);
+    drop(scripts);
+    answer
 }
 
-/// What no planner leaves of a pit of which this block is mined in this period at the start.
+/// The same from a schedule, which no planner changes.
 fn from_start<R: Threads + Wait + Abort + Sync>(
     rt: &R,
     alloc: Global,
     pit: Instance<Global>,
-    block: u32,
-    period: u32,
+    schedule: &[u8],
 ) -> Result<Report<Global>, CliFault> {
-    assert!(rt; block < pit.blocks());
-    assert!(rt; period < pit.periods());
-    let mut pairs = Vec::new(alloc);
-    assert!(rt; pairs.push((block, period)).is_ok());
-    run_scripts(rt, alloc, pit, Opening::start(pairs), &[], OPTIONS)
+    let mut text = Vec::new(alloc);
+    assert!(rt; text.extend_from_slice(schedule).is_ok());
+    run_from(rt, alloc, pit, Beginning::schedule(text), &[])
 }
 
-/// What planners leave of the small pit, of which no block is mined at the start.
+/// The same from no mined block.
 fn from_nothing<R: Threads + Wait + Abort + Sync>(
     rt: &R,
     alloc: Global,
     pit: Instance<Global>,
     texts: &[&[u8]],
 ) -> Result<Report<Global>, CliFault> {
-    let scripts = scripts_of(rt, alloc, &pit, texts);
-    let answer = run_scripts(rt, alloc, pit, nothing(alloc), scripts.as_slice(), OPTIONS);
-    drop(scripts);
-    answer
+    run_from(rt, alloc, pit, Beginning::nothing(), texts)
 }
 
 /// The periods of the small pit's blocks.
@@ -131,7 +139,7 @@ fn a_limit_below_zero(rt: HostRuntime) {
 #[test]
 fn an_early_start(rt: HostRuntime) {
     let pit = tiny(&rt, rt.alloc());
-    let answer = from_start(&rt, rt.alloc(), pit, 2, 0);
+    let answer = from_start(&rt, rt.alloc(), pit, b"2 0\n");
     let fault = CliFault::Start(BreachLine(Breach::Precedence {
         block: 2,
         before: 0,
@@ -142,7 +150,7 @@ fn an_early_start(rt: HostRuntime) {
 #[test]
 fn a_start_over_a_limit(rt: HostRuntime) {
     let pit = limited(&rt, rt.alloc(), 1_000_000);
-    let answer = from_start(&rt, rt.alloc(), pit, 0, 0);
+    let answer = from_start(&rt, rt.alloc(), pit, b"0 0\n");
     let fault = CliFault::Start(BreachLine(Breach::Over {
         resource: 0,
         period: 0,
