@@ -15,22 +15,6 @@ usage() {
 words n:t: 250000 "$@"
 run_on "${others[@]}"
 
-# script NAME SEED: a planner's jobs.
-script() {
-    awk -v jobs="$count" -v x="$2" '
-        FILENAME != ARGV[1] && $1 == "NBLOCKS:" { blocks = $2; exit }
-        FILENAME == ARGV[1] { period[$1] = $2 }
-        END {
-            for (; jobs > 0; jobs--) {
-                x = (x * 1664525 + 1013904223) % 4294967296
-                b = int(x / 256) % blocks
-                print "begin\nread", b
-                if (b in period) print "put", b, period[b]; else print "clear", b
-                print "commit"
-            }
-        }' "$1.sol" "$1.cpit" >"$work/script.$2"
-}
-
 for name in "${names[@]}"; do
     for seed in 1 2 3 4; do script "$name" "$seed"; done
     for _ in 1 2 3; do

@@ -17,22 +17,6 @@ run_on "${others[@]}"
 # middle: the third of five numbers.
 middle() { sort -g | sed -n 3p; }
 
-# script NAME SEED: a planner's jobs.
-script() {
-    awk -v jobs="$count" -v x="$2" '
-        FILENAME != ARGV[1] && $1 == "NBLOCKS:" { blocks = $2; exit }
-        FILENAME == ARGV[1] { period[$1] = $2 }
-        END {
-            for (; jobs > 0; jobs--) {
-                x = (x * 1664525 + 1013904223) % 4294967296
-                b = int(x / 256) % blocks
-                print "begin\nread", b
-                if (b in period) print "put", b, period[b]; else print "clear", b
-                print "commit"
-            }
-        }' "$1.sol" "$1.cpit" >"$work/script.$2"
-}
-
 # turn KEY WORD..: one run, whose seconds and memory go to the list of the key, with its ratios to the last run of `replay`.
 turn() {
     local key=$1

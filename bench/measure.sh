@@ -37,3 +37,19 @@ whole() {
     [ -z "$twin" ] || awk "BEGIN { printf \"   to the twin: time %.2f, memory %.2f\", ${seconds[$1]} / ${seconds[$2]}, ${memory[$1]} / ${memory[$2]} }"
     echo
 }
+
+# script NAME SEED: a planner's jobs, as many as count says, of one block, which is read and put where it is: in the file script.SEED of work.
+script() {
+    awk -v jobs="$count" -v x="$2" '
+        FILENAME != ARGV[1] && $1 == "NBLOCKS:" { blocks = $2; exit }
+        FILENAME == ARGV[1] { period[$1] = $2 }
+        END {
+            for (; jobs > 0; jobs--) {
+                x = (x * 1664525 + 1013904223) % 4294967296
+                b = int(x / 256) % blocks
+                print "begin\nread", b
+                if (b in period) print "put", b, period[b]; else print "clear", b
+                print "commit"
+            }
+        }' "$1.sol" "$1.cpit" >"$work/script.$2"
+}

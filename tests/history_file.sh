@@ -10,6 +10,7 @@ if [ $# -ne 1 ] || [ ! -x "$1" ]; then
     exit 2
 fi
 pit=$(realpath "$1")
+tiny=$(realpath "$(dirname "$0")/../examples/tiny")/tiny
 work=$(mktemp -d)
 trap 'chmod -R u+rwx "$work"; rm -rf "$work"' EXIT
 cd "$work" || exit 2
@@ -28,29 +29,8 @@ says() {
     fi
 }
 
-cat >model <<'TEXT'
-NAME: Tiny
-TYPE: CPIT
-NBLOCKS: 4
-NPERIODS: 2
-NRESOURCE_SIDE_CONSTRAINTS: 1
-DISCOUNT_RATE: 0.1
-OBJECTIVE_FUNCTION:
-0 -10
-1 20.5
-2 30
-3 5
-RESOURCE_CONSTRAINT_COEFFICIENTS:
-0 0 2
-1 0 2
-2 0 3
-3 0 1
-RESOURCE_CONSTRAINT_LIMITS:
-0 0 L 4
-0 1 I 1 4
-EOF
-TEXT
-printf '1 1 0\n2 2 0 1\n' >precedence
+cp "$tiny.cpit" model
+cp "$tiny.prec" precedence
 printf 'begin\nput 3 1\ncommit\n' >script
 cat >old <<'TEXT'
 {"format":1}
