@@ -14,34 +14,19 @@ usage() {
 words n:t: 250000 "$@"
 run_on "${others[@]}"
 
-# middle: the third of five numbers.
-middle() { sort -g | sed -n 3p; }
-
-# turn KEY WORD..: one run, whose seconds and memory go to the list of the key, with its ratios to the last run of `replay`.
-turn() {
-    local key=$1
-    shift
-    seconds=()
-    memory=()
-    best "$key" 1 "$pit" "$@"
-    [ "$key" != replay ] || base="${seconds[replay]} ${memory[replay]}"
-    echo "${seconds[$key]} ${memory[$key]} $base $(wc -c <"$work/out")" >>"$work/$key"
-}
-
 for name in "${names[@]}"; do
     rm -f "$work"/*
     for seed in 1 2 3 4; do script "$name" "$seed"; done
     "$pit" plan "$name.cpit" "$name.prec" --start "$name.sol" --history "$work/history" "$work"/script.[1-4] >"$work/left" 2>"$work/told" || [ $? -eq 1 ]
     for round in 1 2 3 4 5; do
-        turn replay replay "$name.cpit" "$name.prec" "$work/history"
-        turn log log "$name.cpit" "$name.prec" "$work/history"
-        turn writes log --writes "$name.cpit" "$name.prec" "$work/history"
+        turn replay replay "$pit" replay "$name.cpit" "$name.prec" "$work/history"
+        turn log replay "$pit" log "$name.cpit" "$name.prec" "$work/history"
+        turn writes replay "$pit" log --writes "$name.cpit" "$name.prec" "$work/history"
     done
     echo "$(basename "$name"), $(($(wc -l <"$work/history") - 1)) entries, $(wc -c <"$work/history") bytes"
     for key in replay log writes; do
-        awk -v key="$key" -v s="$(cut -d ' ' -f 1 "$work/$key" | middle)" -v m="$(cut -d ' ' -f 2 "$work/$key" | middle)" \
-            -v rs="$(awk '{ print $1 / $3 }' "$work/$key" | middle)" -v rm="$(awk '{ print ($2 * 1024 - $5) / ($4 * 1024) }' "$work/$key" | middle)" \
-            -v b="$(cut -d ' ' -f 5 "$work/$key" | middle)" \
+        awk -v key="$key" -v s="$(middle_of "$key" '$1')" -v m="$(middle_of "$key" '$2')" -v b="$(middle_of "$key" '$5')" \
+            -v rs="$(middle_of "$key" '$1 / $3')" -v rm="$(middle_of "$key" '($2 * 1024 - $5) / ($4 * 1024)')" \
             'BEGIN { printf "%-6s %8.2f s %10d KB, text %d bytes   to replay: time %.2f, memory without the text %.2f\n", key, s, m, b, rs, rm }'
     done
 done

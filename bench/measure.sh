@@ -53,3 +53,22 @@ script() {
             }
         }' "$1.sol" "$1.cpit" >"$work/script.$2"
 }
+
+# middle: the third of five numbers.
+middle() { sort -g | sed -n 3p; }
+
+# turn KEY BASE PROGRAM WORD..: one run, whose seconds and memory go to the file KEY of work, with those of the last run of BASE and the bytes that were
+# written. A status above 1 ends the script.
+declare -A last
+turn() {
+    local key=$1 base=$2
+    shift 2
+    seconds=()
+    memory=()
+    best "$key" 1 "$@"
+    last[$key]="${seconds[$key]} ${memory[$key]}"
+    echo "${last[$key]} ${last[$base]} $(wc -c <"$work/out")" >>"$work/$key"
+}
+
+# middle_of KEY EXPRESSION: the middle of what an expression of awk gives for each line of the file KEY.
+middle_of() { awk "{ print $2 }" "$work/$1" | middle; }
