@@ -1,4 +1,4 @@
-# make demo           shows the main job: without a proof where there is no ./pit, in one to three minutes; else the commands of a day, in a second
+# make demo           shows the main job: without a proof where there is no ./pit, in one to three minutes; else the commands of two days, in a second
 # make pit            proves and builds ./pit where a source is newer than it
 # make check CRATE=C  proves the crate C, over what earlier checks kept: half a minute or so after an edit
 # make test           the whole gate: every proof, test, must-fail edit and stored run that no earlier run kept; then the shell tests. Leaves ./pit
