@@ -1,9 +1,9 @@
 //! Several planners, each with a script, edit one schedule at once: from the texts of the inputs to the solution, the report and the history.
 //!
-//! The texts are parsed in order. A desk is opened on the start, and a workspace on the desk, with a planner for each script. What is proved of their
-//! run is what `pit_run` says, after the opening history of that start; or the first fault is answered: of the texts, of the pit's limits, of the
-//! start, or of the number of planners. What is written is the solution that the closed history leaves, the report of the runs, and the history
-//! where it is asked for. As `one_outcome` says, whether the texts are refused, and for which fault, is theirs alone, and the answer says what was
+//! The texts are parsed in order. A desk is opened with what the plan begins with, a schedule or a history, and a workspace on the desk, with a planner
+//! for each script. What is proved of their run is what `pit_run` says, behind the entries that the desk has then; or the first fault is answered: of the
+//! texts, of the pit's limits, of the beginning, or of the number of planners. What is written is the solution that the closed history leaves, the report
+//! of the runs, and the history where it is asked for, which is first where one is carried on. As `one_outcome` says, whether the texts are refused, and for which fault, is theirs alone, and the answer says what was
 //! written.
 #![tactic(auto)]
 

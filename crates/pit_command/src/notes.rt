@@ -8,7 +8,8 @@ docs/FORMATS.md has every form and fault line.
 
 Status: 0 where all is well, 1 where a breach, a shortfall, a difference or `illegal` was printed, or
 a refusal with `plan --strict`, 2 where an input or the command line is refused, 3 where memory, a
-device or a thread is wanting, or a planner stopped. Of 2 and 3 standard error says why.";
+device or a thread is wanting, another program writes the history, or a planner stopped. Of 2 and 3
+standard error says why.";
 
 pub(crate) const VALUE_NOTES: &str = "\
 Prints the sum of the profits, each times the factor of its period, with 18 digits. Blocks and
@@ -41,8 +42,8 @@ Examples:
   pit check --all tiny.cpit tiny.prec tiny.history";
 
 pub(crate) const PLAN_NOTES: &str = "\
-Each planner does the jobs of its script in a thread of its own, all on one schedule. A job is lines
-between `begin` and `commit` or `abort`:
+Each planner does the jobs of its script in a thread of its own, all on one schedule; with --in-turn
+one thread does them, planner after planner. A job is lines between `begin` and `commit` or `abort`:
   read B      reads block B             put B T     puts block B into period T
   clear B     takes block B out         shift B D   moves block B by D periods, or aborts the job
   bench Z T   puts each block at height Z into period T
@@ -59,8 +60,8 @@ A history that the schedule begins with is audited, and the new entries follow i
 it is made, and the report begins with `history new`. Neither --start nor --history stands beside it.
 
 Status: 0 where all is well, 1 where a load falls short, or a job was refused with --strict, 2 where
-an input or the command line is refused, 3 where memory, a device or a thread is wanting, or a planner
-stopped.
+an input or the command line is refused, 3 where memory, a device or a thread is wanting, another
+program writes the history, or a planner stopped.
 
 Examples:
   pit plan tiny.cpit tiny.prec --blocks tiny.blocks one.script two.script
