@@ -122,7 +122,7 @@ fn help_of<'a>(input: Input) -> &'a str {
         }
         Input::Blocks => { "The blocks' places: `BLOCK X Y Z` for each block that has one" }
         Input::Start => {
-            "A schedule to begin with, a solution or a history; else with no block mined, or as --continue says"
+            "A schedule to begin with, a solution or a history; without it or --continue no block is mined"
         }
         Input::Script(_) => "A script of jobs for each planner, 1 to 64 of them",
         Input::History => "The history: the lines of JSON that `plan --history` wrote",
