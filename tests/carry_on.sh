@@ -1,16 +1,18 @@
 #!/usr/bin/env bash
 # Has a built `pit` write one history's file by two programs at once, of which one does or both do, one after the other: no entry is lost. Then it is
-# killed before and behind each call that opens, locks, writes, syncs or renames a file, or sets its permissions: the file holds the old history or the
-# whole new one, and the next program goes on from there.
-# usage: tests/carry_on.sh PIT [ROUNDS]      PIT is the path of the program; 50 rounds where their number isn't said. Wants a C compiler.
+# killed before and behind each call that opens, locks, writes, syncs or renames a file, or sets its permissions, and at moments that are drawn: the
+# file holds the old history or the whole new one, and the next program goes on from there.
+# usage: tests/carry_on.sh PIT [ROUNDS [SEED]]      PIT is the path of the program; 50 rounds and a drawn seed, where they aren't said. Wants a C
+# compiler.
 set -u
 
 if [ $# -lt 1 ] || [ ! -x "$1" ]; then
-    echo "usage: $0 PIT [ROUNDS]" >&2
+    echo "usage: $0 PIT [ROUNDS [SEED]]" >&2
     exit 2
 fi
 pit=$(realpath "$1")
 rounds=${2:-50}
+seed=${3:-$RANDOM}
 work=$(mktemp -d)
 trap 'rm -rf "$work"' EXIT
 cd "$work" || exit 2
@@ -181,6 +183,69 @@ killed 'a history is new' none --history
 killed 'a history is replaced' old --history
 killed 'a history is carried on' old --continue
 killed 'a history begins' none --continue
+
+# Kills at drawn moments, while planners carry on a history of 3,000 entries, or write another in its place.
+# jobs ONE OTHER: a script of 3,000 jobs with these two blocks.
+jobs() {
+    local number
+    for number in {1..1000}; do
+        printf 'begin\nput %s 1\ncommit\nbegin\nread %s\nput %s 1\ncommit\nbegin\nclear %s\ncommit\n' "$1" "$1" "$2" "$2"
+    done
+}
+jobs 0 1 >many
+"$pit" plan --history long model precedence <(jobs 2 3) >out 2>err || fail 'no long history'
+RANDOM=$seed
+# A pipe that nothing is written to: a wait for it ends when its time is over, with no program started.
+mkfifo silent
+exec 9<>silent
+
+# moments NAME WAY: kills the program at 100 moments between its start and a bit behind its end.
+moments() {
+    local name=$1 way=$2 begun time round moment pause status left old_left=0 beside=0 ended=0 before=$failures
+    cp long F
+    "$pit" plan "$way" F model precedence many >out 2>err || fail "$name: status $? where nothing is killed"
+    cp F whole
+    # What the next program leaves behind the old history, and behind the new one.
+    for left in long whole; do
+        cp "$left" F
+        "$pit" plan --continue F model precedence script >out 2>err || fail "$name: the next program ended with $?"
+        mv F "next.$left"
+    done
+    begun=${EPOCHREALTIME/[.,]/}
+    for round in 1 2 3; do
+        cp long F
+        "$pit" plan "$way" F model precedence many >out 2>err
+    done
+    time=$(((${EPOCHREALTIME/[.,]/} - begun) / 3))
+    for round in {1..100}; do
+        rm -f F.pit-new
+        cp long F
+        moment=$((time * 12 / 10 * RANDOM / 32768))
+        printf -v pause '%d.%06d' $((moment / 1000000)) $((moment % 1000000))
+        "$pit" plan "$way" F model precedence many >out 2>err &
+        read -r -t "$pause" -u 9
+        kill -KILL $! 2>/dev/null
+        { wait $!; } 2>/dev/null
+        status=$?
+        [ "$status" = 137 ] || [ "$status" = 0 ] || fail "$name, $moment microseconds: status $status"
+        [ "$status" != 0 ] || ended=$((ended + 1))
+        [ ! -e F.pit-new ] || beside=$((beside + 1))
+        left=whole
+        if cmp -s F long; then
+            left=long
+            old_left=$((old_left + 1))
+        elif ! cmp -s F whole; then
+            fail "$name, $moment microseconds: neither the old history nor the whole new one is left"
+        fi
+        "$pit" plan --continue F model precedence script >out 2>err || fail "$name, $moment microseconds: the next program ended with $?"
+        cmp -s F "next.$left" && [ ! -e F.pit-new ] || fail "$name, $moment microseconds: the next program didn't go on"
+    done
+    [ "$old_left" -gt 0 ] && [ "$beside" -gt 0 ] || fail "$name: $old_left moments with the old history, $beside with a new file beside it"
+    [ "$failures" -ne "$before" ] || echo "ok    $name: 100 moments of $time microseconds, $old_left left the old history, $beside a new file, $ended came too late"
+}
+echo "seed $seed"
+moments 'at drawn moments, a history is carried on' --continue
+moments 'at drawn moments, a history is replaced' --history
 
 if [ "$failures" -ne 0 ]; then
     echo "$failures failed"

@@ -1,7 +1,8 @@
 #!/usr/bin/env bash
 # The file of a history that a built `pit` writes. Each call by which it opens, locks, writes, syncs, renames or removes that file or the new one beside
 # it is refused in turn, and the program is killed before each in turn: the file then holds the old history or the whole new one, and the next run
-# succeeds. Two programs that write one history, links, permissions, and what stands at the new file's name.
+# succeeds. Two programs that write one history, files that can't be locked, somebody else's files, links, permissions, and what stands at the new
+# file's name.
 # usage: tests/history_file.sh PIT      PIT is the path of the program. Wants a C compiler and python3.
 set -u
 
@@ -37,7 +38,7 @@ cat >old <<'TEXT'
 TEXT
 
 # A call that is for the history: its path begins with `kept`, or its descriptor is none of the standard streams. FAULT_AT counts such calls
-# from 1. That call is refused, or, with FAULT_KILLS set, the program is killed before it.
+# from 1. That call is refused, or, with FAULT_KILLS set, the program is killed before it. LOCK_ERROR is what each locking is refused by.
 cat >fault.c <<'TEXT'
 #define _GNU_SOURCE
 #include <dlfcn.h>
@@ -73,7 +74,12 @@ int name(const char *path, int flags, ...) { \
 OPENS(open)
 OPENS(open64)
 int flock(int fd, int how);
-int flock(int fd, int how) { NEXT(flock); return is_refused(1, ENOLCK) ? -1 : next(fd, how); }
+int flock(int fd, int how) {
+    NEXT(flock);
+    const char *error = getenv("LOCK_ERROR");
+    if (error) { errno = atoi(error); return -1; }
+    return is_refused(1, ENOLCK) ? -1 : next(fd, how);
+}
 int ftruncate(int fd, off_t size) { NEXT(ftruncate); return is_refused(1, EIO) ? -1 : next(fd, size); }
 int ftruncate64(int fd, off64_t size) { NEXT(ftruncate64); return is_refused(1, EIO) ? -1 : next(fd, size); }
 int fsync(int fd) { NEXT(fsync); return is_refused(1, EIO) ? -1 : next(fd); }
@@ -176,6 +182,63 @@ kill "$holder"
 wait "$holder" 2>/dev/null
 plan
 says 'it is free once that program has ended' is_file kept new
+
+# A file system without locks.
+# is_unlocked WAY ERROR: the program is told by the error that it can't lock, and leaves the history as it was.
+is_unlocked() {
+    begin
+    LOCK_ERROR=$(python3 -c "import errno; print(errno.$2)") LD_PRELOAD=./fault.so "$pit" plan "$1" kept model precedence script >out 2>err </dev/null
+    [ $? = 3 ] && [ ! -s out ] && [ "$(cat err)" = 'pit: cannot write' ] && is_file kept old
+}
+for error in ENOLCK EOPNOTSUPP ENOSYS; do
+    says "no lock, by $error, of a history that is replaced" is_unlocked --history "$error"
+    says "and of one that is carried on" is_unlocked --continue "$error"
+done
+
+# Somebody else's files, in a folder in which only its owner may rename or remove a file.
+theirs() { setpriv --reuid=65534 --regid=65534 --clear-groups ./here plan "$1" sticky/kept model precedence script >out 2>err </dev/null; }
+# is_kept_out WAY: another user's program can't write the history, and leaves each file in the folder as it was.
+is_kept_out() {
+    rm -rf before
+    cp -a sticky before
+    theirs "$1"
+    [ $? = 3 ] && is_told 'pit: cannot write' && diff -r before sticky
+}
+# stand_sticky: the folder, with the history as that user's own.
+stand_sticky() {
+    rm -rf sticky
+    mkdir sticky
+    cp old sticky/kept
+    chown 65534:65534 sticky/kept
+}
+cp "$pit" here
+chmod 755 . here
+if [ "$(id -u)" = 0 ] && setpriv --reuid=65534 --regid=65534 --clear-groups ./here --version >out 2>err; then
+    for way in --history --continue; do
+        stand_sticky
+        chown 0:0 sticky/kept
+        chmod 666 sticky/kept
+        chmod 1777 sticky
+        says "$way, somebody else's history in a sticky folder" is_kept_out "$way"
+        chmod 777 sticky
+        theirs "$way"
+        says 'it is replaced where the folder is not sticky' is_file sticky/kept new
+        for mode in 644 666; do
+            stand_sticky
+            echo theirs >sticky/kept.pit-new
+            chmod "$mode" sticky/kept.pit-new
+            chmod 1777 sticky
+            says "$way, somebody else's new file of mode $mode" is_kept_out "$way"
+            rm sticky/kept
+            says 'and where no history stands' is_kept_out "$way"
+        done
+        chown 65534 sticky/kept.pit-new
+        theirs "$way"
+        says 'their own new file is used again' is_file sticky/kept new
+    done
+else
+    echo "skip  somebody else's files: whoever runs this can't be somebody else"
+fi
 
 # Several programs at once: each writes the history whole, or is told that it is in use.
 race() {
