@@ -313,4 +313,20 @@ says 'the history is an input by another name' is_told 'pit: history is an input
 says 'and stays' is_file kept script
 says 'no new file is made' test ! -e hard.pit-new
 
+# The new file of what is carried on is an input. Whichever call is refused, as that which sets the permissions of another user's file, the input stays.
+stands() { if [ "$1" = none ]; then [ ! -e kept ]; else is_file kept "$1"; fi; }
+stayed=0
+for number in {1..30}; do
+    for history in old none; do
+        begin
+        cp script kept.pit-new
+        [ "$history" = old ] || rm kept
+        FAULT_AT=$number LD_PRELOAD=./fault.so "$pit" plan --continue kept model precedence kept.pit-new >out 2>err </dev/null
+        status=$?
+        [ "$status" = 2 ] || [ "$status" = 3 ] || continue
+        is_file kept.pit-new script && stands "$history" && [ ! -s out ] && stayed=$((stayed + 1))
+    done
+done
+says 'whichever call is refused, the input stays' test "$stayed" = 60
+
 [ "$failures" = 0 ]

@@ -1,8 +1,8 @@
 #!/usr/bin/env bash
 # Refuses each request of a built `pit` for memory in turn, those of the command line's parser too. A run with a refused
 # request has to print `pit: no memory` alone, with status 3, or to end as the run in which nothing is refused; or a planner
-# stops for it, and the report says so, with status 3; or the name of a history's file can't be made, which is `pit: cannot write`. The file of a
-# plan's history is then as it was; or it has a history, where a planner stopped. No new file is left beside it.
+# stops for it, and the report says so, with status 3. The file of a plan's history is then as it was; or it has a history, where a planner stopped.
+# No new file is left beside it, and none is removed that is an input.
 # It also refuses each thread of a plan in turn: that planner isn't started, and the others do their scripts.
 # usage: tests/no_memory.sh PIT FOLDER      PIT is the path of the program, FOLDER has the small example. Wants a C compiler.
 set -u
@@ -56,9 +56,6 @@ ${CC:-cc} -shared -fPIC -o refuse.so refuse.c -ldl || exit 2
 # is_told WORD..: where the words have a history to keep, what was kept is legal.
 is_told() { [[ " $* " != *' kept '* ]] || "$pit" replay "$data/tiny.cpit" "$data/tiny.prec" kept >/dev/null; }
 
-# is_wanting WORD..: what is told of a request that was refused.
-is_wanting() { [ "$(cat err)" = 'pit: no memory' ] || { [ "$(cat err)" = 'pit: cannot write' ] && [[ " $* " == *' kept '* ]]; }; }
-
 # What the file of a history holds before a run.
 echo before >old
 
@@ -79,7 +76,7 @@ each() {
             echo "FAIL  $name: request $number refused: a new file is left"
             rm kept.pit-new
             failures=$((failures + 1))
-        elif [ "$status" = 3 ] && [ ! -s out ] && cmp -s kept old && is_wanting "$@"; then
+        elif [ "$status" = 3 ] && [ ! -s out ] && cmp -s kept old && [ "$(cat err)" = 'pit: no memory' ]; then
             refused=$((refused + 1))
         elif [ "$status" = 3 ] && grep -q '^planner [0-9]* \(stopped at job [0-9]*: no memory\|not started\)$' err && is_told "$@"; then
             refused=$((refused + 1))
@@ -94,6 +91,24 @@ each() {
         failures=$((failures + 1))
     else
         echo "ok    $name: $refused requests refused"
+    fi
+}
+
+# input_stays: carries a history on whose new file is an input, once for each request. The input stays, and so does the history.
+input_stays() {
+    local stayed=0 number
+    for number in {1..300}; do
+        cp old kept
+        cp one kept.pit-new
+        REFUSED_REQUEST=$number LD_PRELOAD=./refuse.so "$pit" plan --continue kept "$data/tiny.cpit" "$data/tiny.prec" kept.pit-new >out 2>err
+        cmp -s kept.pit-new one && cmp -s kept old && grep -q '^pit: \(no memory\|history is an input\)$' err && stayed=$((stayed + 1))
+    done
+    rm kept.pit-new
+    if [ "$stayed" = 300 ]; then
+        echo 'ok    plan, the new file is an input: it stays'
+    else
+        echo "FAIL  plan, the new file is an input: it stays in $stayed of 300 runs"
+        failures=$((failures + 1))
     fi
 }
 
@@ -133,6 +148,8 @@ each 'plan with a history' plan --history kept "$data/tiny.cpit" "$data/tiny.pre
 cp whole.kept history
 cp history old
 each 'plan, a history is carried on' plan --continue kept "$data/tiny.cpit" "$data/tiny.prec" one
+each 'plan, the history is an input' plan --history kept "$data/tiny.cpit" "$data/tiny.prec" kept
+input_stays
 echo before >old
 each 'log' log --writes "$data/tiny.cpit" "$data/tiny.prec" history
 each 'replay' replay "$data/tiny.cpit" "$data/tiny.prec" history

@@ -3,7 +3,7 @@ ghost use Rattle.std.specs.Prelude.{None};
 use crate::files::Disk;
 use pit_file::{
     FileFault, FileIdentity, HistoryFile, HistoryOutput, HostNames, Kind, Paths, Place, Stream,
-    found, identity_at, identity_of, is_among, open_stream,
+    found, identity_behind, identity_of, is_among, open_stream,
 };
 use pit_num::{Failed, Out};
 use std::fs::File;
@@ -48,14 +48,17 @@ impl<'a> Disk for SystemDisk<'a> {
         }
     }
 
-    fn meets(&self, history: &str, _input: &str, file: &File) -> Result<bool, Failed> {
-        let Ok(Place::File(name)) = found(self.rt, history) else {
-            return Ok(false);
+    fn meets(&self, history: &str, _input: &str, file: &File) -> Result<bool, FileFault> {
+        let name = match found(self.rt, history) {
+            Ok(Place::File(name)) => name,
+            Err(FileFault::NoMemory) => return Err(FileFault::NoMemory),
+            _ => return Ok(false),
         };
         let names = HostNames::new(self.rt, name)?;
-        let own = names.history_identity()?;
-        let new = names.new_identity()?;
-        Ok(is_among(identity_of(file)?, &[own, new]))
+        match is_one_of(&names, file) {
+            Ok(is_one) => Ok(is_one),
+            Err(_) => Err(FileFault::CannotWrite),
+        }
     }
 
     fn prepare(
@@ -93,15 +96,19 @@ impl<'a> Disk for SystemDisk<'a> {
     }
 }
 
+/// Whether an open file is the history's or the new one.
+fn is_one_of(names: &HostNames<'_>, file: &File) -> Result<bool, Failed> {
+    let own = names.history_identity()?;
+    let new = names.new_identity()?;
+    Ok(is_among(identity_of(file)?, &[own, new]))
+}
+
 /// The file of this name, in which no link is left, ready to be replaced.
 fn prepared_file<'a>(
     rt: &'a HostRuntime,
     name: String,
 ) -> Result<HistoryFile<HostNames<'a>>, FileFault> {
-    let Ok(names) = HostNames::new(rt, name) else {
-        return Err(FileFault::CannotWrite);
-    };
-    let mut file = HistoryFile::new(names);
+    let mut file = HistoryFile::new(HostNames::new(rt, name)?);
     file.prepare()?;
     Ok(file)
 }
@@ -123,10 +130,7 @@ fn opened_stream(
 
 /// Whether a path leads to the file of this identity.
 fn is_at(rt: &HostRuntime, path: &str, file: Option<FileIdentity>) -> bool {
-    let Ok(name) = rt.resolved(path) else {
-        return false;
-    };
-    match identity_at(rt, name.as_str()) {
+    match identity_behind(rt, path) {
         Ok(found) => is_among(file, &[found]),
         Err(_) => false,
     }

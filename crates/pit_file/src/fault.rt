@@ -5,4 +5,6 @@ pub enum FileFault {
     InUse,
     /// A step failed, or what stands at a name can't be written.
     CannotWrite,
+    /// There is no memory for a name.
+    NoMemory,
 }

@@ -1,6 +1,7 @@
 //! Paths and files of the system.
-ghost use Rattle.std.specs.Prelude.{None};
+ghost use Rattle.std.specs.Prelude.{◌≢◌, None};
 
+use super::fault::FileFault;
 use super::identity::FileIdentity;
 use super::paths::{Kind, Paths};
 use pit_num::{Failed, Out};
@@ -27,18 +28,28 @@ impl Paths for HostRuntime {
         kind_of(fs::symlink_metadata(self, path))
     }
 
-    fn resolved(&self, path: &str) -> Result<String, Failed> {
+    fn resolved(&self, path: &str) -> Result<String, FileFault> {
         match fs::canonicalize(self, path) {
             Ok(name) => Ok(name.into_string()),
-            Err(_) => Err(Failed),
+            Err(error) => Err(path_fault(&error)),
         }
     }
 
-    fn in_folder(&self, path: &str) -> Result<String, Failed> {
+    fn in_folder(&self, path: &str) -> Result<String, FileFault> {
         match resolved_in_folder(self, path) {
             Ok(name) => Ok(name),
-            Err(_) => Err(Failed),
+            Err(error) => Err(path_fault(&error)),
         }
+    }
+}
+
+/// Why a path isn't resolved.
+fn path_fault(error: &io::Error) -> FileFault
+    ensures { result ≢ FileFault.InUse }
+{
+    match error.kind() {
+        ErrorKind::OutOfMemory => FileFault::NoMemory,
+        _ => FileFault::CannotWrite,
     }
 }
 
@@ -84,7 +95,17 @@ pub fn identity_of(file: &File) -> Result<Option<FileIdentity>, Failed> {
 
 /// What the file of a name is known by, if it is a regular file. No link is followed at the name's end.
 pub fn identity_at(rt: &HostRuntime, name: &str) -> Result<Option<FileIdentity>, Failed> {
-    match fs::symlink_metadata(rt, name) {
+    identity_found(fs::symlink_metadata(rt, name))
+}
+
+/// What the file is known by that a path leads to, with all links followed, if it is a regular file. Takes no memory.
+pub fn identity_behind(rt: &HostRuntime, path: &str) -> Result<Option<FileIdentity>, Failed> {
+    identity_found(fs::metadata(rt, path))
+}
+
+/// What the file is known by that has this metadata, or none where there is no file.
+fn identity_found(found: io::Result<Metadata>) -> Result<Option<FileIdentity>, Failed> {
+    match found {
         Ok(found) => Ok(identity_in(&found)),
         Err(error) if error.kind() == ErrorKind::NotFound => Ok(None),
         Err(_) => Err(Failed),

@@ -25,7 +25,7 @@ mod two_names;
 pub use fault::FileFault;
 pub use history_file::HistoryFile;
 pub use host_names::HostNames;
-pub use host_paths::{identity_at, identity_of, open_stream};
+pub use host_paths::{identity_at, identity_behind, identity_of, open_stream};
 pub use identity::{FileIdentity, is_among};
 pub use laws::kept_or_not;
 pub use out::{HistoryOut, HistoryOutput, Stream};

@@ -1,5 +1,5 @@
 //! Where a history's path leads.
-ghost use Rattle.std.specs.Prelude.{◌≡◌, ℕ, List, Option, IfOk, IfSome, IfErr, OnErr};
+ghost use Rattle.std.specs.Prelude.{◌≡◌, ◌≢◌, ℕ, List, Option, IfOk, IfSome, IfErr, OnErr};
 ghost use Rattle.std.specs.String.{string_bytes};
 ghost use Rattle.pit_file.specs.Found.{IsPlaceOf, HasName, IsLost, IsLostLink};
 ghost use Rattle.pit_file.specs.declared.paths.Kind.{Kind};
@@ -43,14 +43,16 @@ pub trait Paths {
         ensures fails { OnErr result (stands_at self.now path.now ≡ None) };
 
     /// The path with all links resolved.
-    fn resolved(&self, path: &str) -> Result<String, Failed>
+    fn resolved(&self, path: &str) -> Result<String, FileFault>
         ensures name { IfOk result (λ name. IfSome (resolved self.now path.now) (λ told. string_bytes name ≡ told)) }
-        ensures fails { OnErr result (resolved self.now path.now ≡ None) };
+        ensures fault { IfErr result (λ fault. fault ≢ FileFault.InUse) }
+        ensures fails { IfErr result (λ fault. fault ≢ FileFault.NoMemory → resolved self.now path.now ≡ None) };
 
     /// The path in its folder, of which all links are resolved.
-    fn in_folder(&self, path: &str) -> Result<String, Failed>
+    fn in_folder(&self, path: &str) -> Result<String, FileFault>
         ensures name { IfOk result (λ name. IfSome (in_folder self.now path.now) (λ told. string_bytes name ≡ told)) }
-        ensures fails { OnErr result (in_folder self.now path.now ≡ None) };
+        ensures fault { IfErr result (λ fault. fault ≢ FileFault.InUse) }
+        ensures fails { IfErr result (λ fault. fault ≢ FileFault.NoMemory → in_folder self.now path.now ≡ None) };
 }
 
 /// Where a history is written.
@@ -62,17 +64,18 @@ pub enum Place {
     Stream,
 }
 
-/// Where a history's path leads. A link that leads nowhere can't be written.
+/// Where a history's path leads. A link that leads nowhere can't be written. There may be no memory for the name.
 pub fn found<D: Paths>(disk: &D, path: &str) -> Result<Place, FileFault>
     ensures place { IfOk result (λ place. IfSome (D.leads_to disk.now path.now) (λ leads. IfSome (D.stands_at disk.now path.now) (λ stands.
         IsPlaceOf leads stands (D.resolved disk.now path.now) (D.in_folder disk.now path.now) place))) }
-    ensures fault { IfErr result (λ fault. fault ≡ FileFault.CannotWrite) }
-    ensures lost { OnErr result (IsLost (D.leads_to disk.now path.now) (D.stands_at disk.now path.now) (D.resolved disk.now path.now) (D.in_folder disk.now path.now)) }
+    ensures fault { IfErr result (λ fault. fault ≢ FileFault.InUse) }
+    ensures lost { IfErr result (λ fault. fault ≢ FileFault.NoMemory
+        → IsLost (D.leads_to disk.now path.now) (D.stands_at disk.now path.now) (D.resolved disk.now path.now) (D.in_folder disk.now path.now)) }
 {
     match disk.leads_to(path) {
         Ok(Kind::Regular) => match disk.resolved(path) {
             Ok(name) => Ok(Place::File(name)),
-            Err(_) => Err(FileFault::CannotWrite),
+            Err(fault) => Err(fault),
         },
         Ok(Kind::Other) => Ok(Place::Stream),
         Ok(Kind::Nothing) => unmade(disk, path),
@@ -83,13 +86,13 @@ pub fn found<D: Paths>(disk: &D, path: &str) -> Result<Place, FileFault>
 /// The name of a file that isn't there.
 fn unmade<D: Paths>(disk: &D, path: &str) -> Result<Place, FileFault>
     ensures place { IfOk result (λ place. IfSome (D.stands_at disk.now path.now) (λ stands. stands ≡ Kind.Nothing) × HasName (D.in_folder disk.now path.now) place) }
-    ensures fault { IfErr result (λ fault. fault ≡ FileFault.CannotWrite) }
-    ensures lost { OnErr result (IsLostLink (D.stands_at disk.now path.now) (D.in_folder disk.now path.now)) }
+    ensures fault { IfErr result (λ fault. fault ≢ FileFault.InUse) }
+    ensures lost { IfErr result (λ fault. fault ≢ FileFault.NoMemory → IsLostLink (D.stands_at disk.now path.now) (D.in_folder disk.now path.now)) }
 {
     match disk.stands_at(path) {
         Ok(Kind::Nothing) => match disk.in_folder(path) {
             Ok(name) => Ok(Place::File(name)),
-            Err(_) => Err(FileFault::CannotWrite),
+            Err(fault) => Err(fault),
         },
         Ok(Kind::Regular) => Err(FileFault::CannotWrite),
         Ok(Kind::Other) => Err(FileFault::CannotWrite),

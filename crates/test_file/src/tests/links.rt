@@ -2,7 +2,8 @@
 use super::host::{is_new_file_input, stays_unfit};
 use super::places::{emptied, holds, put, removed};
 use pit_file::{
-    FileFault, FileIdentity, Place, found, identity_at, identity_of, is_among, open_stream,
+    FileFault, FileIdentity, Place, found, identity_at, identity_behind, identity_of, is_among,
+    open_stream,
 };
 use pit_num::{Failed, Sink};
 use std::fs::{self, File};
@@ -110,18 +111,23 @@ fn opened_identity(rt: &HostRuntime, path: &str) -> Result<Option<FileIdentity>,
 #[test]
 fn inputs(rt: HostRuntime) {
     let (input, new_name) = ("test_file_inputs/input", "test_file_inputs/h.pit-new");
+    let link = "test_file_inputs/link";
     assert!(rt; emptied(&rt, "test_file_inputs"));
     assert!(rt; put(&rt, "test_file_inputs/h", TEXT, 0));
     assert!(rt; put(&rt, input, TEXT, 0));
     assert!(rt; fs::hard_link(&rt, input, new_name).is_ok());
+    assert!(rt; symlink(&rt, "input", link).is_ok());
     let Ok(Some(identity)) = opened_identity(&rt, input) else {
         panic!(rt; "no identity");
     };
     assert!(rt; identity_at(&rt, input) == Ok(Some(identity)));
+    assert!(rt; identity_at(&rt, link) == Ok(None));
+    assert!(rt; identity_behind(&rt, link) == Ok(Some(identity)));
     assert!(rt; is_new_file_input(&rt, "test_file_inputs/h", Some(identity)));
     assert!(rt; opened_identity(&rt, "/dev/null") == Ok(None));
     assert!(rt; identity_at(&rt, "test_file_inputs") == Ok(None));
     assert!(rt; identity_at(&rt, "test_file_inputs/no") == Ok(None));
+    assert!(rt; identity_behind(&rt, "test_file_inputs/no") == Ok(None));
     assert!(rt; removed(&rt, "test_file_inputs"));
 }
 

@@ -8,10 +8,13 @@ const OLD: &[u8] = b"the old history";
 
 const NEW: &[u8] = b"the new one";
 
-/// The file of an old history, where a step fails, and what a program that was ended left beside it.
+/// What a program that was ended left at the new file's name, or an input of that name.
+const LEFT: &[u8] = b"half of an older text";
+
+/// The file of an old history, where a step fails, with what is left beside it.
 fn old_file(alloc: Global, other: Other, fails_at: u32) -> Option<HistoryFile<MemoryNames>> {
     let names = MemoryNames::new(alloc, other, fails_at).with_history(OLD)?;
-    let names = names.with_leftover(b"half of an older text")?;
+    let names = names.with_leftover(LEFT)?;
     Some(HistoryFile::new(names))
 }
 
@@ -21,14 +24,20 @@ fn is_old(file: &HistoryFile<MemoryNames>, is_there: bool) -> bool {
     names.history() == Some(OLD) && names.changes() == 1 && names.is_there() == is_there
 }
 
-/// Whether a file whose step of this number fails isn't prepared, and is as it was.
+/// Whether the old history stands there as it did, and so does what was left beside it.
+fn is_untouched(file: &HistoryFile<MemoryNames>) -> bool {
+    is_old(file, true) && file.names().new_file() == Some(LEFT)
+}
+
+/// Whether a file whose step of this number fails isn't prepared, and is as it was. So is what was left beside it, also once it is abandoned.
 fn stays_unprepared(alloc: Global, fails_at: u32) -> bool {
     let Some(mut file) = old_file(alloc, Other::Nobody, fails_at) else {
         return false;
     };
     let is_fault = file.prepare() == Err(FileFault::CannotWrite);
-    let is_left = is_old(&file, fails_at < 7) && file.names().steps() == fails_at;
-    is_fault && is_left && file.keep(NEW) == Err(Failed) && is_old(&file, fails_at < 7)
+    let is_left = is_untouched(&file) && file.names().steps() == fails_at;
+    file.abandon();
+    is_fault && is_left && file.keep(NEW) == Err(Failed) && is_untouched(&file)
 }
 
 /// Whether one that is prepared, and whose step of this number fails, is as it was.
@@ -36,7 +45,7 @@ fn stays_old(alloc: Global, fails_at: u32) -> bool {
     let Some(mut file) = old_file(alloc, Other::Nobody, fails_at) else {
         return false;
     };
-    let is_ready = file.prepare() == Ok(()) && is_old(&file, true);
+    let is_ready = file.prepare() == Ok(()) && is_untouched(&file);
     let is_fault = file.keep(NEW) == Err(Failed) && file.names().steps() == fails_at;
     is_ready && is_fault && is_old(&file, false)
 }
@@ -67,13 +76,16 @@ fn each_fails_in_turn(rt: HostRuntime) {
     assert!(rt; is_new(rt.alloc(), 14));
 }
 
-/// Whether a file is made where nothing is at either name, and which step fails.
+/// Whether a file is made where nothing is at either name, and which step fails. The new file is then left only by the two between those that make it
+/// and find that it is this program's.
 fn is_made(alloc: Global, fails_at: u32) -> bool {
     let mut file = HistoryFile::new(MemoryNames::new(alloc, Other::Nobody, fails_at));
     let is_ready = file.prepare() == Ok(());
     let is_kept = file.keep(NEW) == Ok(());
+    let is_left = file.names().is_there() == (fails_at == 3 || fails_at == 4);
     let is_there = file.names().history() == Some(NEW);
-    is_ready == (5 < fails_at) && is_kept == (11 < fails_at) && is_there == is_kept
+    let is_done = is_ready == (5 < fails_at) && is_kept == (11 < fails_at);
+    is_done && is_left && is_there == is_kept
 }
 
 // With no file at either name, five steps prepare it.
@@ -81,6 +93,27 @@ fn is_made(alloc: Global, fails_at: u32) -> bool {
 fn each_fails_where_nothing_is(rt: HostRuntime) {
     for fails_at in 1..13 {
         assert!(rt; is_made(rt.alloc(), fails_at));
+    }
+}
+
+/// Whether an input at the new file's name stays, where no history is and the step of this number fails.
+fn leaves_an_input(alloc: Global, fails_at: u32) -> bool {
+    let names = MemoryNames::new(alloc, Other::Nobody, fails_at);
+    let Some(names) = names.with_leftover(LEFT) else {
+        return false;
+    };
+    let mut file = HistoryFile::new(names);
+    let is_fault = file.prepare() == Err(FileFault::CannotWrite);
+    let is_left = file.names().new_file() == Some(LEFT) && file.names().steps() == fails_at;
+    file.abandon();
+    is_fault && is_left && file.names().new_file() == Some(LEFT)
+}
+
+// The seventh step opens it up.
+#[test]
+fn an_input_stays(rt: HostRuntime) {
+    for fails_at in 1..8 {
+        assert!(rt; leaves_an_input(rt.alloc(), fails_at));
     }
 }
 
