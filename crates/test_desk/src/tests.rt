@@ -16,7 +16,9 @@ mod wrong;
 
 use calls::{Call, Row, is_entry, parts, work_of};
 use linked_list_allocator::LocalHeap;
-use pit_desk::{Act, AuditFault, Desk, DeskError, Entry, EntryReply, Reply, Stop, audit};
+use pit_desk::{
+    Act, AuditFault, Desk, DeskError, Entry, EntryReply, Reply, ResumeFault, Stop, audit,
+};
 use pit_model::Instance;
 use pit_plan::Plan;
 use pit_plan_sample::Reading;
@@ -225,6 +227,20 @@ fn audited<A: Allocator + Copy + Drop, B: Allocator + Drop>(
     };
     assert!(rt; history.len() < 1_000);
     audit(alloc, pit, history)
+}
+
+/// A desk that goes on from a history.
+fn resume<A: Allocator + Copy + Drop>(
+    rt: &impl Abort,
+    alloc: A,
+    pit: Instance<A>,
+    history: Vec<Entry<A>, A>,
+    max_entries: u32,
+) -> Result<Desk<A>, ResumeFault> {
+    let None = pit.unmeetable() else {
+        panic!(rt; "unmeetable");
+    };
+    Desk::resume(alloc, pit, history, max_entries)
 }
 
 /// The plan that a legal history leaves of a pit of this size, of which these facts are told.

@@ -1,10 +1,10 @@
 //! How transactions end, and the works and entries of them.
-use pit_desk::{Act, Entry, EntryReply};
+use pit_desk::{Act, Entry, EntryReply, Pairs, Revisions};
 use pit_model::{BLOCKS_MAX, RESOURCES_MAX};
 use pit_num::PERIODS_MAX;
 use pit_sample::Size;
 use pit_tx::{Work, WorkError};
-use std::alloc::Allocator;
+use std::alloc::{AllocError, Allocator};
 
 pub(super) type Pair = (u32, Option<u32>);
 
@@ -162,4 +162,38 @@ pub(super) fn is_entry<A: Allocator + Drop>(entry: &Entry<A>, row: Row<'_>) -> b
         && entry.reads.items() == reads
         && entry.writes.items() == writes
         && entry.revises.items() == revises
+}
+
+/// The same entries once more.
+pub(super) fn copied<A: Allocator + Copy + Drop>(
+    alloc: A,
+    history: &[Entry<A>],
+) -> Result<Vec<Entry<A>, A>, AllocError> {
+    let mut entries = Vec::with_capacity(alloc, history.len())?;
+    for entry in history {
+        let copy = copied_entry(alloc, entry)?;
+        let Ok(()) = entries.push(copy) else {
+            return Err(AllocError);
+        };
+    }
+    Ok(entries)
+}
+
+fn copied_entry<A: Allocator + Copy + Drop>(
+    alloc: A,
+    entry: &Entry<A>,
+) -> Result<Entry<A>, AllocError> {
+    let reads = Vec::from_slice(alloc, entry.reads.items())?;
+    let writes = Vec::from_slice(alloc, entry.writes.items())?;
+    let revises = Vec::from_slice(alloc, entry.revises.items())?;
+    Ok(Entry {
+        planner: entry.planner,
+        job: entry.job,
+        start: entry.start,
+        reads: Pairs::new(reads),
+        writes: Pairs::new(writes),
+        revises: Revisions::new(revises),
+        act: entry.act,
+        reply: entry.reply,
+    })
 }

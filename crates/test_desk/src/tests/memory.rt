@@ -3,7 +3,7 @@ use super::calls::Call::{Commit, Revise, Withdraw};
 use super::calls::{Pair, Revision, Row};
 use super::limits::has_due_limits;
 use super::steps::step_twice;
-use super::twice::{Case, answer_twice, audit_twice, opened};
+use super::twice::{Case, answer_twice, audit_twice, opened, resume_twice};
 use super::{Heap, is_behind};
 use pit_desk::EntryReply::{Committed, Refused, Withdrawn};
 use pit_desk::{Act, Desk, Entry, Refusal, one_thread};
@@ -186,6 +186,20 @@ fn is_audited<A: Allocator + Copy + Drop>(
         && has_due_limits(rt, plan, desk.history())
 }
 
+/// A desk goes on from the history, and reads as this one.
+fn assert_resumed<A: Allocator + Copy + Drop>(
+    rt: &impl Abort,
+    heap: Heap<'_>,
+    alloc: A,
+    desk: &Desk<A>,
+    calls: Calls<'_>,
+) {
+    let other = resume_twice(rt, heap, alloc, desk.history(), calls.case);
+    assert!(rt; other.history().len() == desk.history().len());
+    assert_read(rt, heap, &other, calls);
+    drop(other);
+}
+
 /// Takes a desk apart, which asks for no memory.
 fn assert_parts<A: Allocator + Copy + Drop>(
     rt: &impl Abort,
@@ -214,6 +228,7 @@ fn all_calls<A: Allocator + Copy + Drop>(
     each_call(rt, heap, alloc, &mut desk, calls);
     assert_read(rt, heap, &desk, calls);
     assert_passes(rt, heap, alloc, &desk, calls);
+    assert_resumed(rt, heap, alloc, &desk, calls);
     assert_parts(rt, heap, desk, calls);
 }
 

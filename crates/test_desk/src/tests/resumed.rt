@@ -1,11 +1,11 @@
 //! Desks that go on from a history.
-use super::calls::Call::{Commit, Revise};
+use super::calls::Call::Commit;
 use super::calls::Row;
-use super::worked::{THIRD_BLOCK, TWO_BLOCKS};
-use super::{desk_over, follow_all};
+use super::revised::{RAISED, RAISING};
+use super::worked::{NOTHING, THIRD_BLOCK, TWO_BLOCKS};
+use super::{desk_over, follow, follow_all, resume};
 use pit_desk::EntryReply::{Committed, Refused};
-use pit_desk::{Act, Desk, ENTRIES_MAX, Entry, Refusal, ResumeFault};
-use pit_model::Instance;
+use pit_desk::{Desk, Entry, Refusal, ResumeFault};
 use pit_plan_sample::Reading;
 use pit_sample::{TINY, TINY_SIZE, built};
 use std::alloc::Global;
@@ -28,7 +28,7 @@ const LEFT: Reading = Reading {
     value: 15_045_454_545_455_000_000,
 };
 
-/// Block 2 in the place of block 3, which was then read before it was there.
+/// Block 2 in the place of block 3; and block 3, which was read before it was there.
 const BEHIND: &[Row<'static>] = &[
     (
         Commit(2, &[(3, Some(1))], &[(2, Some(1)), (3, None)]),
@@ -38,7 +38,7 @@ const BEHIND: &[Row<'static>] = &[
         Commit(1, &[(3, None)], &[]),
         Refused(Refusal::Moved {
             block: 3,
-            version: 3,
+            version: 2,
         }),
     ),
 ];
@@ -52,6 +52,17 @@ fn history_of(rt: &impl Abort, alloc: Global, rows: &[Row<'_>]) -> Vec<Entry<Glo
     history
 }
 
+/// The history of `BEFORE`, but that its last commit has another number.
+fn misnumbered(rt: &impl Abort, alloc: Global) -> Vec<Entry<Global>> {
+    let mut history = history_of(rt, alloc, BEFORE);
+    let mut last = history.pop().expect(rt, "an entry");
+    last.reply = Committed { number: 3 };
+    let Ok(()) = history.push(last) else {
+        panic!(rt; "memory");
+    };
+    history
+}
+
 fn resumed(
     rt: &impl Abort,
     alloc: Global,
@@ -59,74 +70,75 @@ fn resumed(
     max_entries: u32,
 ) -> Result<Desk<Global>, ResumeFault> {
     let pit = built(alloc, TINY_SIZE, TINY).expect(rt, "a pit");
-    resumed_on(rt, alloc, pit, history, max_entries)
+    resume(rt, alloc, pit, history, max_entries)
 }
 
-fn resumed_on(
+/// A desk that goes on from the history that calls leave, of which this is read.
+fn desk_behind(
     rt: &impl Abort,
     alloc: Global,
-    pit: Instance<Global>,
-    history: Vec<Entry<Global>>,
+    rows: &[Row<'_>],
     max_entries: u32,
-) -> Result<Desk<Global>, ResumeFault> {
-    assert!(rt; pit.unmeetable().is_none());
-    Desk::resume(alloc, pit, history, max_entries)
+    left: Reading,
+) -> Desk<Global> {
+    let answer = resumed(rt, alloc, history_of(rt, alloc, rows), max_entries);
+    let desk = answer.ok().expect(rt, "a desk");
+    assert!(rt; desk.max_entries() == max_entries);
+    assert!(rt; desk.history().len() == rows.len());
+    assert!(rt; Reading::of(desk.plan()) == Some(left));
+    desk
 }
 
+/// Each call on a desk of its own.
 #[test]
 fn answers_as_by_hand(rt: HostRuntime) {
-    let alloc = rt.alloc();
-    let history = history_of(&rt, alloc, BEFORE);
-    let answer = resumed(&rt, alloc, history, 5);
-    let mut desk = answer.ok().expect(&rt, "a desk");
-    assert!(rt; desk.max_entries() == 5);
-    assert!(rt; Reading::of(desk.plan()) == Some(LEFT));
-    follow_all(&rt, alloc, &mut desk, TINY_SIZE, BEHIND);
+    for row in BEHIND {
+        go_on(&rt, rt.alloc(), *row);
+    }
+}
+
+fn go_on(rt: &impl Abort, alloc: Global, row: Row<'_>) {
+    let mut desk = desk_behind(rt, alloc, BEFORE, 4, LEFT);
+    follow(rt, alloc, &mut desk, TINY_SIZE, row);
     drop(desk);
 }
 
 #[test]
 fn a_limit_is_still_revised(rt: HostRuntime) {
-    let alloc = rt.alloc();
-    let rows = &[(
-        Revise(Act::Commit, 0, &[], &[(0, 0, Some(5_000_000))]),
-        Committed { number: 1 },
-    )];
-    let answer = resumed(&rt, alloc, history_of(&rt, alloc, rows), 5);
-    let desk = answer.ok().expect(&rt, "a desk");
-    let found = Reading::of(desk.plan()).expect(&rt, "a reading");
-    assert!(rt; found.limits == (Some(5_000_000), Some(4_000_000)));
+    let desk = desk_behind(&rt, rt.alloc(), RAISING, 3, RAISED);
     drop(desk);
 }
 
-/// Of a history in which the second entry is missing.
-fn refused(rt: &impl Abort, alloc: Global, max_entries: u32) -> Option<ResumeFault> {
-    let mut history = history_of(rt, alloc, BEFORE);
-    assert!(rt; history.len() == 3);
-    drop(history.remove(0));
+#[test]
+fn no_entry(rt: HostRuntime) {
+    let desk = desk_behind(&rt, rt.alloc(), &[], 0, NOTHING);
+    drop(desk);
+}
+
+/// The fault of a history from which no desk goes on.
+fn fault_of(
+    rt: &impl Abort,
+    alloc: Global,
+    history: Vec<Entry<Global>>,
+    max_entries: u32,
+) -> Option<ResumeFault> {
     let answer = resumed(rt, alloc, history, max_entries);
     answer.err()
 }
 
 #[test]
 fn the_first_wrong_place(rt: HostRuntime) {
-    let alloc = rt.alloc();
-    assert!(rt; refused(&rt, alloc, 2) == Some(ResumeFault::Place { place: 1 }));
-    assert!(rt; refused(&rt, alloc, ENTRIES_MAX) == Some(ResumeFault::Place { place: 1 }));
+    let place = ResumeFault::Place { place: 3 };
+    for max_entries in [3, 4] {
+        let history = misnumbered(&rt, rt.alloc());
+        assert!(rt; fault_of(&rt, rt.alloc(), history, max_entries) == Some(place));
+    }
 }
 
 #[test]
 fn more_entries_than_there_may_be(rt: HostRuntime) {
-    let alloc = rt.alloc();
-    assert!(rt; refused(&rt, alloc, 1) == Some(ResumeFault::Full));
-    let answer = resumed(&rt, alloc, history_of(&rt, alloc, BEFORE), 2);
-    assert!(rt; answer.err() == Some(ResumeFault::Full));
-}
-
-#[test]
-fn no_entry(rt: HostRuntime) {
-    let answer = resumed(&rt, rt.alloc(), Vec::new(rt.alloc()), 0);
-    let desk = answer.ok().expect(&rt, "a desk");
-    assert!(rt; desk.history().is_empty());
-    drop(desk);
+    let history = misnumbered(&rt, rt.alloc());
+    assert!(rt; fault_of(&rt, rt.alloc(), history, 2) == Some(ResumeFault::Full));
+    let history = history_of(&rt, rt.alloc(), BEFORE);
+    assert!(rt; fault_of(&rt, rt.alloc(), history, 2) == Some(ResumeFault::Full));
 }

@@ -1,39 +1,41 @@
 //! Calls on the tiny pit that revise its limits, with replies that were found by hand.
 use super::calls::Call::{Commit, Revise};
+use super::calls::Row;
 use super::worked::{AFTER_TWO_BLOCKS, NOTHING, THIRD_BLOCK, TWO_BLOCKS, Worked, play_all};
 use pit_desk::EntryReply::{Committed, Refused, Withdrawn};
 use pit_desk::{Act, Refusal};
 use pit_plan_sample::Reading;
 
-const REVISED: &[Worked] = &[
-    // block 3 under a limit that is raised for it, which can't be lowered then: the value is 5 more
+/// Block 3 under a limit that is raised for it, which can't be lowered then.
+pub(super) const RAISING: &[Row<'static>] = &[
+    TWO_BLOCKS,
     (
-        &[],
-        &[
-            TWO_BLOCKS,
-            (
-                Revise(Act::Commit, 1, &[(3, Some(0))], &[(0, 0, Some(5_000_000))]),
-                Committed { number: 2 },
-            ),
-            (
-                Revise(Act::Commit, 2, &[], &[(0, 0, Some(4_000_000))]),
-                Refused(Refusal::Over {
-                    resource: 0,
-                    period: 0,
-                    load: 5_000_000,
-                    limit: 4_000_000,
-                }),
-            ),
-        ],
-        Reading {
-            commits: 2,
-            periods: (Some(0), Some(0), None, Some(0)),
-            versions: [1, 1, 0, 2],
-            loads: (5_000_000, 0),
-            limits: (Some(5_000_000), Some(4_000_000)),
-            value: 15_500_000_000_000_000_000,
-        },
+        Revise(Act::Commit, 1, &[(3, Some(0))], &[(0, 0, Some(5_000_000))]),
+        Committed { number: 2 },
     ),
+    (
+        Revise(Act::Commit, 2, &[], &[(0, 0, Some(4_000_000))]),
+        Refused(Refusal::Over {
+            resource: 0,
+            period: 0,
+            load: 5_000_000,
+            limit: 4_000_000,
+        }),
+    ),
+];
+
+/// What these leave: the value is 5 more.
+pub(super) const RAISED: Reading = Reading {
+    commits: 2,
+    periods: (Some(0), Some(0), None, Some(0)),
+    versions: [1, 1, 0, 2],
+    loads: (5_000_000, 0),
+    limits: (Some(5_000_000), Some(4_000_000)),
+    value: 15_500_000_000_000_000_000,
+};
+
+const REVISED: &[Worked] = &[
+    (&[], RAISING, RAISED),
     // what a withdrawn call revised is not there for the next
     (
         &[],

@@ -1,8 +1,8 @@
 //! Calls that are made again where memory was refused, which finds all as it was.
-use super::calls::{Call, Row, is_work, parts, work_of};
+use super::calls::{Call, Row, copied, is_work, parts, work_of};
 use super::limits::has_due_limits;
-use super::{Heap, answered, audited, end, open};
-use pit_desk::{Act, AuditFault, Desk, DeskError, Entry, EntryReply, Stop};
+use super::{Heap, answered, audited, end, open, resume};
+use pit_desk::{Act, AuditFault, Desk, DeskError, Entry, EntryReply, ResumeFault, Stop};
 use pit_model::Instance;
 use pit_plan::Plan;
 use pit_refuse::Count;
@@ -190,4 +190,53 @@ fn audit_again<A: Allocator + Copy + Drop>(
 ) -> Plan<A> {
     let pit = built(alloc, case.size, case.facts).expect(rt, "no memory twice");
     audited(rt, alloc, pit, history).expect(rt, "no memory twice")
+}
+
+/// A copy of a history, which is made anew where memory was refused.
+fn copied_twice<A: Allocator + Copy + Drop>(
+    rt: &impl Abort,
+    heap: Heap<'_>,
+    alloc: A,
+    history: &[Entry<A>],
+) -> Vec<Entry<A>, A> {
+    let before = heap.count();
+    if let Ok(entries) = copied(alloc, history) {
+        return entries;
+    }
+    assert!(rt; heap.count().has_refused_since(before));
+    copied(alloc, history).expect(rt, "no memory twice")
+}
+
+/// A desk that goes on from a copy of a history, and from another one with another pit where memory was refused, which freed both.
+pub(super) fn resume_twice<A: Allocator + Copy + Drop>(
+    rt: &impl Abort,
+    heap: Heap<'_>,
+    alloc: A,
+    history: &[Entry<A>],
+    case: Case<'_>,
+) -> Desk<A> {
+    let used = heap.used();
+    let pit = pit_over(rt, heap, alloc, case);
+    let entries = copied_twice(rt, heap, alloc, history);
+    let before = heap.count();
+    match resume(rt, alloc, pit, entries, 100) {
+        Ok(desk) => desk,
+        Err(fault) => {
+            assert_refused(rt, heap, before, fault == ResumeFault::NoMemory);
+            assert!(rt; heap.used() == used);
+            resume_again(rt, alloc, history, case)
+        }
+    }
+}
+
+fn resume_again<A: Allocator + Copy + Drop>(
+    rt: &impl Abort,
+    alloc: A,
+    history: &[Entry<A>],
+    case: Case<'_>,
+) -> Desk<A> {
+    let pit = built(alloc, case.size, case.facts).expect(rt, "no memory twice");
+    let entries = copied(alloc, history).expect(rt, "no memory twice");
+    let answer = resume(rt, alloc, pit, entries, 100);
+    answer.ok().expect(rt, "no memory twice")
 }
