@@ -1,12 +1,12 @@
 //! Plans that carry on from a history.
-use super::rows::{HISTORY, REPORT, REVISED_HISTORY, SCRIPT, SOLUTION};
+use super::rows::{REPORT, SCRIPT, SOLUTION};
 use super::{
     BARE, Begins, Ended, Given, OPTIONS, ROOM, ROOMS, Rooms, assert_ended, assert_refused,
     history_of, planned, planned_in,
 };
 use pit_cli::PlanOptions;
 use pit_plan::Breach;
-use pit_sample::TINY_SOLUTION;
+use pit_sample::{LOADING, REVISING, TINY_SOLUTION};
 use pit_step::{BreachLine, CliFault, Input, Status};
 use std::alloc::Global;
 use std::process::Abort;
@@ -42,31 +42,31 @@ fn assert_goes_on(rt: &impl Abort, ended: &Ended, before: &[u8], more: &[u8]) {
 #[test]
 fn from_a_history_as_a_start(rt: HostRuntime) {
     let given = Given {
-        begins: Begins::Schedule(HISTORY),
+        begins: Begins::Schedule(LOADING.as_bytes()),
         scripts: &[SWAP],
         ..BARE
     };
     let found = kept(&rt, rt.alloc(), given);
     assert_ended(&rt, &found, Ok(Status::Fine), TINY_SOLUTION, SWAP_REPORT);
-    assert_goes_on(&rt, &found, HISTORY, SWAP_LINE);
+    assert_goes_on(&rt, &found, LOADING.as_bytes(), SWAP_LINE);
 }
 
 #[test]
 fn a_history_is_carried_on(rt: HostRuntime) {
     let given = Given {
-        begins: Begins::History(HISTORY),
+        begins: Begins::History(LOADING.as_bytes()),
         scripts: &[SWAP],
         ..BARE
     };
     let found = kept(&rt, rt.alloc(), given);
     assert_ended(&rt, &found, Ok(Status::Fine), TINY_SOLUTION, SWAP_REPORT);
-    assert_goes_on(&rt, &found, HISTORY, SWAP_LINE);
+    assert_goes_on(&rt, &found, LOADING.as_bytes(), SWAP_LINE);
 }
 
 #[test]
 fn a_revised_limit_stays_in_force(rt: HostRuntime) {
     let given = Given {
-        begins: Begins::Schedule(REVISED_HISTORY),
+        begins: Begins::Schedule(REVISING.as_bytes()),
         scripts: &[b"begin\ncommit\n"],
         ..BARE
     };
@@ -146,19 +146,19 @@ fn a_new_history(rt: HostRuntime) {
     };
     let found = kept(&rt, rt.alloc(), given);
     assert_ended(&rt, &found, Ok(Status::Fine), SOLUTION, NEW_REPORT);
-    assert!(rt; history_of(&found) == HISTORY);
+    assert!(rt; history_of(&found) == LOADING.as_bytes());
 }
 
 #[test]
 fn numbers_go_on(rt: HostRuntime) {
     let given = Given {
-        begins: Begins::History(HISTORY),
+        begins: Begins::History(LOADING.as_bytes()),
         scripts: &[SCRIPT],
         ..BARE
     };
     let found = kept(&rt, rt.alloc(), given);
     assert_ended(&rt, &found, Ok(Status::Fine), SOLUTION, AGAIN_REPORT);
-    assert_goes_on(&rt, &found, HISTORY, AGAIN_LINES);
+    assert_goes_on(&rt, &found, LOADING.as_bytes(), AGAIN_LINES);
 }
 
 /// A history that is carried on is written before the others, and one that isn't behind them.
@@ -170,15 +170,15 @@ fn which_is_written_first(rt: HostRuntime) {
         ..ROOMS
     };
     let given = Given {
-        begins: Begins::History(HISTORY),
+        begins: Begins::History(LOADING.as_bytes()),
         scripts: &[SWAP],
         ..BARE
     };
     let found = planned_in(&rt, rt.alloc(), given, rooms);
     assert_ended(&rt, &found, Err(CliFault::CannotWrite), b"0 0", b"");
-    assert_goes_on(&rt, &found, HISTORY, SWAP_LINE);
+    assert_goes_on(&rt, &found, LOADING.as_bytes(), SWAP_LINE);
     let given = Given {
-        begins: Begins::Schedule(HISTORY),
+        begins: Begins::Schedule(LOADING.as_bytes()),
         ..given
     };
     let found = planned_in(&rt, rt.alloc(), given, rooms);

@@ -3,7 +3,7 @@ use super::{
     BARE, Begins, CANNOT_WRITE, Given, ROOM, ROOMS, Rooms, assert_ended, history_of, planned,
     planned_in,
 };
-use pit_sample::{TINY_BLOCKS, TINY_SOLUTION};
+use pit_sample::{LOADING, REVISING, TINY_BLOCKS, TINY_SOLUTION};
 use pit_step::Status;
 
 /// Three jobs, of which the second is too heavy.
@@ -66,13 +66,6 @@ value 37.772727272730000000
     assert_ended(&rt, &found, Ok(Status::Fine), TINY_SOLUTION, report);
 }
 
-/// And the history.
-pub(crate) const HISTORY: &[u8] = br#"{"format":1}
-{"act":"commit","job":1,"planner":1,"reads":[],"reply":{"committed":1},"start":0,"writes":[[0,0],[1,0]]}
-{"act":"commit","job":2,"planner":1,"reads":[],"reply":{"over":[0,0,"5000000","4000000"]},"start":1,"writes":[[3,0]]}
-{"act":"commit","job":3,"planner":1,"reads":[],"reply":{"committed":2},"start":1,"writes":[[3,1]]}
-"#;
-
 #[test]
 fn a_history(rt: HostRuntime) {
     let rooms = Rooms {
@@ -81,11 +74,11 @@ fn a_history(rt: HostRuntime) {
     };
     let found = planned_in(&rt, rt.alloc(), ONE, rooms);
     assert_ended(&rt, &found, Ok(Status::Fine), SOLUTION, REPORT);
-    assert!(rt; history_of(&found) == HISTORY);
+    assert!(rt; history_of(&found) == LOADING.as_bytes());
 }
 
 /// A job that mines block 3 under a limit that it revises, and one that would revise it back.
-const REVISING: &[u8] = b"begin
+const RAISE: &[u8] = b"begin
 put 0 0
 put 1 0
 commit
@@ -98,18 +91,12 @@ revise 0 0 4
 commit
 ";
 
-const REVISED_REPORT: &[u8] = b"planner 1 job 1 committed 1 tries 1
+const RAISE_REPORT: &[u8] = b"planner 1 job 1 committed 1 tries 1
 planner 1 job 2 committed 2 tries 1
 planner 1 job 3 refused over 0 0 5.000000 4.000000 tries 1
 value 15.500000000000000000
 short 0 1 0.000000 1.000000
 ";
-
-pub(crate) const REVISED_HISTORY: &[u8] = br#"{"format":2}
-{"act":"commit","job":1,"planner":1,"reads":[],"reply":{"committed":1},"revises":[],"start":0,"writes":[[0,0],[1,0]]}
-{"act":"commit","job":2,"planner":1,"reads":[],"reply":{"committed":2},"revises":[[0,0,"5000000"]],"start":1,"writes":[[3,0]]}
-{"act":"commit","job":3,"planner":1,"reads":[],"reply":{"over":[0,0,"5000000","4000000"]},"revises":[[0,0,"4000000"]],"start":2,"writes":[]}
-"#;
 
 #[test]
 fn limits_are_revised(rt: HostRuntime) {
@@ -118,7 +105,7 @@ fn limits_are_revised(rt: HostRuntime) {
         ..ROOMS
     };
     let given = Given {
-        scripts: &[REVISING],
+        scripts: &[RAISE],
         ..BARE
     };
     let found = planned_in(&rt, rt.alloc(), given, rooms);
@@ -127,9 +114,9 @@ fn limits_are_revised(rt: HostRuntime) {
         &found,
         Ok(Status::Failed),
         b"0 0\n1 0\n3 0\n",
-        REVISED_REPORT,
+        RAISE_REPORT,
     );
-    assert!(rt; history_of(&found) == REVISED_HISTORY);
+    assert!(rt; history_of(&found) == REVISING.as_bytes());
 }
 
 #[test]
@@ -162,13 +149,14 @@ fn a_full_report(rt: HostRuntime) {
 
 #[test]
 fn a_full_history(rt: HostRuntime) {
-    for room in 0..HISTORY.len() {
+    let history = LOADING.as_bytes();
+    for room in 0..history.len() {
         let rooms = Rooms {
             history: Some(room),
             ..ROOMS
         };
         let found = planned_in(&rt, rt.alloc(), ONE, rooms);
         assert_ended(&rt, &found, Err(CANNOT_WRITE), SOLUTION, REPORT);
-        assert!(rt; history_of(&found) == &HISTORY[..room]);
+        assert!(rt; history_of(&found) == &history[..room]);
     }
 }

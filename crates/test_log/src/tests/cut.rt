@@ -1,29 +1,19 @@
 //! A history that is cut behind each byte.
-use super::histories::{MEETING, MEETING_ENDS, MEETING_LOG, MEETING_TAILS};
+use super::histories::{MEETING_ENDS, MEETING_LOG, MEETING_TAILS};
 use super::is_logged;
 use LinesCause::{NotFormat, NotJson};
 use pit_lines::{LinesCause, LinesError};
+use pit_sample::{MEETING, line_feeds};
 use pit_step::{CliFault, Input, Status};
 use std::alloc::{AllocError, Global};
 use std::process::Abort;
 use std::test::Fail;
 
-/// How many line feeds a text has.
-fn feeds(text: &[u8]) -> usize {
-    let mut count = 0usize;
-    for b in text {
-        if *b == b'\n' {
-            count = count.wrapping_add(1);
-        }
-    }
-    count
-}
-
 /// How many entries a part has whose last line is whole.
 fn entries_in(part: &[u8]) -> usize {
     match part.last() {
-        Some(b'\n') => feeds(part).wrapping_sub(1),
-        _ => feeds(part),
+        Some(b'\n') => line_feeds(part).wrapping_sub(1),
+        _ => line_feeds(part),
     }
 }
 
@@ -49,7 +39,7 @@ fn cause_of(part: &[u8]) -> Option<LinesCause> {
 }
 
 fn assert_fault(rt: &impl Abort, alloc: Global, part: &[u8], cause: LinesCause) {
-    let line = (feeds(part) as u64).wrapping_add(1);
+    let line = (line_feeds(part) as u64).wrapping_add(1);
     let fault = CliFault::Lines {
         file: Input::History,
         error: LinesError { line, cause },

@@ -1,8 +1,8 @@
 //! Devices that give or take little, and then fail.
-use super::histories::{REVISING, REVISING_LOG};
+use super::histories::REVISING_LOG;
 use super::{answered, is_answer, log_to};
 use pit_num::In;
-use pit_sample::{Broken, Narrow, TINY_MODEL, TINY_PRECEDENCE};
+use pit_sample::{Broken, Narrow, REVISING, TINY_MODEL, TINY_PRECEDENCE};
 use pit_step::{CliFault, Input, Status};
 use std::alloc::Global;
 

@@ -1,8 +1,9 @@
 //! The line of each fault, and its status.
 use super::answered;
-use super::histories::MEETING;
 use pit_num::In;
-use pit_sample::{TINY_COEFFICIENTS, TINY_HEADER, TINY_MODEL, TINY_OBJECTIVE, TINY_PRECEDENCE};
+use pit_sample::{
+    MEETING, TINY_COEFFICIENTS, TINY_HEADER, TINY_MODEL, TINY_OBJECTIVE, TINY_PRECEDENCE,
+};
 use pit_step::CliFault;
 use std::alloc::{AllocError, Global};
 use std::process::Abort;

@@ -1,14 +1,6 @@
 //! Worked histories, and what their logs write.
 
-/// Two planners meet: what one of them reads is written by the other, and so it gives up.
-pub(super) const MEETING: &str = "{\"format\":1}
-{\"act\":\"commit\",\"job\":0,\"planner\":0,\"reads\":[],\"reply\":{\"committed\":1},\"start\":0,\"writes\":[[3,1]]}
-{\"act\":\"commit\",\"job\":1,\"planner\":2,\"reads\":[],\"reply\":{\"committed\":2},\"start\":1,\"writes\":[[3,null]]}
-{\"act\":\"commit\",\"job\":1,\"planner\":1,\"reads\":[[3,1]],\"reply\":{\"moved\":[3,2]},\"start\":1,\"writes\":[[3,0]]}
-{\"act\":\"withdraw\",\"job\":1,\"planner\":1,\"reads\":[[3,null]],\"reply\":\"withdrawn\",\"start\":2,\"writes\":[]}
-";
-
-/// Its log, with the lines of writes.
+/// The log of `MEETING`, with the lines of writes.
 pub(super) const MEETING_LOG: &str =
     "entry 1 planner 0 job 0 start 0 reads 0 writes 1 revises 0 cause - committed 1
 write 3 - 1
@@ -32,14 +24,7 @@ pub(super) const MEETING_TAILS: &[&str] = &[
     "legal 4 2\nvalue 0.000000000000000000\n",
 ];
 
-/// A limit is raised, so that a block fits in, and can't be lowered again.
-pub(super) const REVISING: &str = "{\"format\":2}
-{\"act\":\"commit\",\"job\":1,\"planner\":1,\"reads\":[],\"reply\":{\"committed\":1},\"revises\":[],\"start\":0,\"writes\":[[0,0],[1,0]]}
-{\"act\":\"commit\",\"job\":2,\"planner\":1,\"reads\":[],\"reply\":{\"committed\":2},\"revises\":[[0,0,\"5000000\"]],\"start\":1,\"writes\":[[3,0]]}
-{\"act\":\"commit\",\"job\":3,\"planner\":1,\"reads\":[],\"reply\":{\"over\":[0,0,\"5000000\",\"4000000\"]},\"revises\":[[0,0,\"4000000\"]],\"start\":2,\"writes\":[]}
-";
-
-/// Its log, with the lines of writes. The value is -10 + 20.5 + 5.
+/// The log of `REVISING`, with the lines of writes. The value is -10 + 20.5 + 5.
 pub(super) const REVISING_LOG: &str =
     "entry 1 planner 1 job 1 start 0 reads 0 writes 2 revises 0 cause - committed 1
 write 0 - 0

@@ -1,21 +1,16 @@
 //! Want of memory, and what is freed after a fault.
-use super::histories::{MEETING, MEETING_LOG, REVISING, REVISING_LOG, WRITING, WRITING_LOG};
+use super::histories::{MEETING_LOG, REVISING_LOG, WRITING, WRITING_LOG};
 use LinesCause::Shape;
-use linked_list_allocator::LocalHeap;
 use pit_lines::{LinesCause, LinesError};
 use pit_log::log;
-use pit_refuse::Refusing;
-use pit_sample::{Broken, Narrow, TINY_MODEL, TINY_PRECEDENCE};
+use pit_sample::{
+    Broken, Ending, Heap, MEETING, Narrow, REVISING, TINY_MODEL, TINY_PRECEDENCE, Trial,
+    long_history, refuse_each,
+};
 use pit_step::{CliFault, Input, Status};
 use std::alloc::Global;
 use std::fmt::Write;
 use std::process::Abort;
-
-/// An allocator that refuses one request.
-type Heap<'a> = &'a Refusing<LocalHeap>;
-
-/// The bytes of a heap, of which no call takes half.
-const BYTES: usize = 4_194_304;
 
 /// The bytes that a device gives or takes at once, so that what is read grows by doubling.
 const PIECE: usize = 1_000;
@@ -50,47 +45,25 @@ fn answer_of(
     )
 }
 
-/// Whether the run ends as it has to. Else it answers want of memory, and writes nothing. All memory is given back.
-fn is_right(rt: &impl Abort, heap: Heap<'_>, plain: Global, run: Run<'_>) -> bool {
-    let mut out = Narrow::new(plain, PIECE, run.written.len());
-    let answer = answer_of(heap, plain, run, &mut out);
-    assert!(rt; heap.used() == 0);
-    if answer == Err(CliFault::NoMemory) {
-        assert!(rt; out.held().is_empty());
-        return false;
-    }
-    assert_eq!(rt; answer, run.answer);
-    assert!(rt; out.held() == run.written.as_bytes());
-    true
-}
-
-/// Runs, and runs again where want of memory was answered, which is exactly where the allocator has refused.
-fn run_twice(rt: &impl Abort, heap: Heap<'_>, plain: Global, run: Run<'_>) {
-    let before = heap.count();
-    let is_done = is_right(rt, heap, plain, run);
-    assert!(rt; is_done != heap.count().has_refused_since(before));
-    assert!(rt;
-        is_done || is_right(rt, heap, plain, run),
-        "no memory twice"
-    );
-}
-
-/// Whether no request had the number.
-fn is_whole(rt: &impl Abort, alloc: Global, number: u64, run: Run<'_>) -> bool {
-    let heap = Refusing::over_heap(alloc, BYTES, number).expect(rt, "a heap");
-    run_twice(rt, &heap, alloc, run);
-    !heap.count().has_refused()
-}
-
-/// Refuses each request in turn, up to the one behind the last, which is above this number.
-fn refuse_each(rt: &impl Abort, alloc: Global, run: Run<'_>, least: u64) {
-    for number in 1..1_000 {
-        if is_whole(rt, alloc, number, run) {
-            assert!(rt; number > least);
-            return;
+impl<'a> Trial for Run<'a> {
+    fn ending(&self, heap: Heap<'_>, plain: Global) -> Ending {
+        let mut out = Narrow::new(plain, PIECE, self.written.len());
+        let answer = answer_of(heap, plain, *self, &mut out);
+        let is_freed = heap.used() == 0;
+        let is_unwritten = out.held().is_empty();
+        let is_written = out.held() == self.written.as_bytes();
+        drop(out);
+        if !is_freed {
+            return Ending::Wrong("memory that was not given back");
         }
+        if answer == Err(CliFault::NoMemory) && is_unwritten {
+            return Ending::NoMemory;
+        }
+        if answer == self.answer && is_written {
+            return Ending::Whole;
+        }
+        Ending::Wrong("another answer, or another text")
     }
-    panic!(rt; "never whole");
 }
 
 const LEGAL: Run<'static> = Run {
@@ -100,22 +73,27 @@ const LEGAL: Run<'static> = Run {
     written: MEETING_LOG,
 };
 
-/// Each request is refused in turn: three texts, the facts, the entries with their sets, the plan, the makers of commits, and the log.
-#[test]
-fn of_the_small_pit(rt: HostRuntime) {
-    refuse_each(&rt, rt.alloc(), LEGAL, 15);
-    let revising = Run {
+/// Histories with what each kind of entry and of cause leads to.
+const RUNS: &[Run<'static>] = &[
+    LEGAL,
+    Run {
         history: REVISING,
         written: REVISING_LOG,
         ..LEGAL
-    };
-    refuse_each(&rt, rt.alloc(), revising, 15);
-    let writing = Run {
+    },
+    Run {
         history: WRITING,
         written: WRITING_LOG,
         ..LEGAL
-    };
-    refuse_each(&rt, rt.alloc(), writing, 15);
+    },
+];
+
+/// Each request is refused in turn: three texts, the facts, the entries with their sets, the plan, the makers of commits, and the log.
+#[test]
+fn of_the_small_pit(rt: HostRuntime) {
+    for run in RUNS {
+        refuse_each(rt.alloc(), run, 15).expect(&rt, "a whole run");
+    }
 }
 
 /// An entry whose number is another, and one that isn't whole.
@@ -170,28 +148,14 @@ illegal 2
 #[test]
 fn is_freed_after_a_fault(rt: HostRuntime) {
     for run in OTHERS {
-        refuse_each(&rt, rt.alloc(), *run, 1);
+        refuse_each(rt.alloc(), run, 1).expect(&rt, "a whole run");
     }
 }
 
 /// The number of entries of a long history.
 const ENTRIES: u32 = 40;
 
-/// Block 3 is put into period 1 again and again.
-fn long_history(rt: &impl Abort, alloc: Global) -> String {
-    let mut text = String::from_str(alloc, "{\"format\":1}\n").expect(rt, "memory");
-    for start in 0..ENTRIES {
-        let written = write!(
-            text,
-            "{{\"act\":\"commit\",\"job\":{start},\"planner\":1,\"reads\":[],\"reply\":{{\"committed\":{}}},\"start\":{start},\"writes\":[[3,1]]}}\n",
-            start + 1
-        );
-        assert!(rt; written.is_ok());
-    }
-    text
-}
-
-/// Its log.
+/// The log of such a history.
 fn long_log(rt: &impl Abort, alloc: Global) -> String {
     let mut text = String::new(alloc);
     for start in 0..ENTRIES {
@@ -212,12 +176,12 @@ fn long_log(rt: &impl Abort, alloc: Global) -> String {
 /// 5 * 0.909090909091.
 #[test]
 fn of_a_long_history(rt: HostRuntime) {
-    let text = long_history(&rt, rt.alloc());
+    let text = long_history(rt.alloc(), ENTRIES).expect(&rt, "memory");
     let log = long_log(&rt, rt.alloc());
     let run = Run {
         history: text.as_str(),
         written: log.as_str(),
         ..LEGAL
     };
-    refuse_each(&rt, rt.alloc(), run, 50);
+    refuse_each(rt.alloc(), &run, 50).expect(&rt, "a whole run");
 }

@@ -1,8 +1,9 @@
 //! Worked examples, byte for byte.
 use super::histories::{
-    MEETING, MEETING_LOG, REVISING, REVISING_LOG, TAKING_OUT, TAKING_OUT_LOG, WRITING, WRITING_LOG,
+    MEETING_LOG, REVISING_LOG, TAKING_OUT, TAKING_OUT_LOG, WRITING, WRITING_LOG,
 };
 use super::is_logged;
+use pit_sample::{MEETING, REVISING};
 use pit_step::Status;
 use std::alloc::{AllocError, Global};
 use std::test::Fail;

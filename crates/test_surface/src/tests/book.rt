@@ -78,7 +78,7 @@ const ROWS: &[Row] = &[
 ];
 
 /// What blocks 0, 1 and 3 are then worth, in units of 10^-18: -10 + 20.5 + 5 * 0.909090909091.
-const WORTH: i128 = 15_045_454_545_455_000_000;
+pub(super) const WORTH: i128 = 15_045_454_545_455_000_000;
 
 #[test]
 fn a_desk_keeps_its_history(rt: HostRuntime) {
@@ -111,7 +111,7 @@ fn assert_answered(rt: &impl Abort, alloc: Global, desk: &mut Desk<Global>) {
     }
 }
 
-fn work_of(
+pub(super) fn work_of(
     rt: &impl Abort,
     alloc: Global,
     job: u32,
@@ -133,7 +133,7 @@ fn work_of(
     work
 }
 
-fn committed(rt: &impl Abort, desk: &mut Desk<Global>, work: Work<Global>) -> Reply {
+pub(super) fn committed(rt: &impl Abort, desk: &mut Desk<Global>, work: Work<Global>) -> Reply {
     assert!(rt; desk.fits(&work));
     match desk.commit(work) {
         Ok(reply) => reply,

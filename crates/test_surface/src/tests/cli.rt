@@ -1,6 +1,6 @@
 //! `pit_cli`: the engines, over devices.
 use super::num::Shut;
-use super::tiny::{BLOCKS, HISTORY, MODEL, PRECEDENCE};
+use super::tiny::{BLOCKS, CHANGED, HISTORY, MODEL, PRECEDENCE};
 use pit_book::{LinesCause, LinesError};
 use pit_cli::{
     Beginning, BreachLine, CliFault, Input, PlanInput, PlanOptions, ReadError, Status, Stream,
@@ -88,50 +88,75 @@ const OPTIONS: PlanOptions = PlanOptions {
     is_strict: false,
 };
 
-#[test]
-fn a_script_is_done(rt: HostRuntime) {
-    assert_planned(&rt, rt.alloc());
+/// How a plan ends, and what it writes.
+#[derive(Drop)]
+struct Ended {
+    answer: Result<Status, CliFault>,
+    solution: Vec<u8>,
+    report: Vec<u8>,
+    history: Vec<u8>,
 }
 
-fn assert_planned<R: Threads + Wait + Abort + Sync>(rt: &R, alloc: Global) {
-    let input = input_of(rt, alloc);
+#[test]
+fn a_script_is_done(rt: HostRuntime) {
+    let input = input_of(&rt, rt.alloc(), Beginning::nothing(), SCRIPT);
+    let found = planned(&rt, rt.alloc(), input, OPTIONS);
+    assert_ended(&rt, &found, Status::Fine, SOLUTION, REPORT);
+    assert!(rt; found.history.as_slice() == HISTORY);
+    drop(found);
+}
+
+fn planned<R: Threads + Wait + Abort + Sync>(
+    rt: &R,
+    alloc: Global,
+    input: PlanInput<Global>,
+    options: PlanOptions,
+) -> Ended {
     let mut solution = Out::new(Vec::new(alloc));
     let mut report = Out::new(Vec::new(alloc));
     let mut history = Some(Stream {
         sink: Out::new(Vec::new(alloc)),
     });
+    assert!(rt; options.retries <= 1000);
     let answer = plan(
         rt,
         alloc,
         alloc,
         input,
-        OPTIONS,
+        options,
         &mut solution,
         &mut report,
         &mut history,
     );
-    assert!(rt; answer == Ok(Status::Fine));
-    assert_written(rt, solution, SOLUTION);
-    assert_written(rt, report, REPORT);
-    assert_written(rt, history.expect(rt, "a device").sink, HISTORY);
+    Ended {
+        answer,
+        solution: solution.into_inner(),
+        report: report.into_inner(),
+        history: history.expect(rt, "a device").sink.into_inner(),
+    }
 }
 
-fn assert_written(rt: &impl Abort, out: Out<Vec<u8>>, text: &[u8]) {
-    let written = out.into_inner();
-    assert!(rt; written.as_slice() == text);
-    drop(written);
+fn assert_ended(rt: &impl Abort, ended: &Ended, status: Status, solution: &[u8], report: &[u8]) {
+    assert!(rt; ended.answer == Ok(status));
+    assert!(rt; ended.solution.as_slice() == solution);
+    assert!(rt; ended.report.as_slice() == report);
 }
 
-/// No start, and one script.
-fn input_of(rt: &impl Abort, alloc: Global) -> PlanInput<Global> {
+/// A plan that begins so, with one script.
+fn input_of(
+    rt: &impl Abort,
+    alloc: Global,
+    beginning: Beginning<Global>,
+    script: &[u8],
+) -> PlanInput<Global> {
     let mut scripts = Vec::new(alloc);
-    let script = bytes_of(rt, alloc, SCRIPT);
+    let script = bytes_of(rt, alloc, script);
     assert!(rt; scripts.push(script).is_ok());
     PlanInput::new(
         bytes_of(rt, alloc, MODEL),
         bytes_of(rt, alloc, PRECEDENCE),
         Some(bytes_of(rt, alloc, BLOCKS)),
-        Beginning::nothing(),
+        beginning,
         scripts,
     )
 }
@@ -145,6 +170,71 @@ fn bytes_of(rt: &impl Abort, alloc: Global, text: &[u8]) -> Vec<u8> {
     }
 }
 
+/// In one thread, and a job that is refused counts.
+const STRICT_TURNS: PlanOptions = PlanOptions {
+    retries: 3,
+    is_in_turn: true,
+    is_strict: true,
+};
+
+/// Block 2 takes the place of block 3.
+const SWAP: &[u8] = b"begin
+put 2 1
+clear 3
+commit
+";
+
+/// Block 2 is then worth 30 * 0.909090909091.
+const SWAP_REPORT: &[u8] = b"planner 1 job 1 committed 3 tries 1
+value 37.772727272730000000
+";
+
+/// The entry that stands behind the history then.
+const SWAP_LINE: &[u8] =
+    b"{\"act\":\"commit\",\"job\":1,\"planner\":1,\"reads\":[],\"reply\":{\"committed\":3},\"start\":2,\"writes\":[[2,1],[3,null]]}
+";
+
+#[test]
+fn a_history_is_carried_on(rt: HostRuntime) {
+    let text = bytes_of(&rt, rt.alloc(), HISTORY);
+    assert_swapped(&rt, rt.alloc(), Beginning::history(text));
+}
+
+#[test]
+fn a_history_is_a_schedule(rt: HostRuntime) {
+    let text = bytes_of(&rt, rt.alloc(), HISTORY);
+    assert_swapped(&rt, rt.alloc(), Beginning::schedule(text));
+}
+
+/// A plan goes on behind the history.
+fn assert_swapped<R: Threads + Wait + Abort + Sync>(
+    rt: &R,
+    alloc: Global,
+    beginning: Beginning<Global>,
+) {
+    let input = input_of(rt, alloc, beginning, SWAP);
+    let found = planned(rt, alloc, input, STRICT_TURNS);
+    assert_ended(rt, &found, Status::Fine, b"0 0\n1 0\n2 1\n", SWAP_REPORT);
+    assert!(rt; found.history.strip_prefix(HISTORY) == Some(SWAP_LINE));
+    drop(found);
+}
+
+#[test]
+fn a_history_is_begun(rt: HostRuntime) {
+    let input = input_of(&rt, rt.alloc(), Beginning::no_history(), SCRIPT);
+    let found = planned(&rt, rt.alloc(), input, STRICT_TURNS);
+    assert_ended(&rt, &found, Status::Failed, SOLUTION, NEW_REPORT);
+    assert!(rt; found.history.as_slice() == HISTORY);
+    drop(found);
+}
+
+const NEW_REPORT: &[u8] = b"history new
+planner 1 job 1 committed 1 tries 1
+planner 1 job 2 refused over 0 0 5.000000 4.000000 tries 1
+planner 1 job 3 committed 2 tries 1
+value 15.045454545455000000
+";
+
 #[test]
 fn a_history_is_replayed(rt: HostRuntime) {
     let legal = b"legal 3 2\nvalue 15.045454545455000000\n";
@@ -156,11 +246,6 @@ fn a_history_is_replayed(rt: HostRuntime) {
         b"illegal 1\n",
     );
 }
-
-/// The first commit is number 1.
-const CHANGED: &[u8] = b"{\"format\":1}
-{\"act\":\"commit\",\"job\":1,\"planner\":1,\"reads\":[],\"reply\":{\"committed\":2},\"start\":0,\"writes\":[[0,0],[1,0]]}
-";
 
 fn replayed(alloc: Global, history: &[u8]) -> Answered {
     let mut model = In::new(MODEL);

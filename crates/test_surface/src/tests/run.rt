@@ -7,8 +7,8 @@ use pit_book::{Desk, Refusal};
 use pit_model::Instance;
 use pit_num::NumError;
 use pit_run::{
-    Gate, Open, Outcome, PlannerRun, Report, RunEnd, RunError, Script, ScriptCause, ScriptError,
-    run,
+    Gate, InTurnError, Open, Outcome, PlannerRun, Report, RunEnd, RunError, Script, ScriptCause,
+    ScriptError, run, run_in_turn,
 };
 use pit_share::{Blank, Seat, Session, Workspace};
 use std::alloc::Global;
@@ -86,13 +86,13 @@ fn a_planner_does_its_script(rt: HostRuntime) {
     assert!(rt; report.closed.desk().history().len() == 4);
     assert!(rt; report.closed.desk().plan().commits() == 2);
     let run = report.runs.first().expect(&rt, "a run");
-    assert!(rt; run.jobs() == OUTCOMES);
-    assert_whole(&rt, run);
+    assert_whole(&rt, run, 1, OUTCOMES);
     drop(report);
 }
 
-fn assert_whole(rt: &impl Abort, run: &PlannerRun<Global>) {
-    assert!(rt; run.planner() == 1);
+fn assert_whole(rt: &impl Abort, run: &PlannerRun<Global>, planner: u32, jobs: &[Outcome]) {
+    assert!(rt; run.planner() == planner);
+    assert!(rt; run.jobs() == jobs);
     match run.ended() {
         RunEnd::Whole => {}
         RunEnd::Full { job } => panic!(rt; "full before job {job}"),
@@ -119,9 +119,14 @@ fn reported<R: Threads + Wait + Abort + Sync, G: Gate>(
     max_entries: u32,
     gate: &G,
 ) -> Report<Global> {
-    let answer = Desk::open(alloc, tiny(rt, alloc), &[], max_entries);
-    let desk = answer.ok().expect(rt, "a desk");
+    let desk = empty_desk(rt, alloc, max_entries);
     play::<Brand, _, _, _>(rt, rt, alloc, desk, 1, Blank::new(), gate)
+}
+
+/// A desk of the small pit, with no start, that may have so many entries.
+fn empty_desk(rt: &impl Abort, alloc: Global, max_entries: u32) -> Desk<Global> {
+    let answer = Desk::open(alloc, tiny(rt, alloc), &[], max_entries);
+    answer.ok().expect(rt, "a desk")
 }
 
 fn play<
@@ -147,7 +152,8 @@ fn play<
     requires parts { S.parts ≡ PLANNERS_MAX }
     requires book { blank.book ≡ S.book }
 {
-    let script = script_on::<S>(rt, alloc, &desk);
+    let script = script_of(rt, alloc, SCRIPT, desk.plan().instance());
+    assert!(rt; script.jobs() == 4);
     let (workspace, seats) = match Workspace::<S, O, _>::open(own, alloc, desk, planners, blank) {
         Ok(opened) => opened,
         Err(_) => panic!(rt; "no workspace"),
@@ -173,17 +179,68 @@ fn play<
     report
 }
 
-/// The script, for the pit of a desk.
-fn script_on<S: Session>(rt: &impl Abort, alloc: Global, desk: &Desk<Global>) -> Script<Global>
-    requires { desk.now.plan.pit ≡ S.instance }
-    ensures { result.pit ≡ S.instance }
+fn script_of(rt: &impl Abort, alloc: Global, text: &[u8], pit: &Instance<Global>) -> Script<Global>
+    ensures { result.pit ≡ pit.now }
 {
-    match Script::parse(alloc, SCRIPT, desk.plan().instance()) {
-        Ok(script) => {
-            assert!(rt; script.jobs() == 4);
-            script
-        }
+    match Script::parse(alloc, text, pit) {
+        Ok(script) => script,
         Err(_) => panic!(rt; "no script"),
+    }
+}
+
+/// Puts block 2 in the place of block 3.
+const SWAP: &[u8] = b"begin
+put 2 1
+clear 3
+commit
+";
+
+const SWAPPED: Outcome = Outcome::Committed {
+    number: 3,
+    tries: 1,
+};
+
+/// Planner 2 finds what planner 1 has left.
+#[test]
+fn planners_take_turns(rt: HostRuntime) {
+    let report = match in_turn(&rt, rt.alloc(), SCRIPT, SWAP) {
+        Ok(report) => report,
+        Err(InTurnError::PlannerCount) => panic!(rt; "too many planners"),
+        Err(InTurnError::NoPlace) => panic!(rt; "no place"),
+        Err(InTurnError::NoMemory) => panic!(rt; "no memory"),
+        Err(InTurnError::NotClosed { planner, .. }) => panic!(rt; "not closed by {planner}"),
+    };
+    assert!(rt; report.closed.desk().history().len() == 5);
+    assert!(rt; report.closed.desk().plan().commits() == 3);
+    assert_whole(&rt, report.runs.first().expect(&rt, "a run"), 1, OUTCOMES);
+    assert_whole(&rt, report.runs.get(1).expect(&rt, "a run"), 2, &[SWAPPED]);
+    drop(report);
+}
+
+/// What two planners leave who take turns on a desk of the small pit.
+fn in_turn<R: Wait + Abort>(
+    rt: &R,
+    alloc: Global,
+    first: &[u8],
+    second: &[u8],
+) -> Result<Report<Global>, InTurnError> {
+    let desk = empty_desk(rt, alloc, 100);
+    let pit = desk.plan().instance();
+    let scripts = [
+        script_of(rt, alloc, first, pit),
+        script_of(rt, alloc, second, pit),
+    ];
+    let answer = run_in_turn(rt, alloc, desk, &scripts, 3, &Open);
+    drop(scripts);
+    answer
+}
+
+#[test]
+fn planners_who_take_turns_may_be_none(rt: HostRuntime) {
+    let desk = empty_desk(&rt, rt.alloc(), 100);
+    match run_in_turn(&rt, rt.alloc(), desk, &[], 3, &Open) {
+        Ok(_) => panic!(rt; "a report"),
+        Err(error) => assert!(rt; error == InTurnError::PlannerCount),
     }
 }
 

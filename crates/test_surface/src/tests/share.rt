@@ -2,6 +2,7 @@
 ghost use Rattle.std.specs.Prelude.{◌≡◌};
 ghost use Rattle.pit_share.specs.declared.blank.TheConstants.{PLANNERS_MAX};
 
+use super::resumed::going_on;
 use super::tiny::tiny;
 use pit_book::{Desk, EntryReply, Reply, Stop};
 use pit_num::NoMemory;
@@ -238,4 +239,75 @@ fn after_stop<'a, S: Session, R: Wait + Drop, W: Wait + Abort>(
             transaction.abandon()
         }
     }
+}
+
+/// A planner of a desk that goes on from a history sees what that leaves.
+#[test]
+fn planners_go_on(rt: HostRuntime) {
+    let desk = looked_at(&rt, rt.alloc(), going_on(&rt, rt.alloc(), 4), 1);
+    assert!(rt; desk.history().len() == 3);
+    drop(desk);
+}
+
+fn looked_at<W: Wait + Abort>(
+    rt: &W,
+    alloc: Global,
+    desk: Desk<Global>,
+    planners: u32,
+) -> Desk<Global> {
+    look::<Brand, _, _>(rt, rt, alloc, desk, planners, Blank::new())
+}
+
+fn look<S: Session, R: Wait + Drop, W: Wait + Abort>(
+    rt: &W,
+    own: R,
+    alloc: Global,
+    desk: Desk<Global>,
+    planners: u32,
+    blank: Blank,
+) -> Desk<Global>
+    requires pit { desk.plan.pit ≡ S.instance }
+    requires history { desk.history ≡ S.opening }
+    requires limit { desk.max_entries ≡ S.max_entries }
+    requires planners { planners ≡ S.planners }
+    requires ledger { blank.ledger ≡ S.name }
+    requires parts { S.parts ≡ PLANNERS_MAX }
+    requires book { blank.book ≡ S.book }
+{
+    match Workspace::<S, R, _>::open(own, alloc, desk, planners, blank) {
+        Ok((workspace, seats)) => look_in(rt, alloc, workspace, seats),
+        Err(_) => panic!(rt; "no workspace"),
+    }
+}
+
+fn look_in<S: Session, R: Wait + Drop>(
+    rt: &impl Abort,
+    alloc: Global,
+    workspace: Workspace<S, R, Global>,
+    seats: Vec<Seat<S, Global>>,
+) -> Desk<Global> {
+    let log = log_of(rt, &workspace, seats);
+    let mut logs = Vec::new(alloc);
+    assert!(rt; logs.push(log).is_ok());
+    closed(rt, workspace, logs).into_desk()
+}
+
+/// The log of one planner, who reads block 3 and gives the transaction up.
+fn log_of<S: Session, R: Wait + Drop>(
+    rt: &impl Abort,
+    workspace: &Workspace<S, R, Global>,
+    mut seats: Vec<Seat<S, Global>>,
+) -> PlannerLog<S, Global> {
+    let seat = seats.pop().expect(rt, "a seat");
+    drop(seats);
+    let transaction = begun(rt, seat.sit(workspace), 1, 2);
+    after_look(rt, transaction).finish()
+}
+
+fn after_look<'a, S: Session, R: Wait + Drop>(
+    rt: &impl Abort,
+    mut transaction: Transaction<'a, S, R, Global>,
+) -> Planner<'a, S, R, Global> {
+    assert!(rt; found(rt, transaction.read(3)) == Some(1));
+    transaction.abandon()
 }

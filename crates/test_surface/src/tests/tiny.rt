@@ -39,7 +39,12 @@ pub(super) const HISTORY: &[u8] = b"{\"format\":1}
 {\"act\":\"commit\",\"job\":3,\"planner\":1,\"reads\":[],\"reply\":{\"committed\":2},\"start\":1,\"writes\":[[3,1]]}
 ";
 
-/// Its facts. More may be told.
+/// A history whose first commit has another number than 1.
+pub(super) const CHANGED: &[u8] = b"{\"format\":1}
+{\"act\":\"commit\",\"job\":1,\"planner\":1,\"reads\":[],\"reply\":{\"committed\":2},\"start\":0,\"writes\":[[0,0],[1,0]]}
+";
+
+/// The facts of the small pit. More may be told.
 pub(super) fn tiny_builder(rt: &impl Abort, alloc: Global) -> Builder<Global> {
     let Ok(builder) = read_model(alloc, MODEL) else {
         panic!(rt; "no model");

@@ -1,6 +1,6 @@
 //! `pit_cli`: the engines that look at a schedule or a pit, of the history in which blocks 0 and 1 are in period 0 and block 3 in period 1.
 use super::tiny::{BLOCKS, HISTORY, MODEL, PRECEDENCE};
-use pit_cli::{CliFault, Status, check_all, diff, info, show, table};
+use pit_cli::{CliFault, Status, check_all, diff, info, log, show, table};
 use pit_num::{In, Out};
 use std::alloc::Global;
 use std::process::Abort;
@@ -118,5 +118,36 @@ fn shown(alloc: Global, at: u32) -> Answered {
     let (mut model, mut schedule) = (In::new(MODEL), In::new(HISTORY));
     let mut out = Out::new(Vec::new(alloc));
     let answer = show(alloc, alloc, &mut model, &mut schedule, Some(at), &mut out);
+    (answer, out.into_inner())
+}
+
+/// What is too much for a period was put there by no one entry.
+#[test]
+fn a_history_is_logged(rt: HostRuntime) {
+    let text = b"entry 1 planner 1 job 1 start 0 reads 0 writes 2 revises 0 cause - committed 1
+write 0 - 0
+write 1 - 0
+entry 2 planner 1 job 2 start 1 reads 0 writes 1 revises 0 cause - refused over 0 0 5.000000 4.000000
+entry 3 planner 1 job 3 start 1 reads 0 writes 1 revises 0 cause - committed 2
+write 3 - 1
+legal 3 2
+value 15.045454545455000000
+";
+    assert_answer(&rt, logged(rt.alloc()), Status::Fine, text);
+}
+
+fn logged(alloc: Global) -> Answered {
+    let (mut model, mut precedence) = (In::new(MODEL), In::new(PRECEDENCE));
+    let mut history = In::new(HISTORY);
+    let mut out = Out::new(Vec::new(alloc));
+    let answer = log(
+        alloc,
+        alloc,
+        &mut model,
+        &mut precedence,
+        &mut history,
+        true,
+        &mut out,
+    );
     (answer, out.into_inner())
 }
