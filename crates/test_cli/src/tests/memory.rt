@@ -111,16 +111,16 @@ fn planned<'a, R: Threads + Wait + Abort + Sync>(
         &mut history,
     );
     let after = heap.count();
-    let kept = match &history {
-        Some(device) => device.sink.held(),
-        None => &[],
+    let Some(device) = &history else {
+        panic!(rt; "the history is left out");
     };
+    let kept = device.sink.held();
     match answer {
         Ok(status) => {
             assert!(rt; status == case.status);
             assert!(rt; solution.held() == case.solution);
             assert!(rt; report.held() == case.report);
-            assert!(rt; kept.strip_prefix(case.before) == Some(case.more));
+            assert!(rt; is_history(kept, case));
         }
         Err(CliFault::Stopped) => assert_stopped(rt, heap, report.held(), kept, case),
         Err(fault) => {
@@ -132,6 +132,14 @@ fn planned<'a, R: Threads + Wait + Abort + Sync>(
         }
     }
     (before, after)
+}
+
+/// The history is the one that is carried on, and then what is written behind it.
+fn is_history(history: &[u8], case: Case) -> bool {
+    match history.strip_prefix(case.before) {
+        Some(past) => past == case.more,
+        None => false,
+    }
 }
 
 /// A planner stopped for want of memory, and its jobs before that are told as ever, as are their entries.
