@@ -11,10 +11,6 @@
 # revision to none. Wants the toolchain.
 set -eu
 
-usage() {
-    echo "usage: $0 [-n COMMITS] [-b BLOCKS] [-t TWIN] NAME.." >&2
-    exit 2
-}
 . "$(dirname "$(realpath "$0")")/program.sh"
 words n:b:t: 100000 "$@"
 named "${others[@]}"

@@ -7,10 +7,6 @@
 # since it reads no other. Wants GNU time.
 set -eu
 
-usage() {
-    echo "usage: $0 [-n JOBS] [-t TWIN] PIT NAME.." >&2
-    exit 2
-}
 . "$(dirname "$(realpath "$0")")/measure.sh"
 words n:t: 250000 "$@"
 run_on "${others[@]}"

@@ -6,10 +6,6 @@
 # same round. Wants GNU time.
 set -eu
 
-usage() {
-    sed -n '/^# usage/s/^# //p' "$0" >&2
-    exit 2
-}
 . "$(dirname "$(realpath "$0")")/measure.sh"
 words n:t: 250000 "$@"
 run_on "${others[@]}"

@@ -7,10 +7,6 @@
 # one more behind them is bad. The twin is run as `TWIN plan .. --reads board`, on the same files. Wants GNU time.
 set -eu
 
-usage() {
-    echo "usage: $0 [-1] [-n JOBS] [-t TWIN] PIT NAME.." >&2
-    exit 2
-}
 sizes=(1 32)
 if [ "${1:-}" = -1 ]; then
     sizes=()

@@ -8,10 +8,6 @@
 # `TWIN plan .. --reads board` on a script for each planner, and as `TWIN reads .. --reads board`. Wants the toolchain.
 set -eu
 
-usage() {
-    echo "usage: $0 [-n TRANSACTIONS] [-b BLOCKS] [-t TWIN] NAME.." >&2
-    exit 2
-}
 . "$(dirname "$(realpath "$0")")/program.sh"
 words n:b:t: 100000 "$@"
 named "${others[@]}"

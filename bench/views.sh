@@ -5,10 +5,6 @@
 # solution with one that lacks its last block, so it reads two. Wants GNU time.
 set -eu
 
-usage() {
-    sed -n '/^# usage/s/^# //p' "$0" >&2
-    exit 2
-}
 . "$(dirname "$0")/measure.sh"
 run_on "$@"
 

@@ -1,4 +1,10 @@
-# For the scripts beside it, which read it in: what their words ask. Each has a function `usage`, which tells its words and ends it.
+# For the scripts beside it, which read it in: what their words ask.
+
+# usage: tells the words that a script wants, by the line of its head that begins with `# usage`, and ends it.
+usage() {
+    sed -n '/^# usage/s/^# //p' "$0" >&2
+    exit 2
+}
 
 # words OPTIONS COUNT WORD..: reads -n, -b and -t, as far as OPTIONS has them, into count, which is COUNT where it isn't said, among and twin. Sets
 # others to the words behind these.
