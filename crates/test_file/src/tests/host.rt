@@ -74,14 +74,25 @@ fn is_one_let_in(rt: &HostRuntime, name: &str, new_name: &str) -> bool {
     let (Some(mut first), Some(mut second)) = (file_at(rt, name), file_at(rt, name)) else {
         return false;
     };
+    is_held(rt, &mut first, &mut second, new_name) && is_handed_on(&mut first, &mut second)
+}
+
+/// A file over the system's names.
+type File<'a> = HistoryFile<HostNames<'a>>;
+
+/// Whether the second one isn't let in, and leaves the new file alone, until the first one gives it up.
+fn is_held(rt: &HostRuntime, first: &mut File<'_>, second: &mut File<'_>, new_name: &str) -> bool {
     let is_first = first.prepare() == Ok(()) && second.prepare() == Err(FileFault::InUse);
     second.abandon();
     let is_left = !is_missing(rt, new_name);
     first.abandon();
-    let is_removed = is_missing(rt, new_name);
+    is_first && is_left && is_missing(rt, new_name)
+}
+
+/// Whether the second one is let in then, and the first one once the second is written.
+fn is_handed_on(first: &mut File<'_>, second: &mut File<'_>) -> bool {
     let is_second = second.prepare() == Ok(()) && first.prepare() == Err(FileFault::InUse);
-    let is_kept = second.keep(NEW) == Ok(()) && first.prepare() == Ok(());
-    is_first && is_left && is_removed && is_second && is_kept
+    is_second && second.keep(NEW) == Ok(()) && first.prepare() == Ok(())
 }
 
 #[test]

@@ -27,16 +27,23 @@ fn is_lost(rt: &HostRuntime, path: &str) -> bool {
     matches!(found(rt, path), Err(FileFault::CannotWrite))
 }
 
+/// Paths of the files that `files` makes, and how the names end that they lead to.
+const FILES: &[(&str, &str)] = &[
+    ("test_file_files/h", "/test_file_files/h"),
+    ("test_file_files/here/link", "/test_file_files/h"),
+    ("test_file_files/here/new", "/test_file_files/new"),
+    ("test_file_no_such", "/test_file_no_such"),
+];
+
 #[test]
 fn files(rt: HostRuntime) {
     assert!(rt; emptied(&rt, "test_file_files"));
     assert!(rt; put(&rt, "test_file_files/h", TEXT, 0));
     assert!(rt; symlink(&rt, "h", "test_file_files/link").is_ok());
     assert!(rt; symlink(&rt, ".", "test_file_files/here").is_ok());
-    assert!(rt; leads_to_file(&rt, "test_file_files/h", "/test_file_files/h"));
-    assert!(rt; leads_to_file(&rt, "test_file_files/here/link", "/test_file_files/h"));
-    assert!(rt; leads_to_file(&rt, "test_file_files/here/new", "/test_file_files/new"));
-    assert!(rt; leads_to_file(&rt, "test_file_no_such", "/test_file_no_such"));
+    for (path, end) in FILES {
+        assert!(rt; leads_to_file(&rt, path, end));
+    }
     assert!(rt; removed(&rt, "test_file_files"));
 }
 
@@ -80,21 +87,29 @@ fn streams(rt: HostRuntime) {
     assert!(rt; removed(&rt, "test_file_streams"));
 }
 
+/// Whether a link at the new file's name is refused, wherever it leads. It is removed then.
+fn is_link_unfit(rt: &HostRuntime, to: &str, name: &str, new_name: &str) -> bool {
+    symlink(rt, to, new_name).is_ok()
+        && stays_unfit(rt, name, new_name)
+        && fs::remove_file(rt, new_name).is_ok()
+}
+
+/// The same of a folder.
+fn is_folder_unfit(rt: &HostRuntime, name: &str, new_name: &str) -> bool {
+    fs::create_dir(rt, new_name).is_ok()
+        && stays_unfit(rt, name, new_name)
+        && fs::remove_dir(rt, new_name).is_ok()
+}
+
 #[test]
 fn new_names(rt: HostRuntime) {
     let (name, new_name) = ("test_file_new_names/h", "test_file_new_names/h.pit-new");
     assert!(rt; emptied(&rt, "test_file_new_names"));
     assert!(rt; put(&rt, "test_file_new_names/other", TEXT, 0));
-    assert!(rt; symlink(&rt, "other", new_name).is_ok());
-    assert!(rt; stays_unfit(&rt, name, new_name));
+    assert!(rt; is_link_unfit(&rt, "other", name, new_name));
     assert!(rt; holds(&rt, "test_file_new_names/other", TEXT));
-    assert!(rt; fs::remove_file(&rt, new_name).is_ok());
-    assert!(rt; symlink(&rt, "nowhere", new_name).is_ok());
-    assert!(rt; stays_unfit(&rt, name, new_name));
-    assert!(rt; fs::remove_file(&rt, new_name).is_ok());
-    assert!(rt; fs::create_dir(&rt, new_name).is_ok());
-    assert!(rt; stays_unfit(&rt, name, new_name));
-    assert!(rt; fs::remove_dir(&rt, new_name).is_ok());
+    assert!(rt; is_link_unfit(&rt, "nowhere", name, new_name));
+    assert!(rt; is_folder_unfit(&rt, name, new_name));
     assert!(rt; fs::hard_link(&rt, name, new_name).is_ok());
     assert!(rt; stays_unfit(&rt, name, new_name));
     assert!(rt; removed(&rt, "test_file_new_names"));
@@ -108,26 +123,43 @@ fn opened_identity(rt: &HostRuntime, path: &str) -> Result<Option<FileIdentity>,
     }
 }
 
+const INPUT: &str = "test_file_inputs/input";
+
+const INPUT_LINK: &str = "test_file_inputs/link";
+
+/// Whether an input has the name of the new file of a history, too, and a link leads to it.
+fn is_input_linked(rt: &HostRuntime) -> bool {
+    put(rt, "test_file_inputs/h", TEXT, 0)
+        && put(rt, INPUT, TEXT, 0)
+        && fs::hard_link(rt, INPUT, "test_file_inputs/h.pit-new").is_ok()
+        && symlink(rt, "input", INPUT_LINK).is_ok()
+}
+
+/// Whether an input is known by this at its name and behind the link, but not as the link.
+fn is_known(rt: &HostRuntime, identity: FileIdentity) -> bool {
+    identity_at(rt, INPUT) == Ok(Some(identity))
+        && identity_at(rt, INPUT_LINK) == Ok(None)
+        && identity_behind(rt, INPUT_LINK) == Ok(Some(identity))
+}
+
+/// Whether neither a folder nor what isn't there is known by anything.
+fn are_unknown(rt: &HostRuntime) -> bool {
+    identity_at(rt, "test_file_inputs") == Ok(None)
+        && identity_at(rt, "test_file_inputs/no") == Ok(None)
+        && identity_behind(rt, "test_file_inputs/no") == Ok(None)
+}
+
 #[test]
 fn inputs(rt: HostRuntime) {
-    let (input, new_name) = ("test_file_inputs/input", "test_file_inputs/h.pit-new");
-    let link = "test_file_inputs/link";
     assert!(rt; emptied(&rt, "test_file_inputs"));
-    assert!(rt; put(&rt, "test_file_inputs/h", TEXT, 0));
-    assert!(rt; put(&rt, input, TEXT, 0));
-    assert!(rt; fs::hard_link(&rt, input, new_name).is_ok());
-    assert!(rt; symlink(&rt, "input", link).is_ok());
-    let Ok(Some(identity)) = opened_identity(&rt, input) else {
+    assert!(rt; is_input_linked(&rt));
+    let Ok(Some(identity)) = opened_identity(&rt, INPUT) else {
         panic!(rt; "no identity");
     };
-    assert!(rt; identity_at(&rt, input) == Ok(Some(identity)));
-    assert!(rt; identity_at(&rt, link) == Ok(None));
-    assert!(rt; identity_behind(&rt, link) == Ok(Some(identity)));
+    assert!(rt; is_known(&rt, identity));
     assert!(rt; is_new_file_input(&rt, "test_file_inputs/h", Some(identity)));
     assert!(rt; opened_identity(&rt, "/dev/null") == Ok(None));
-    assert!(rt; identity_at(&rt, "test_file_inputs") == Ok(None));
-    assert!(rt; identity_at(&rt, "test_file_inputs/no") == Ok(None));
-    assert!(rt; identity_behind(&rt, "test_file_inputs/no") == Ok(None));
+    assert!(rt; are_unknown(&rt));
     assert!(rt; removed(&rt, "test_file_inputs"));
 }
 
