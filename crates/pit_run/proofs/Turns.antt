@@ -1,11 +1,11 @@
 -- How turns are put together.
 use Rattle.std.proofs.lemmas.List.{take-append-drop, take-append-le, take_all, drop-append-le, drop_all, append-nil}
-use Rattle.std.proofs.lemmas.List.Elements.{All-nil, All-cons, All-append, All-push, All-contains}
+use Rattle.std.proofs.lemmas.List.Elements.{All-nil, All-cons, All-append, All-push, All-contains, Contains-get_or, Contains-append_left, Contains-append_right, Contains-append_cases, Contains-push_cases}
 use Rattle.std.proofs.lemmas.Option.{slice_get-get_or}
 use Rattle.std.proofs.lemmas.Bool.Decides.{leb_tells, nat_tests}
 use Rattle.std.proofs.Math.Seq.{take-suc}
 use Rattle.std.proofs.Common.{◌≡◌, ℕ, zero, suc, ◌+◌, ◌<◌, ◌≤◌, ◌==◌, Bool, true, false, List, [], ◌∷◌, ◌++◌, length, get_or, take, drop, refl, sym, ap, subst, ◌∙◌, arith, inl, inr, append_assoc, length-append, length-take, add-zero, add-one}
-use Rattle.std.specs.Prelude.{All, Contains, ◌≢◌, ◌||◌}
+use Rattle.std.specs.Prelude.{All, Contains, ◌≢◌, ◌||◌, ◌⊎◌}
 use Rattle.pit_model.specs.Pit.{Pit}
 use Rattle.pit_desk.specs.History.{Answered, commits_of}
 use Rattle.pit_desk.specs.State.{State, IsDeskKept}
@@ -13,8 +13,8 @@ use Rattle.pit_desk.specs.Noted.{AreHeld}
 use Rattle.pit_desk.proofs.Legal.{commits_of-append}
 use Rattle.pit_script.specs.Jobs.{Job}
 use Rattle.pit_share.specs.Planners.{PlannerState, planner_of}
-use Rattle.pit_share.specs.Logs.{entries_of, entries_in, has_log, IsPlanner}
-use Rattle.pit_share.specs.Opening.{IsPlannerCount}
+use Rattle.pit_share.specs.Logs.{entries_of, entries_in, has_log, IsPlanner, HasEachLog}
+use Rattle.pit_share.specs.Opening.{IsPlannerCount, AreSeats}
 use Rattle.pit_share.specs.GoingOn.{GoesOn}
 use Rattle.pit_share.specs.Snapshots.{AreSnapshots}
 use Rattle.pit_share.specs.Closing.{IsClosed, IsCloseError}
@@ -254,6 +254,7 @@ in-turn-unclosed pit opening max_entries retries planners k scripts desk runs ca
       logs = there.logs;
       run = there.run;
       took = there.took;
+      whole = subst (λ (p : ℕ). HasEachLog p there.logs) (sym many) there.whole;
       refused = subst (λ (p : ℕ). IsCloseError pit desk.history max_entries p there.logs cause) (sym many) there.refused;
     }
 
@@ -266,6 +267,79 @@ in-turn-error pit opening max_entries retries planners k scripts desk runs error
 in-turn-error pit opening max_entries retries planners k scripts desk runs (error.NotClosed who cause) so_far less many count err =
     let unclosed = in-turn-unclosed pit opening max_entries retries planners k scripts desk runs cause so_far less many err.1 in
     (subst IsPlannerCount (sym many) count, subst (λ (p : ℕ). IsTurnUnclosed pit opening max_entries retries scripts p cause) (sym err.0) unclosed)
+
+-- ---- the logs that are handed in
+
+has_log-front : (q : ℕ) (front back : List PlannerState) → has_log q front ≡ true → has_log q (front ++ back) ≡ true
+has_log-front q [] back has = absurd (cc has)
+has_log-front q (x ∷ front) back has = by (x.number == q) has (has_log-front q front back)
+  where
+    by : (b : Bool) → (b || has_log q front) ≡ true → (has_log q front ≡ true → has_log q (front ++ back) ≡ true) → (b || has_log q (front ++ back)) ≡ true
+    by true has more = refl
+    by false has more = more has
+
+has_log-last : (q : ℕ) (front : List PlannerState) (log : PlannerState) → log.number ≡ q → has_log q (front ++ log ∷ []) ≡ true
+has_log-last q [] log same = by (log.number == q) refl
+  where
+    by : (b : Bool) → (log.number == q) ≡ b → (b || false) ≡ true
+    by true is = refl
+    by false is = absurd (grind (arith, nat_tests, is, same))
+has_log-last q (x ∷ front) log same = by (x.number == q) (has_log-last q front log same)
+  where
+    by : (b : Bool) → has_log q (front ++ log ∷ []) ≡ true → (b || has_log q (front ++ log ∷ [])) ≡ true
+    by true more = refl
+    by false more = more
+
+-- a log is added for the last seat
+pub one-handed-in : (q : ℕ) (logs : List PlannerState) (log : PlannerState) (seats : List ℕ) (seat : ℕ) → log.number ≡ seat → (has_log q logs ≡ true) ⊎ Contains (seats ++ seat ∷ []) q
+    → (has_log q (logs ++ log ∷ []) ≡ true) ⊎ Contains seats q
+one-handed-in q logs log seats seat number (inl has) = inl (has_log-front q logs (log ∷ []) has)
+one-handed-in q logs log seats seat number (inr among) = by (Contains-push_cases seats seat q among)
+  where
+    by : Contains seats q ⊎ (seat ≡ q) → (has_log q (logs ++ log ∷ []) ≡ true) ⊎ Contains seats q
+    by (inl left) = inr left
+    by (inr same) = inl (has_log-last q logs log (number ∙ same))
+
+-- what is in a list is still there without one of its places, or stands at that
+left-or-taken : (xs : List ℕ) (k x : ℕ) → k < length xs → Contains xs x → Contains (take k xs ++ drop (suc k) xs) x ⊎ (get_or xs k 0 ≡ x)
+left-or-taken [] k x less among = absurd (omega (arith, less))
+left-or-taken (y ∷ ys) zero x less among = by (Contains-append_cases (y ∷ []) ys x among)
+  where
+    by : Contains (y ∷ []) x ⊎ Contains ys x → Contains ys x ⊎ (y ≡ x)
+    by (inl c) = one (Contains-push_cases [] y x c)
+      where
+        one : Contains [] x ⊎ (y ≡ x) → Contains ys x ⊎ (y ≡ x)
+        one (inl none) = absurd (omega (arith, none.1))
+        one (inr same) = inr same
+    by (inr c) = inl c
+left-or-taken (y ∷ ys) (suc k) x less among = by (Contains-append_cases (y ∷ []) ys x among) (left-or-taken ys k x (omega (arith, less)))
+  where
+    rest : List ℕ
+    rest = take k ys ++ drop (suc k) ys
+
+    deeper : Contains rest x ⊎ (get_or ys k 0 ≡ x) → Contains (y ∷ rest) x ⊎ (get_or ys k 0 ≡ x)
+    deeper (inl c) = inl (Contains-append_right (y ∷ []) rest x c)
+    deeper (inr same) = inr same
+
+    by : Contains (y ∷ []) x ⊎ Contains ys x → (Contains ys x → Contains rest x ⊎ (get_or ys k 0 ≡ x)) → Contains (y ∷ rest) x ⊎ (get_or ys k 0 ≡ x)
+    by (inl c) more = inl (Contains-append_left (y ∷ []) rest x c)
+    by (inr c) more = deeper (more c)
+
+-- those of all seats but one, and behind them that of this one
+pub handed-in : (seats : List ℕ) (k : ℕ) (front : List PlannerState) (log : PlannerState) → AreSeats (length seats) seats → k < length seats → log.number ≡ k + 1
+    → ((q : ℕ) → Contains (take k seats ++ drop (k + 1) seats) q → has_log q front ≡ true) → HasEachLog (length seats) (front ++ log ∷ [])
+handed-in seats k front log are less number others = record { each = each }
+  where
+    each : (q : ℕ) → IsPlanner (length seats) q → has_log q (front ++ log ∷ []) ≡ true
+    each zero one = absurd (omega (arith, one.0))
+    each (suc i) one =
+        let below : i < length seats = omega (arith, one.1) in
+        let at : get_or seats i 0 ≡ suc i = are.each i below ∙ add-one i in
+        by (left-or-taken seats k (suc i) less (subst (Contains seats) at (Contains-get_or seats i 0 below)))
+      where
+        by : Contains (take k seats ++ drop (suc k) seats) (suc i) ⊎ (get_or seats k 0 ≡ suc i) → has_log (suc i) (front ++ log ∷ []) ≡ true
+        by (inl c) = has_log-front (suc i) front (log ∷ []) (others (suc i) (subst (λ (n : ℕ). Contains (take k seats ++ drop n seats) (suc i)) (sym (add-one k)) c))
+        by (inr same) = has_log-last (suc i) front log (number ∙ sym (are.each k less) ∙ same)
 
 -- ---- what that reports
 

@@ -5,7 +5,7 @@ use Rattle.pit_desk.specs.History.{Answered}
 use Rattle.pit_desk.specs.State.{State, IsDeskKept}
 use Rattle.pit_script.specs.Jobs.{Job}
 use Rattle.pit_share.specs.Planners.{PlannerState}
-use Rattle.pit_share.specs.Logs.{entries_of}
+use Rattle.pit_share.specs.Logs.{entries_of, HasEachLog}
 use Rattle.pit_share.specs.Opening.{IsPlannerCount}
 use Rattle.pit_share.specs.GoingOn.{GoesOn}
 use Rattle.pit_share.specs.Closing.{IsCloseError}
@@ -50,7 +50,7 @@ pub record DidInTurn (pit : Pit) (opening : List Answered) (max_entries retries 
   pub started : AllStarted runs
   pub in_turn : IsInTurn (length scripts) opening desk.history
 
--- the planners before this one did their scripts in turn; then it did its own on what they left, and the workspace was not closed by the logs
+-- the planners before this one did their scripts in turn; then it did its own on what they left, and the workspace was not closed by the logs of all
 pub record IsTurnUnclosed (pit : Pit) (opening : List Answered) (max_entries retries : ℕ) (scripts : List (List Job)) (planner : ℕ) (cause : CloseError) : Type 0 where
   pub place : ℕ
   pub script : List Job
@@ -62,6 +62,7 @@ pub record IsTurnUnclosed (pit : Pit) (opening : List Answered) (max_entries ret
   pub logs : List PlannerState
   pub run : RunState
   pub took : TookTurn pit retries script planner logs run
+  pub whole : HasEachLog (length scripts) logs
   pub refused : IsCloseError pit left.history max_entries (length scripts) logs cause
 
 -- the number of planners is looked at first

@@ -1,8 +1,9 @@
 //! Planners one after the other, in one thread.
-ghost use Rattle.std.specs.Prelude.{◌≡◌, ◌+◌, ◌<◌, ◌≤◌, ◌↔◌, ℕ, List, [], All, length, map, slice_index_or, vec_capacity, IfOk, OnOk, IfErr, IsTrue};
+ghost use Rattle.std.specs.Prelude.{◌≡◌, ◌+◌, ◌<◌, ◌≤◌, ◌↔◌, ◌⊎◌, ℕ, true, List, [], All, Contains, length, map, slice_index_or, vec_capacity, IfOk, OnOk, IfErr, IsTrue};
 ghost use Rattle.pit_model.specs.Pit.{Pit};
 ghost use Rattle.pit_desk.specs.History.{Answered};
 ghost use Rattle.pit_script.specs.Jobs.{Job};
+ghost use Rattle.pit_share.specs.Logs.{has_log, HasEachLog};
 ghost use Rattle.pit_share.specs.Opening.{AreSeats, IsPlannerCount, IsOpenError};
 ghost use Rattle.pit_share.specs.declared.blank.TheConstants.{PLANNERS_MAX};
 ghost use Rattle.pit_job.specs.declared.planner_run.TheConstants.{RETRIES_MAX};
@@ -203,7 +204,8 @@ fn take_turn<S: Session, O: Wait + Drop, R: Wait, A: Allocator + Copy + Drop, G:
     requires place { k < length seats.items }
     requires none { logs.items ≡ [] }
     requires room { length seats.items ≤ vec_capacity logs }
-    ensures { TookTurn S.instance retries script.now.jobs (k + 1) result.0.items result.1 }
+    ensures took { TookTurn S.instance retries script.now.jobs (k + 1) result.0.items result.1 }
+    ensures each { HasEachLog (length seats.items) result.0.items }
 {
     let mut seats = seats;
     let mut logs = logs;
@@ -222,6 +224,7 @@ fn finish_all<S: Session, O: Wait + Drop, A: Allocator + Copy + Drop>(
 )
     requires room { length logs.old.items + length seats.old.items < vec_capacity logs.old }
     ensures empty { All (λ log. log.items ≡ []) logs.old.items → All (λ log. log.items ≡ []) logs.new.items }
+    ensures each { (planner : ℕ) → (has_log planner logs.old.items ≡ true) ⊎ Contains seats.old.items planner → has_log planner logs.new.items ≡ true }
     ensures room { length logs.new.items < vec_capacity logs.new }
 {
     let Some(seat) = seats.pop() else {

@@ -5,6 +5,7 @@ use Rattle.pit_desk.specs.History.{Answered}
 use Rattle.pit_desk.specs.State.{State}
 use Rattle.pit_script.specs.Jobs.{Job}
 use Rattle.pit_share.specs.Planners.{PlannerState}
+use Rattle.pit_share.specs.Logs.{HasEachLog}
 use Rattle.pit_share.specs.Opening.{IsPlannerCount}
 use Rattle.pit_share.specs.Closing.{IsClosed, IsCloseError}
 use Rattle.pit_share.specs.declared.error.CloseError.{CloseError}
@@ -19,11 +20,12 @@ pub record IsTurn (pit : Pit) (opening : List Answered) (max_entries planners re
   pub closed : IsClosed pit opening max_entries planners logs desk
   pub took : TookTurn pit retries script planner logs run
 
--- or was not
+-- or was not, though each planner's is there
 pub record IsUnclosedTurn (pit : Pit) (opening : List Answered) (max_entries planners retries planner : ℕ) (script : List Job) (cause : CloseError) : Type 0 where
   pub logs : List PlannerState
   pub run : RunState
   pub took : TookTurn pit retries script planner logs run
+  pub whole : HasEachLog planners logs
   pub refused : IsCloseError pit opening max_entries planners logs cause
 
 abbrev pub IsTurnError : Pit → List Answered → ℕ → ℕ → ℕ → ℕ → List Job → InTurnError → Type 0

@@ -1,13 +1,15 @@
 use Rattle.std.proofs.lemmas.List.Elements.{All-nil, All-push, All-weaker, Contains-push}
 use Rattle.std.proofs.lemmas.List.{get_or_default}
-use Rattle.std.proofs.Common.{◌≡◌, ◌∙◌, ◌+◌, ◌∷◌, ◌++◌, [], ℕ, List, subst, sym}
+use Rattle.std.proofs.Common.{◌≡◌, ◌∙◌, ◌+◌, ◌∷◌, ◌++◌, [], ℕ, List, length, inr, subst, sym}
 use Rattle.std.specs.Prelude.{All, Contains, ◌≢◌}
 use Rattle.pit_share.specs.Planners.{PlannerState}
+use Rattle.pit_share.specs.Logs.{HasEachLog}
 use Rattle.pit_run.specs.Turns.{DidScript}
+use Rattle.pit_run.proofs.Turns.{handed-in}
 use Rattle.pit_run.proofs.in_turn.take_turn.Goals as goal
 
-pub returns : goal.returns
-returns g c =
+pub returns-clause-took : goal.returns-clause-took
+returns-clause-took g c =
     let planner = c.args.k + 1 in
     let front = c.finish_all.new.logs.items in
     let log = c.run_planner-log.result.0 in
@@ -26,3 +28,15 @@ returns g c =
       others = subst (λ (ls : List PlannerState). All (λ other. other.number ≢ planner → other.items ≡ []) ls) (sym logs)
           (All-push (λ other. other.number ≢ planner → other.items ≡ []) front log empty (λ differs. absurd (differs did.of_log)));
     }
+
+pub returns-clause-each : goal.returns-clause-each
+returns-clause-each g c =
+    let seats : List ℕ = c.args.seats.items in
+    let front = c.finish_all.new.logs.items in
+    let log = c.run_planner-log.result.0 in
+    let number : c.remove-seat.result ≡ c.args.k + 1 =
+    c.remove-seat.ensures.value ∙ (get_or_default seats c.args.k c.remove-seat.result 0 c.requires.place ∙ c.requires.seats.each c.args.k c.requires.place) in
+    let parts = c.remove-seat.ensures.by_index.2 in
+    subst (λ (ls : List PlannerState). HasEachLog (length seats) ls) (sym c.push_log.ensures.items)
+    (handed-in seats c.args.k front log c.requires.seats c.requires.place (c.run_planner-log.ensures.of_log ∙ number)
+    (λ q among. c.finish_all.ensures.each q (inr (subst (λ (rest : List ℕ). Contains rest q) (sym parts) among))))
