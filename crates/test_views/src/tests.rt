@@ -1,9 +1,9 @@
 //! The engines of one thread, which read their inputs whole and then write an answer, on the small pit but where a row says otherwise.
 //!
-//! One harness serves them all. A `Run` is a command with its texts, with the devices that give them, and with what is answered and written; `engines` calls
-//! the engine. The modules that are named as commands have what these write. The others are about all commands: `worked` has the examples, `changed` the
-//! histories of which one thing is changed, `cut` those that are cut off, `faults` the lines of faults, `devices` those that fail, `memory` and `long` each
-//! request for memory refused in turn. `reading` and `steps` are about the parts that engines are made of.
+//! One harness serves all. A `Run` is a command with its texts, with the devices that give them, and with what is answered and written; `engines`
+//! calls the engine. The modules that are named after commands have what these write. The others are about all commands: `worked` has the examples,
+//! `changed` the histories of which one thing is changed, `cut` those that are cut off, `faults` the lines of faults, `devices` those that fail, and
+//! `memory` and `long` each request for memory refused in turn. `reading` and `steps` are about the parts that engines are made of.
 mod all;
 mod changed;
 mod cut;

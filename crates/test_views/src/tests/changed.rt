@@ -184,7 +184,7 @@ fn what_is_never_looked_at(rt: HostRuntime) {
     }
 }
 
-/// What no reply depends on: who made the call, and what a withdrawal has seen. A history with a part of it, what stands in its place, and its replay.
+/// What no reply depends on: who made the call, and what a withdrawal has seen. A history, a part of it, what stands in its place, and the replay.
 const NEVER_MIND: &[(&str, &str, &str, &[u8])] = &[
     (
         LOADING,

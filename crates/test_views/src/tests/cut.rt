@@ -10,8 +10,8 @@ use pit_step::{CliFault, Input, Status};
 use std::alloc::Global;
 use std::process::Abort;
 
-/// A command, a history, which input that is, how many entries it has where its answer is fine, and what is written of its first entries alone, by how many
-/// of them there are.
+/// A command, a history, which input that is, how many entries it has at least where the answer is fine, and what is written of its first entries
+/// alone, by how many of them there are.
 type Row = (
     Command,
     &'static str,

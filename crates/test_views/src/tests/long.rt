@@ -138,7 +138,7 @@ const CROWDED: Long = Long {
     ..CHECKED
 };
 
-/// Block 0 has all others as predecessors, and is mined without them. No block is worth anything. So many pairs are broken; the first 1,000 are shown.
+/// Block 0 has all others as predecessors, and is mined without them. No block is worth anything. The first 1,000 pairs are shown.
 const MANY: Long = Long {
     command: CheckAll,
     model: &[
