@@ -26,7 +26,7 @@ mod worked;
 use engines::answer_of;
 use pit_num::Out;
 use pit_sample::{Ending, Heap, LOADING, Narrow, TINY_MODEL, TINY_PRECEDENCE, Trial};
-use pit_step::{CliFault, Status};
+use pit_step::{CliFault, Input, Status};
 use std::alloc::Global;
 use std::process::Abort;
 
@@ -113,6 +113,25 @@ fn run_of(row: Row) -> Run<'static> {
     }
 }
 
+/// The command reads this text last.
+fn run_of_last<'a>(command: Command, last: &'a str) -> Run<'a> {
+    Run {
+        command,
+        last,
+        ..BASE
+    }
+}
+
+/// An input can't be read.
+fn run_without(command: Command, last: &'static str, input: Input) -> Run<'static> {
+    Run {
+        command,
+        last,
+        answer: Err(CliFault::CannotRead(input)),
+        ..BASE
+    }
+}
+
 /// Whether a run ends as it has to, and writes this.
 fn is_so(alloc: Global, run: Run<'_>) -> bool {
     let mut out = Out::new(Vec::new(alloc));
@@ -125,6 +144,12 @@ fn is_so(alloc: Global, run: Run<'_>) -> bool {
 
 fn assert_so(rt: &impl Abort, alloc: Global, run: Run<'_>) {
     assert!(rt; is_so(alloc, run), "{:?} of {}", run.command, run.last);
+}
+
+/// The run writes this.
+fn assert_writes(rt: &impl Abort, alloc: Global, run: Run<'_>, written: &str) {
+    let written = written.as_bytes();
+    assert_so(rt, alloc, Run { written, ..run });
 }
 
 /// The run ends so where the part of its last text, which stands there once, is replaced.
@@ -145,11 +170,11 @@ fn assert_fault(
     let Err(fault) = answer else {
         panic!(rt; "no fault for {line}");
     };
-    let found = fault.status();
-    assert!(rt; found == status, "{found} for {status} of {line}");
+    assert!(rt; fault.status() == status, "of {line}");
     let shown = format!(in alloc; "{fault}").expect(rt, "memory");
-    assert!(rt; shown.as_str() == line, "{shown} for {line}");
+    let is_right = shown.as_str() == line;
     drop(shown);
+    assert!(rt; is_right, "{fault} for {line}");
 }
 
 /// A run writes nothing, and its fault has this line and the status of a refused input.
@@ -157,8 +182,9 @@ fn assert_refused(rt: &impl Abort, alloc: Global, run: Run<'_>, line: &str) {
     let mut out = Out::new(Vec::new(alloc));
     let answer = answer_of(alloc, alloc, run, &mut out);
     let written = out.into_inner();
-    assert!(rt; written.is_empty(), "{:?} of {line}", run.command);
+    let is_unwritten = written.is_empty();
     drop(written);
+    assert!(rt; is_unwritten, "{:?} of {line}", run.command);
     assert_fault(rt, alloc, answer, line, 2);
 }
 

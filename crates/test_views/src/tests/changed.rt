@@ -2,7 +2,9 @@
 use super::all::LOADING_FINE;
 use super::log::ILLEGAL;
 use super::replay::{LOADING_LEGAL, MEETING_LEGAL};
-use super::{BASE, Command, Run, VIEWS, assert_changed, assert_refused, assert_so};
+use super::{
+    Command, Run, VIEWS, assert_changed, assert_refused, assert_writes, run_of, run_of_last,
+};
 use Command::{CheckAll, Diff, Log, Replay};
 use Status::{Failed, Fine};
 use pit_sample::{LOADING, MEETING, REVISING};
@@ -75,13 +77,10 @@ fn changed(rt: &impl Abort, alloc: Global, change: Change) -> String {
 fn assert_illegal(rt: &impl Abort, alloc: Global, history: &str, place: u32) {
     let written = format!(in alloc; "illegal {place}\n").expect(rt, "memory");
     let run = Run {
-        command: Replay,
-        last: history,
         answer: Ok(Failed),
-        written: written.as_bytes(),
-        ..BASE
+        ..run_of_last(Replay, history)
     };
-    assert_so(rt, alloc, run);
+    assert_writes(rt, alloc, run, &written);
     drop(written);
 }
 
@@ -104,12 +103,7 @@ fn assert_unfit(rt: &impl Abort, alloc: Global, run: Run<'_>, file: &str, place:
 /// How many commits are asked for says nothing of entries that don't fit.
 fn assert_views(rt: &impl Abort, alloc: Global, last: &str, place: u32) {
     for command in VIEWS {
-        let command = *command;
-        let run = Run {
-            command,
-            last,
-            ..BASE
-        };
+        let run = run_of_last(*command, last);
         assert_unfit(rt, alloc, run, "schedule", place);
     }
 }
@@ -117,16 +111,13 @@ fn assert_views(rt: &impl Abort, alloc: Global, last: &str, place: u32) {
 /// It comes behind all faults of its text, and before those of the new schedule.
 fn assert_compared(rt: &impl Abort, alloc: Global, history: &str, place: u32) {
     let run = Run {
-        command: Diff,
         old: REVISING,
-        last: history,
-        ..BASE
+        ..run_of_last(Diff, history)
     };
     assert_unfit(rt, alloc, run, "new", place);
     let run = Run {
         old: history,
-        last: "x",
-        ..run
+        ..run_of_last(Diff, "x")
     };
     assert_unfit(rt, alloc, run, "old", place);
 }
@@ -149,13 +140,7 @@ fn an_entry_that_does_not_fit(rt: HostRuntime) {
 #[test]
 fn the_log_of_what_is_illegal(rt: HostRuntime) {
     for (last, from, to, written) in ILLEGAL {
-        let run = Run {
-            command: Log(false),
-            last,
-            answer: Ok(Failed),
-            written,
-            ..BASE
-        };
+        let run = run_of((Log(false), last, Failed, written));
         assert_changed(&rt, rt.alloc(), run, from, to);
     }
 }
@@ -173,12 +158,7 @@ const NEVER_SEEN: &[(&str, &str)] = &[
 
 #[test]
 fn what_is_never_looked_at(rt: HostRuntime) {
-    let run = Run {
-        command: CheckAll,
-        last: LOADING,
-        written: LOADING_FINE,
-        ..BASE
-    };
+    let run = run_of((CheckAll, LOADING, Fine, LOADING_FINE));
     for (from, to) in NEVER_SEEN {
         assert_changed(&rt, rt.alloc(), run, from, to);
     }
@@ -205,13 +185,7 @@ const NEVER_MIND: &[(&str, &str, &str, &[u8])] = &[
 #[test]
 fn what_no_reply_depends_on(rt: HostRuntime) {
     for (last, from, to, written) in NEVER_MIND {
-        let run = Run {
-            command: Replay,
-            last,
-            answer: Ok(Fine),
-            written,
-            ..BASE
-        };
+        let run = run_of((Replay, last, Fine, written));
         assert_changed(&rt, rt.alloc(), run, from, to);
     }
 }

@@ -4,7 +4,7 @@ use super::info::{ONE_PLACE, PLACES};
 use super::log::REVISING_LOG;
 use super::replay::LOADING_LEGAL;
 use super::value::CHECKED;
-use super::{ALL, BASE, Command, Row, Run, SOLUTION, assert_so, run_of};
+use super::{ALL, Command, Row, Run, SOLUTION, assert_so, run_of, run_without};
 use Command::{Check, Info, Log, Replay, Value};
 use Input::{Blocks, History, Model, Precedence, Solution};
 use Status::{Failed, Fine};
@@ -124,13 +124,16 @@ const SOURCES: &[(Command, &str, usize, Input)] = &[
 
 /// Whether the devices behind the place still have their texts.
 fn is_unread(devices: &Devices<'_>, run: Run<'_>, place: usize) -> bool {
-    let is_second = place > 0 || devices.second.rest() == run.precedence;
-    let is_last = place > 1 || devices.last.rest() == run.last.as_bytes();
-    let is_places = match &devices.places {
-        Some(places) => place > 1 || places.rest() == run.last.as_bytes(),
-        None => true,
-    };
-    is_second && is_last && is_places
+    if place == 2 {
+        return true;
+    }
+    if place == 0 && devices.second.rest() != run.precedence {
+        return false;
+    }
+    match &devices.places {
+        Some(places) => places.rest() == run.last.as_bytes(),
+        None => devices.last.rest() == run.last.as_bytes(),
+    }
 }
 
 /// Whether the input can't be read, nothing is read behind it, and nothing is written.
@@ -163,14 +166,10 @@ fn calls_at(place: usize, count: usize) -> [usize; 3] {
 
 /// It fails at each call, the last time behind all bytes.
 fn assert_without(rt: &impl Abort, alloc: Global, run: Run<'_>, place: usize) {
-    for count in 0..=length_at(run, place) {
+    for count in 0..length_at(run, place) + 1 {
         let calls = calls_at(place, count);
-        let run = Run { calls, ..run };
-        assert!(rt;
-            is_without(alloc, run, place),
-            "{:?} without {place} at {count}",
-            run.command
-        );
+        let is = is_without(alloc, Run { calls, ..run }, place);
+        assert!(rt; is, "{:?} at {count} of {place}", run.command);
     }
 }
 
@@ -178,11 +177,8 @@ fn assert_without(rt: &impl Abort, alloc: Global, run: Run<'_>, place: usize) {
 fn a_source_that_fails_at_each_call(rt: HostRuntime) {
     for (command, last, place, input) in SOURCES {
         let run = Run {
-            command: *command,
-            last,
             piece: 1,
-            answer: Err(CliFault::CannotRead(*input)),
-            ..BASE
+            ..run_without(*command, last, *input)
         };
         assert_without(&rt, rt.alloc(), run, *place);
     }

@@ -1,5 +1,6 @@
 //! What differs between two schedules.
-use super::{BASE, Command, Run, SOLUTION, assert_so};
+use super::{BASE, Command, Row, Run, SOLUTION, assert_so, run_of};
+use Command::Diff;
 use Status::{Failed, Fine};
 use pit_sample::{LOADING, REVISING};
 use pit_step::Status;
@@ -65,49 +66,30 @@ const SAME: &[(&str, &str)] = &[
     ("", ""),
 ];
 
-const RUN: Run<'static> = Run {
-    command: Command::Diff,
-    ..BASE
-};
+fn run_of_two(old: &'static str, row: Row) -> Run<'static> {
+    Run { old, ..run_of(row) }
+}
 
 #[test]
 fn all_is_told(rt: HostRuntime) {
-    for (old, last, written) in DIFFERENT {
-        let answer = Ok(Failed);
-        assert_so(
-            &rt,
-            rt.alloc(),
-            Run {
-                old,
-                last,
-                answer,
-                written,
-                ..RUN
-            },
-        );
+    for (old, new, written) in DIFFERENT {
+        let run = run_of_two(old, (Diff, new, Failed, written));
+        assert_so(&rt, rt.alloc(), run);
     }
 }
 
 #[test]
 fn nothing_is_told(rt: HostRuntime) {
-    for (old, last) in SAME {
-        let answer = Ok(Fine);
-        assert_so(
-            &rt,
-            rt.alloc(),
-            Run {
-                old,
-                last,
-                answer,
-                ..RUN
-            },
-        );
+    for (old, new) in SAME {
+        let run = run_of_two(old, (Diff, new, Fine, b""));
+        assert_so(&rt, rt.alloc(), run);
     }
 }
 
 /// Three resources in two periods, of which one has a limit in the first period. The limits of two are revised in period 0, and that of one in
 /// period 1. Loads and limits stand by period first.
 pub(super) const OTHERS: &[Run<'static>] = &[Run {
+    command: Diff,
     model: b"TYPE: CPIT
 NBLOCKS: 2
 NPERIODS: 2
@@ -127,5 +109,5 @@ EOF
 ",
     answer: Ok(Failed),
     written: b"block 0 0 1\nblock 1 - 0\nmoves 0 1 1\nmoves - 0 1\nlimit 1 0 - 0.000000\nlimit 2 0 1.000000 2.000000\nlimit 0 1 - -0.000001\nload 0 0 1.000000 0.000000\nload 1 0 0.000000 1.000000\nload 2 0 2.500000 0.000000\nload 0 1 0.000000 1.000000\nload 2 1 0.000000 2.500000\n",
-    ..RUN
+    ..BASE
 }];

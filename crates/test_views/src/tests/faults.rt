@@ -1,6 +1,6 @@
 //! The line of each fault, and its status.
 use super::show::FEW;
-use super::{BASE, Command, Run, SOLUTION, VIEWS, assert_fault, assert_refused};
+use super::{BASE, Command, Run, SOLUTION, VIEWS, assert_fault, assert_refused, run_of_last};
 use Command::{Check, CheckAll, Diff, Info, Log, Replay, Show, Table, Value};
 use pit_sample::{LOADING, MEETING};
 use pit_step::{CliFault, Input, Status};
@@ -71,7 +71,7 @@ type Last = (&'static str, &'static str);
 
 fn assert_lasts(rt: &impl Abort, alloc: Global, commands: &[Command], rows: &[Last]) {
     for (last, line) in rows {
-        assert_each(rt, alloc, commands, Run { last, ..BASE }, line);
+        assert_each(rt, alloc, commands, run_of_last(Value, last), line);
     }
 }
 
@@ -146,15 +146,19 @@ const BOTH: &[(&str, &str, &str)] = &[
 #[test]
 fn of_two_schedules(rt: HostRuntime) {
     for (old, last, line) in BOTH {
-        assert_each(&rt, rt.alloc(), &[Diff], Run { old, last, ..BASE }, line);
+        let run = Run {
+            old,
+            ..run_of_last(Diff, last)
+        };
+        assert_refused(&rt, rt.alloc(), run, line);
     }
 }
 
 #[test]
 fn of_too_few_commits(rt: HostRuntime) {
     for (last, at, line) in FEW {
-        let command = Show(Some(*at));
-        assert_each(&rt, rt.alloc(), &[command], Run { last, ..BASE }, line);
+        let run = run_of_last(Show(Some(*at)), last);
+        assert_refused(&rt, rt.alloc(), run, line);
     }
 }
 
@@ -175,8 +179,7 @@ fn of_limits(rt: HostRuntime) {
     for (last, line) in LIMITS {
         let run = Run {
             model: UNMET,
-            last,
-            ..BASE
+            ..run_of_last(Replay, last)
         };
         assert_each(&rt, rt.alloc(), &[Log(true), Replay], run, line);
     }

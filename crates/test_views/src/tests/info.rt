@@ -1,6 +1,6 @@
 //! Pits in numbers.
 use super::engines::{answer_from, devices_of};
-use super::{BASE, Command, Row, Run, is_so};
+use super::{BASE, Command, Row, Run, assert_writes, is_so, run_of_last};
 use Cause::{CountWrong, FieldCount};
 use Command::Info;
 use Status::Fine;
@@ -153,10 +153,9 @@ fn assert_header(rt: &impl Abort, alloc: Global, header: &str, unknown: &str) {
         command: Info(false),
         model: header.as_bytes(),
         precedence: b"",
-        written: written.as_bytes(),
         ..BASE
     };
-    assert!(rt; is_so(alloc, run), "of {header}");
+    assert_writes(rt, alloc, run, &written);
     drop(written);
 }
 
@@ -225,16 +224,19 @@ fn is_told_up_to_there(rt: HostRuntime) {
     }
 }
 
+fn has_no_source(alloc: Global) -> bool {
+    let run = run_of_last(Info(false), "");
+    let mut devices = devices_of(run);
+    let mut out = Narrow::new(alloc, 1_000, 1_000);
+    let answer = answer_from(alloc, alloc, run, &mut devices, &mut out);
+    let is = answer == Ok(Fine) && devices.places.is_none();
+    drop(devices);
+    drop(out);
+    is
+}
+
 /// Where there is no source for places, there is none behind it.
 #[test]
 fn of_no_source(rt: HostRuntime) {
-    let run = Run {
-        command: Info(false),
-        ..BASE
-    };
-    let mut devices = devices_of(run);
-    let mut out = Narrow::new(rt.alloc(), 1_000, 1_000);
-    let answer = answer_from(rt.alloc(), rt.alloc(), run, &mut devices, &mut out);
-    assert!(rt; answer == Ok(Fine));
-    assert!(rt; devices.places.is_none());
+    assert!(rt; has_no_source(rt.alloc()));
 }

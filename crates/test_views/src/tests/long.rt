@@ -1,6 +1,6 @@
 //! Long texts, past each doubling of what they are read into and what is kept of them.
 use super::memory::assert_refusals;
-use super::{ALL, BASE, Command, Run, assert_so};
+use super::{ALL, BASE, Command, Run, assert_so, run_of_last};
 use Command::{Check, CheckAll, Diff, Info, Log, Replay, Show, Table, Value};
 use Input::Blocks;
 use Part::{Both, Each, Once};
@@ -141,10 +141,9 @@ const CROWDED: Long = Long {
 /// Block 0 has all others as predecessors, and is mined without them. No block is worth anything. The first 1,000 pairs are shown.
 const MANY: Long = Long {
     command: CheckAll,
-    model: &[
-        Once("TYPE: CPIT\nNPERIODS: 1\nNRESOURCE_SIDE_CONSTRAINTS: 0\nDISCOUNT_RATE: 0.1\n"),
-        Once("NBLOCKS: 1003\nEOF\n"),
-    ],
+    model: &[Once(
+        "TYPE: CPIT\nNPERIODS: 1\nNRESOURCE_SIDE_CONSTRAINTS: 0\nDISCOUNT_RATE: 0.1\nNBLOCKS: 1003\nEOF\n",
+    )],
     precedence: &[Once("0 1002"), Each(1, 1_003, " #")],
     last: &[Once("0 0\n")],
     written: &[
@@ -247,10 +246,9 @@ const ROWS: &[Long] = &[
     },
     MANY,
     Long {
-        model: &[
-            Once("TYPE: CPIT\nNPERIODS: 1\nNRESOURCE_SIDE_CONSTRAINTS: 0\nDISCOUNT_RATE: 0.1\n"),
-            Once("NBLOCKS: 1002\nEOF\n"),
-        ],
+        model: &[Once(
+            "TYPE: CPIT\nNPERIODS: 1\nNRESOURCE_SIDE_CONSTRAINTS: 0\nDISCOUNT_RATE: 0.1\nNBLOCKS: 1002\nEOF\n",
+        )],
         precedence: &[Once("0 1001"), Each(1, 1_002, " #")],
         written: &[
             Once("value 0.000000000000000000\n"),
@@ -260,10 +258,9 @@ const ROWS: &[Long] = &[
         ..MANY
     },
     Long {
-        model: &[
-            Once("TYPE: CPIT\nNPERIODS: 1\nNRESOURCE_SIDE_CONSTRAINTS: 0\nDISCOUNT_RATE: 0.1\n"),
-            Once("NBLOCKS: 1001\nEOF\n"),
-        ],
+        model: &[Once(
+            "TYPE: CPIT\nNPERIODS: 1\nNRESOURCE_SIDE_CONSTRAINTS: 0\nDISCOUNT_RATE: 0.1\nNBLOCKS: 1001\nEOF\n",
+        )],
         precedence: &[Once("0 1000"), Each(1, 1_001, " #")],
         written: &[
             Once("value 0.000000000000000000\n"),
@@ -273,10 +270,9 @@ const ROWS: &[Long] = &[
         ..MANY
     },
     Long {
-        model: &[
-            Once("TYPE: CPIT\nNPERIODS: 1\nNRESOURCE_SIDE_CONSTRAINTS: 0\nDISCOUNT_RATE: 0.1\n"),
-            Once("NBLOCKS: 1000\nEOF\n"),
-        ],
+        model: &[Once(
+            "TYPE: CPIT\nNPERIODS: 1\nNRESOURCE_SIDE_CONSTRAINTS: 0\nDISCOUNT_RATE: 0.1\nNBLOCKS: 1000\nEOF\n",
+        )],
         precedence: &[Once("0 999"), Each(1, 1_000, " #")],
         written: &[
             Once("value 0.000000000000000000\n"),
@@ -379,24 +375,21 @@ const HISTORY: &[(Command, &[Part])] = &[
     (Replay, &[Once("legal 40 40\nvalue 4.545454545455000000\n")]),
 ];
 
-fn assert_history(rt: &impl Abort, alloc: Global, last: &str, row: (Command, &[Part])) {
-    let (command, parts) = row;
-    let written = text_of(rt, alloc, parts);
-    let run = Run {
-        command,
-        last,
-        written: written.as_bytes(),
-        ..BASE
-    };
-    assert_refusals(rt, alloc, run, 50);
-    drop(written);
+fn assert_history(rt: &impl Abort, alloc: Global, run: Run<'_>, parts: &[Part]) {
+    let text = text_of(rt, alloc, parts);
+    assert_kept(rt, alloc, run, text.as_bytes());
+    drop(text);
+}
+
+fn assert_kept(rt: &impl Abort, alloc: Global, run: Run<'_>, written: &[u8]) {
+    assert_refusals(rt, alloc, Run { written, ..run }, 50);
 }
 
 #[test]
 fn of_a_long_history(rt: HostRuntime) {
     let text = long_history(rt.alloc(), 40).expect(&rt, "memory");
-    for row in HISTORY {
-        assert_history(&rt, rt.alloc(), &text, *row);
+    for (command, parts) in HISTORY {
+        assert_history(&rt, rt.alloc(), run_of_last(*command, &text), parts);
     }
     drop(text);
 }

@@ -8,7 +8,7 @@ use super::show::{FIRST, LOADED};
 use super::steps::STEPPED;
 use super::table::{REVISING_TABLE, SOLUTION_TABLE};
 use super::value::CHECKED;
-use super::{ALL, BASE, Command, PIECE, Row, Run, SOLUTION, run_of};
+use super::{ALL, BASE, Command, PIECE, Row, Run, SOLUTION, run_of, run_without};
 use Command::{Check, CheckAll, Diff, Info, Log, Replay, Show, Steps, Table, Value};
 use Input::{Blocks, History, Model, New, Old, Precedence, Schedule, Solution};
 use LinesCause::Shape;
@@ -92,11 +92,8 @@ const SOURCES: &[(Command, &str, [usize; 3], Input, u64)] = &[
 fn is_freed_after_a_source_that_fails(rt: HostRuntime) {
     for (command, last, calls, input, least) in SOURCES {
         let run = Run {
-            command: *command,
-            last,
             calls: *calls,
-            answer: Err(CliFault::CannotRead(*input)),
-            ..BASE
+            ..run_without(*command, last, *input)
         };
         assert_refusals(&rt, rt.alloc(), run, *least);
     }
@@ -123,11 +120,8 @@ const SINKS: &[(Command, &str, &[u8], u64)] = &[
 fn is_freed_after_a_sink_that_fails(rt: HostRuntime) {
     for (command, last, written, least) in SINKS {
         let run = Run {
-            command: *command,
-            last,
             answer: Err(CliFault::CannotWrite),
-            written,
-            ..BASE
+            ..run_of((*command, last, Fine, written))
         };
         assert_refusals(&rt, rt.alloc(), run, *least);
     }
@@ -309,13 +303,20 @@ fn is_not_asked_for_in_vain(rt: HostRuntime) {
 
 fn assert_quiet(rt: &impl Abort, heap: Heap<'_>, plain: Global) {
     for run in QUIET {
-        let ending = run.ending(heap, plain);
-        assert!(rt; ending == Ending::Whole, "{ending:?} of {:?}", run.command);
+        assert!(rt;
+            run.ending(heap, plain) == Ending::Whole,
+            "of {:?}",
+            run.command
+        );
     }
+    assert_reads_quiet(rt, heap);
+    assert!(rt; CliFault::NoMemory.status() == 3 && Fine.code() == 0);
+    assert!(rt; heap.count().asked == 0);
+}
+
+fn assert_reads_quiet(rt: &impl Abort, heap: Heap<'_>) {
     let read = gives(heap, &mut Broken::new(b"", PIECE, ALL), b"");
     assert!(rt; read == Ok(true));
     let read = gives(heap, &mut Broken::new(b"abc", PIECE, 0), b"abc");
     assert!(rt; read == Err(ReadError::Read));
-    assert!(rt; CliFault::NoMemory.status() == 3 && Fine.code() == 0);
-    assert!(rt; heap.count().asked == 0);
 }

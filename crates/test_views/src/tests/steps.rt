@@ -13,6 +13,9 @@ use std::alloc::Allocator;
 /// The value of the small pit's solution, in units of 10^-18.
 const VALUE: i128 = 37_772_727_272_730_000_000;
 
+/// The blocks and periods of that solution.
+const PAIRS: &[(u32, u32)] = &[(0, 0), (1, 0), (2, 1)];
+
 /// What it writes of that solution.
 pub(super) const STEPPED: &[u8] = b"0 0\n1 0\n2 1\nvalue 37.772727272730000000\n";
 
@@ -28,7 +31,9 @@ pub(super) fn stepped<A: Allocator + Copy + Drop, W: Sink>(
     let answer = answer_of(alloc, &mut devices.last, &pit);
     drop(pit);
     let (text, status) = answer?;
-    write_answer(out, &text, status)
+    let end = write_answer(out, &text, status);
+    drop(text);
+    end
 }
 
 fn parsed<A: Allocator + Copy + Drop>(alloc: A, run: Run<'_>) -> Result<Instance<A>, CliFault> {
@@ -45,8 +50,18 @@ fn answer_of<A: Allocator + Copy + Drop>(
     pit: &Instance<A>,
 ) -> Result<(Vec<u8, A>, Status), CliFault> {
     let start = bytes_of(alloc, start, Input::Start)?;
-    let status = status_of(alloc, &start, pit)?;
-    match text_of(alloc, &start) {
+    let answer = answer_to(alloc, &start, pit);
+    drop(start);
+    answer
+}
+
+fn answer_to<A: Allocator + Copy + Drop>(
+    alloc: A,
+    start: &[u8],
+    pit: &Instance<A>,
+) -> Result<(Vec<u8, A>, Status), CliFault> {
+    let status = status_of(alloc, start, pit)?;
+    match text_of(alloc, start) {
         Ok(text) => Ok((text, status)),
         Err(_) => Err(CliFault::NoMemory),
     }
@@ -70,9 +85,9 @@ fn status_of<A: Allocator + Copy + Drop>(
     pit: &Instance<A>,
 ) -> Result<Status, CliFault> {
     let schedule = schedule_of(alloc, Input::Start, start, pit)?;
-    let is_right = schedule.as_slice() == [(0, 0), (1, 0), (2, 1)].as_slice() && is_small(pit);
+    let is_right = schedule.as_slice() == PAIRS;
     drop(schedule);
-    match is_right {
+    match is_right && is_small(pit) {
         true => Ok(Status::Fine),
         false => Ok(Status::Failed),
     }
