@@ -1,168 +1,107 @@
 //! `pit_book`: a desk, its history, and the lines of that.
-use super::tiny::{HISTORY, built, tiny, tiny_builder};
+use super::model::limited;
+use super::plan::BEHIND;
+use super::tiny::{CHANGED, HISTORY, WORTH, empty_desk, tiny};
+use super::tx::{Call, Pair, work_of};
+use Reply::{Committed, Refused};
 use pit_book::{
-    Act, AuditFault, Desk, DeskError, Entry, EntryReply, LinesCause, LinesError, Pairs, Refusal,
-    Reply, Revisions, Stop, audit, from_lines, to_lines,
+    Act, AuditFault, Desk, DeskError, Entry, EntryReply, LinesCause, Pairs, Refusal, Reply,
+    ResumeFault, Revisions, Stop, audit, from_lines, to_lines,
 };
 use pit_model::Instance;
-use pit_plan::{Breach, Plan};
 use pit_tx::Work;
 use std::alloc::Global;
 use std::process::Abort;
 
-/// A block, with its period or none.
-type Pair = (u32, Option<u32>);
-
-/// A job of planner 1, what it has read after so many commits, what it writes, and the reply that is due.
-type Row = (u32, &'static [Pair], u32, &'static [Pair], Reply);
-
-/// In period 0 at most 4 may be loaded; blocks 0, 1 and 3 load 2, 2 and 1.
-const ROWS: &[Row] = &[
-    (
-        1,
-        &[],
-        0,
-        &[(0, Some(0)), (1, Some(0))],
-        Reply::Committed { number: 1 },
-    ),
-    (
-        2,
-        &[],
-        1,
-        &[(3, Some(0))],
-        Reply::Refused(Refusal::Over {
-            resource: 0,
-            period: 0,
-            load: 5_000_000,
-            limit: 4_000_000,
-        }),
-    ),
-    (3, &[], 1, &[(3, Some(1))], Reply::Committed { number: 2 }),
-    (
-        4,
-        &[],
-        2,
-        &[(0, None)],
-        Reply::Refused(Refusal::Precedence {
-            block: 1,
-            before: 0,
-        }),
-    ),
-    (
-        5,
-        &[],
-        3,
-        &[],
-        Reply::Refused(Refusal::Ahead {
-            start: 3,
-            commits: 2,
-        }),
-    ),
-    (
-        6,
-        &[(0, None)],
-        0,
-        &[],
-        Reply::Refused(Refusal::Moved {
-            block: 0,
-            version: 1,
-        }),
-    ),
-    (
-        7,
-        &[(3, Some(0))],
-        2,
-        &[],
-        Reply::Refused(Refusal::Misread { block: 3 }),
-    ),
+/// Calls, and the replies that are due. In period 0 at most 4 may be loaded; blocks 0, 1 and 3 load 2, 2 and 1.
+const ROWS: &[(Call<'static>, Reply)] = &[
+    ((1, &[], 0, FIRST_TWO), Committed { number: 1 }),
+    ((2, &[], 1, &[(3, Some(0))]), Refused(OVER)),
+    ((3, &[], 1, &[(3, Some(1))]), Committed { number: 2 }),
+    ((4, &[], 2, &[(0, None)]), Refused(UNORDERED)),
+    ((5, &[], 3, &[]), Refused(AHEAD)),
+    ((6, &[(0, None)], 0, &[]), Refused(MOVED)),
+    ((7, &[(3, Some(0))], 2, &[]), Refused(MISREAD)),
 ];
 
-/// What blocks 0, 1 and 3 are then worth, in units of 10^-18: -10 + 20.5 + 5 * 0.909090909091.
-pub(super) const WORTH: i128 = 15_045_454_545_455_000_000;
+const FIRST_TWO: &[Pair] = &[(0, Some(0)), (1, Some(0))];
 
+pub(super) const OVER: Refusal = Refusal::Over {
+    resource: 0,
+    period: 0,
+    load: 5_000_000,
+    limit: 4_000_000,
+};
+
+const UNORDERED: Refusal = Refusal::Precedence {
+    block: 1,
+    before: 0,
+};
+
+const AHEAD: Refusal = Refusal::Ahead {
+    start: 3,
+    commits: 2,
+};
+
+const MOVED: Refusal = Refusal::Moved {
+    block: 0,
+    version: 1,
+};
+
+const MISREAD: Refusal = Refusal::Misread { block: 3 };
+
+/// With a withdrawal there are the eight entries that there may be.
 #[test]
 fn a_desk_keeps_its_history(rt: HostRuntime) {
-    let mut desk = opened(&rt, rt.alloc(), 100);
+    let mut desk = empty_desk(&rt, rt.alloc(), 8);
     assert_answered(&rt, rt.alloc(), &mut desk);
     assert_withdrawn(&rt, rt.alloc(), &mut desk);
-    assert!(rt; desk.max_entries() == 100);
-    assert!(rt; desk.plan().value() == WORTH);
+    assert_entries(&rt, desk.history());
     assert_lines(&rt, rt.alloc(), desk.history());
     let (plan, history) = desk.into_parts();
-    assert!(rt; plan.commits() == 2);
     drop(plan);
-    assert_audited(&rt, rt.alloc(), &history);
+    assert!(rt; audited(&rt, rt.alloc(), &history) == Ok(WORTH));
     drop(history);
 }
 
-/// A desk of the small pit, with no start, that may have so many entries.
-fn opened(rt: &impl Abort, alloc: Global, max_entries: u32) -> Desk<Global> {
-    match Desk::open(alloc, tiny(rt, alloc), &[], max_entries) {
-        Ok(desk) => desk,
-        Err((_pit, DeskError::NoMemory)) => panic!(rt; "no memory"),
-        Err(_) => panic!(rt; "refused"),
-    }
-}
-
 fn assert_answered(rt: &impl Abort, alloc: Global, desk: &mut Desk<Global>) {
-    for (job, reads, start, writes, reply) in ROWS {
-        let work = work_of(rt, alloc, *job, *start, reads, writes);
-        assert!(rt; committed(rt, desk, work) == *reply, "job {job}");
+    for (call, reply) in ROWS {
+        let work = work_of(rt, alloc, *call);
+        assert!(rt; reply_of(rt, desk, work) == Some(*reply));
     }
 }
 
-pub(super) fn work_of(
-    rt: &impl Abort,
-    alloc: Global,
-    job: u32,
-    start: u32,
-    reads: &[Pair],
-    writes: &[Pair],
-) -> Work<Global> {
-    let mut work = Work::new(alloc, 1, job, start, 4, 2, 1).expect(rt, "memory");
-    for (block, period) in reads {
-        assert!(rt; work.note(*block, *period) == Ok(()));
-    }
-    for (block, period) in writes {
-        let answer = match period {
-            Some(t) => work.put(*block, *t),
-            None => work.clear(*block),
-        };
-        assert!(rt; answer == Ok(()));
-    }
-    work
-}
-
-pub(super) fn committed(rt: &impl Abort, desk: &mut Desk<Global>, work: Work<Global>) -> Reply {
+fn reply_of(rt: &impl Abort, desk: &mut Desk<Global>, work: Work<Global>) -> Option<Reply> {
     assert!(rt; desk.fits(&work));
     match desk.commit(work) {
-        Ok(reply) => reply,
-        Err((_work, Stop::Full)) => panic!(rt; "full"),
+        Ok(reply) => Some(reply),
+        Err((_work, Stop::Full)) => None,
         Err((_work, Stop::NoMemory)) => panic!(rt; "no memory"),
     }
 }
 
-/// A withdrawal changes nothing, and makes the eighth entry.
+/// A withdrawal changes nothing. What comes behind it finds no room.
 fn assert_withdrawn(rt: &impl Abort, alloc: Global, desk: &mut Desk<Global>) {
-    let work = work_of(rt, alloc, 8, 2, &[(3, Some(1))], &[(3, None)]);
+    let work = work_of(rt, alloc, (8, &[(3, Some(1))], 2, &[(3, None)]));
     assert!(rt; desk.fits(&work));
     let Ok(()) = desk.withdraw(work) else {
         panic!(rt; "stopped");
     };
-    assert_entries(rt, desk.history());
+    assert!(rt; desk.max_entries() == 8);
+    let work = work_of(rt, alloc, (9, &[], 2, &[]));
+    assert!(rt; reply_of(rt, desk, work) == None);
+    assert!(rt; desk.plan().value() == WORTH);
 }
 
 fn assert_entries(rt: &impl Abort, history: &[Entry<Global>]) {
     assert!(rt; history.len() == 8);
     let entry = history.get(6).expect(rt, "an entry");
-    assert!(rt; entry.act == Act::Commit);
-    assert!(rt; entry.reply == EntryReply::Refused(Refusal::Misread { block: 3 }));
+    assert!(rt; (entry.act, entry.reply) == (Act::Commit, EntryReply::Refused(MISREAD)));
     let entry = history.last().expect(rt, "an entry");
+    assert!(rt; (entry.act, entry.reply) == (Act::Withdraw, EntryReply::Withdrawn));
     assert!(rt; (entry.planner, entry.job, entry.start) == (1, 8, 2));
     assert!(rt; entry.reads.items() == [(3, Some(1))].as_slice());
     assert!(rt; entry.writes.items() == [(3, None)].as_slice());
-    assert!(rt; entry.act == Act::Withdraw);
-    assert!(rt; entry.reply == EntryReply::Withdrawn);
 }
 
 /// The first three entries are written as their lines, and these are read as those entries.
@@ -172,41 +111,22 @@ fn assert_lines(rt: &impl Abort, alloc: Global, history: &[Entry<Global>]) {
     assert!(rt; lines.as_slice() == HISTORY);
     drop(lines);
     let again = from_lines(alloc, alloc, HISTORY).expect(rt, "a history");
-    assert!(rt; are_same(&again, first));
+    let is_same = again.iter().zip(first.iter()).all(|(a, b)| a.is_same(b));
+    assert!(rt; is_same && again.len() == 3);
     drop(again);
 }
 
-fn are_same(history: &[Entry<Global>], other: &[Entry<Global>]) -> bool {
-    for (entry, twin) in history.iter().zip(other.iter()) {
-        if !entry.is_same(twin) {
-            return false;
-        }
-    }
-    history.len() == other.len()
-}
-
-fn assert_audited(rt: &impl Abort, alloc: Global, history: &[Entry<Global>]) {
-    let plan = match audited(rt, alloc, history) {
-        Ok(plan) => plan,
-        Err(AuditFault::Place { place }) => panic!(rt; "wrong at {place}"),
-        Err(AuditFault::NoMemory) => panic!(rt; "no memory"),
-    };
-    assert!(rt; plan.commits() == 2);
-    assert!(rt; plan.value() == WORTH);
-    drop(plan);
-}
-
-fn audited(
-    rt: &impl Abort,
-    alloc: Global,
-    history: &[Entry<Global>],
-) -> Result<Plan<Global>, AuditFault> {
+/// The value to which a history leads on the small pit.
+fn audited(rt: &impl Abort, alloc: Global, history: &[Entry<Global>]) -> Result<i128, AuditFault> {
     let pit = tiny(rt, alloc);
     let None = pit.unmeetable() else {
         panic!(rt; "unmeetable");
     };
     assert!(rt; history.len() < 100);
-    audit(alloc, pit, history)
+    let plan = audit(alloc, pit, history)?;
+    let value = plan.value();
+    drop(plan);
+    Ok(value)
 }
 
 /// An entry by hand, whose reply isn't due to it.
@@ -222,41 +142,27 @@ fn an_audit_finds_what_is_wrong(rt: HostRuntime) {
         act: Act::Commit,
         reply: EntryReply::Committed { number: 2 },
     };
-    let Err(fault) = audited(&rt, rt.alloc(), &[entry]) else {
-        panic!(rt; "legal");
-    };
-    assert!(rt; fault == AuditFault::Place { place: 1 });
+    match audited(&rt, rt.alloc(), &[entry]) {
+        Ok(_) => panic!(rt; "legal"),
+        Err(AuditFault::Place { place }) => assert!(rt; place == 1),
+        Err(AuditFault::NoMemory) => panic!(rt; "no memory"),
+    }
 }
 
-#[test]
-fn a_desk_may_be_full(rt: HostRuntime) {
-    let mut desk = opened(&rt, rt.alloc(), 1);
-    let work = work_of(&rt, rt.alloc(), 1, 0, &[], &[]);
-    assert!(rt; committed(&rt, &mut desk, work) == Reply::Committed { number: 1 });
-    let work = work_of(&rt, rt.alloc(), 2, 1, &[], &[(3, Some(1))]);
-    assert!(rt; desk.fits(&work));
-    let Err((work, stop)) = desk.commit(work) else {
-        panic!(rt; "answered");
-    };
-    assert!(rt; stop == Stop::Full);
-    assert!(rt; work.writes() == [(3, Some(1))].as_slice());
-    drop(work);
-    drop(desk);
-}
-
+/// Block 3 is then worth 5 * 0.909090909091.
 #[test]
 fn a_desk_opens_on_a_start(rt: HostRuntime) {
-    let pit = tiny(&rt, rt.alloc());
-    let Ok(desk) = open_on(&rt, rt.alloc(), pit, 3, 1) else {
-        panic!(rt; "refused");
+    let desk = match started(&rt, rt.alloc(), tiny(&rt, rt.alloc()), 3, 1) {
+        Ok(desk) => desk,
+        Err(DeskError::NoMemory) => panic!(rt; "no memory"),
+        Err(_) => panic!(rt; "refused"),
     };
-    assert!(rt; desk.plan().value() == 4_545_454_545_455_000_000);
-    assert!(rt; desk.history().len() == 1);
+    assert!(rt; (desk.plan().value(), desk.history().len()) == (4_545_454_545_455_000_000, 1));
     drop(desk);
 }
 
 /// Opens a desk that may have so many entries, on a start of one block in period 1.
-fn open_on(
+fn started(
     rt: &impl Abort,
     alloc: Global,
     pit: Instance<Global>,
@@ -267,52 +173,38 @@ fn open_on(
     assert!(rt; pit.periods() > 1);
     match Desk::open(alloc, pit, &[(block, 1)], max_entries) {
         Ok(desk) => Ok(desk),
-        Err((pit, error)) => {
-            assert!(rt; pit.blocks() == 4);
-            Err(error)
-        }
+        Err((_pit, error)) => Err(error),
     }
 }
 
 #[test]
-fn a_start_may_be_refused(rt: HostRuntime) {
-    let mut builder = tiny_builder(&rt, rt.alloc());
-    assert!(rt; builder.add_limit(0, 0, None, Some(-1)) == Ok(()));
-    let pit = built(&rt, builder);
-    assert_unopened(&rt, rt.alloc(), pit, 3, 100, UNMEETABLE);
-    assert_unopened(&rt, rt.alloc(), tiny(&rt, rt.alloc()), 2, 100, BAD_START);
-    assert_unopened(
-        &rt,
-        rt.alloc(),
-        tiny(&rt, rt.alloc()),
-        3,
-        0,
-        DeskError::Full,
-    );
+fn a_start_or_a_history_may_be_refused(rt: HostRuntime) {
+    let error = started(&rt, rt.alloc(), limited(&rt, rt.alloc()), 0, 100).err();
+    let (resource, period) = (0, 1);
+    assert!(rt; error == Some(DeskError::Unmeetable { resource, period }));
+    let error = started(&rt, rt.alloc(), tiny(&rt, rt.alloc()), 1, 100).err();
+    assert!(rt; error == Some(DeskError::BadStart(BEHIND)));
+    let error = started(&rt, rt.alloc(), tiny(&rt, rt.alloc()), 3, 0).err();
+    assert!(rt; error == Some(DeskError::Full));
+    let fault = resumed(&rt, rt.alloc(), HISTORY, 2).err();
+    assert!(rt; fault == Some(ResumeFault::Full));
+    let fault = resumed(&rt, rt.alloc(), CHANGED, 9).err();
+    assert!(rt; fault == Some(ResumeFault::Place { place: 1 }));
 }
 
-const UNMEETABLE: DeskError = DeskError::Unmeetable {
-    resource: 0,
-    period: 0,
-};
-
-const BAD_START: DeskError = DeskError::BadStart(Breach::Precedence {
-    block: 2,
-    before: 0,
-});
-
-fn assert_unopened(
+/// A desk that goes on from the lines of a history, and may have so many entries.
+pub(super) fn resumed(
     rt: &impl Abort,
     alloc: Global,
-    pit: Instance<Global>,
-    block: u32,
+    text: &[u8],
     max_entries: u32,
-    due: DeskError,
-) {
-    match open_on(rt, alloc, pit, block, max_entries) {
-        Ok(_) => panic!(rt; "opened"),
-        Err(error) => assert!(rt; error == due),
-    }
+) -> Result<Desk<Global>, ResumeFault> {
+    let pit = tiny(rt, alloc);
+    let None = pit.unmeetable() else {
+        panic!(rt; "unmeetable");
+    };
+    let history = from_lines(alloc, alloc, text).expect(rt, "a history");
+    Desk::resume(alloc, pit, history, max_entries)
 }
 
 /// Texts, the line of the first fault, and its cause.
@@ -325,20 +217,10 @@ const FAULTY: &[(&[u8], u64, LinesCause)] = &[
 #[test]
 fn lines_may_have_a_fault(rt: HostRuntime) {
     for (text, line, cause) in FAULTY {
-        let error = lines_error(&rt, rt.alloc(), text);
-        assert!(rt; (error.line, error.cause) == (*line, *cause));
-    }
-}
-
-fn lines_error(rt: &impl Abort, alloc: Global, text: &[u8]) -> LinesError {
-    match from_lines(alloc, alloc, text) {
-        Ok(_) => panic!(rt; "no fault"),
-        Err(
-            LinesError {
-                cause: LinesCause::NoMemory,
-                ..
-            },
-        ) => panic!(rt; "no memory"),
-        Err(error) => error,
+        match from_lines(rt.alloc(), rt.alloc(), text) {
+            Ok(_) => panic!(rt; "no fault"),
+            Err(error) if error.cause == LinesCause::NoMemory => panic!(rt; "no memory"),
+            Err(error) => assert!(rt; (error.line, error.cause) == (*line, *cause)),
+        }
     }
 }

@@ -1,13 +1,15 @@
 //! `pit_cli`: the engines, over devices.
 use super::num::Shut;
-use super::tiny::{BLOCKS, CHANGED, HISTORY, MODEL, PRECEDENCE};
+use super::plan::BEHIND;
+use super::tiny::{BLOCKS, CHANGED, HISTORY, MODEL, PRECEDENCE, SCRIPT, is_written};
+use LinesCause::Shape;
+use ScriptCause::Order;
 use pit_book::{LinesCause, LinesError};
 use pit_cli::{
     Beginning, BreachLine, CliFault, Input, PlanInput, PlanOptions, ReadError, Status, Stream,
-    check, plan, read_all, replay, value,
+    check, check_all, diff, info, log, plan, read_all, replay, show, table, value,
 };
 use pit_num::{In, Out};
-use pit_plan::Breach;
 use pit_run::{ScriptCause, ScriptError};
 use pit_text::{Cause, Key, TextError};
 use std::alloc::Global;
@@ -15,109 +17,159 @@ use std::process::Abort;
 use std::sync::Wait;
 use std::thread::Threads;
 
-/// What an engine answers and writes.
-type Answered = (Result<Status, CliFault>, Vec<u8>);
-
-fn assert_answer(rt: &impl Abort, answered: Answered, status: Status, text: &[u8]) {
-    let (answer, written) = answered;
-    assert!(rt; answer == Ok(status));
-    assert!(rt; written.as_slice() == text);
-    drop(written);
+/// An engine that looks at a pit, and at a schedule or a history of it.
+#[derive(Clone, Copy)]
+enum View {
+    Value,
+    Check,
+    CheckAll,
+    Table,
+    Diff,
+    Info,
+    Show,
+    Log,
+    Replay,
 }
 
-/// Of blocks 0, 1 and 2 in periods 0, 0 and 1: -10 + 20.5 + 30 * 0.909090909091.
-#[test]
-fn a_solution_has_a_value(rt: HostRuntime) {
-    let text = b"37.772727272730000000\n";
-    assert_answer(
-        &rt,
-        valued(rt.alloc(), b"0 0\n1 0\n2 1\n"),
-        Status::Fine,
-        text,
-    );
-}
+/// What it reads last, its status, and what it writes.
+type Row = (View, &'static [u8], Status, &'static [u8]);
 
-fn valued(alloc: Global, solution: &[u8]) -> Answered {
-    let mut model = In::new(MODEL);
-    let mut solution = In::new(solution);
-    let mut out = Out::new(Vec::new(alloc));
-    let answer = value(alloc, &mut model, &mut solution, &mut out);
-    (answer, out.into_inner())
-}
+/// In the history blocks 0 and 1, which earn 10.5, are in period 0, and block 3, which earns 5 * 0.909090909091, in period 1.
+const VIEWS: &[Row] = &[
+    (View::Value, b"0 0\n1 0\n2 1\n", Status::Fine, VALUE),
+    (View::Check, b"2 0\n", Status::Failed, CHECK),
+    (View::CheckAll, HISTORY, Status::Fine, CHECK_ALL),
+    (View::Table, HISTORY, Status::Fine, TABLE),
+    (View::Diff, OLD, Status::Fine, b""),
+    (View::Info, BLOCKS, Status::Fine, INFO),
+    (View::Show, OLD, Status::Fine, OLD),
+    (View::Log, CHANGED, Status::Failed, b"illegal 1\n"),
+    (View::Replay, HISTORY, Status::Fine, REPLAY),
+];
+
+/// -10 + 20.5 + 30 * 0.909090909091.
+const VALUE: &[u8] = b"37.772727272730000000\n";
 
 /// Block 2 comes after block 0, and at least 1 is wanted in period 1.
-#[test]
-fn a_solution_is_checked(rt: HostRuntime) {
-    let text = b"value 30.000000000000000000\nprecedence 2 0\nshort 0 1 0.000000 1.000000\n";
-    assert_answer(&rt, checked(rt.alloc(), b"2 0\n"), Status::Failed, text);
-}
+const CHECK: &[u8] = b"value 30.000000000000000000\nprecedence 2 0\nshort 0 1 0.000000 1.000000\n";
 
-fn checked(alloc: Global, solution: &[u8]) -> Answered {
-    let mut model = In::new(MODEL);
-    let mut precedence = In::new(PRECEDENCE);
-    let mut solution = In::new(solution);
-    let mut out = Out::new(Vec::new(alloc));
-    let answer = check(alloc, &mut model, &mut precedence, &mut solution, &mut out);
-    (answer, out.into_inner())
-}
+const CHECK_ALL: &[u8] = b"value 15.045454545455000000\nfine\n";
 
-/// What leads to the history of the small pit.
-const SCRIPT: &[u8] = b"begin
-put 0 0
-put 1 0
-commit
-begin
-put 3 0
-commit
-begin
-put 3 1
-commit
+const TABLE: &[u8] = b"period,blocks,value,cumulative,load_0,lower_0,upper_0,room_0
+0,2,10.500000000000000000,10.500000000000000000,4.000000,,4.000000,0.000000
+1,1,4.545454545455000000,15.045454545455000000,1.000000,1.000000,4.000000,3.000000
 ";
 
-const SOLUTION: &[u8] = b"0 0\n1 0\n3 1\n";
+/// A solution, with which `diff` compares.
+const OLD: &[u8] = b"0 0\n1 0\n";
+
+const INFO: &[u8] = b"blocks 4\nperiods 2\nresources 1\nrate 0.100000\nprofits 4\ncoefficients 4
+lower 1\nupper 2\npairs 3\nroots 2\nhighest 2\nplaces 4\nbenches 3\n";
+
+const REPLAY: &[u8] = b"legal 3 2\nvalue 15.045454545455000000\n";
+
+#[test]
+fn each_view_is_written(rt: HostRuntime) {
+    for row in VIEWS {
+        assert!(rt; is_viewed(rt.alloc(), *row));
+    }
+}
+
+fn is_viewed(alloc: Global, row: Row) -> bool {
+    let (view, last, status, text) = row;
+    let mut model = In::new(MODEL);
+    let mut order = In::new(PRECEDENCE);
+    let mut last = In::new(last);
+    let mut out = Out::new(Vec::new(alloc));
+    let answer = viewed(alloc, view, &mut model, &mut order, &mut last, &mut out);
+    let is_text = is_written(out, text);
+    answer == Ok(status) && is_text
+}
+
+fn viewed(
+    alloc: Global,
+    view: View,
+    model: &mut In<&[u8]>,
+    order: &mut In<&[u8]>,
+    last: &mut In<&[u8]>,
+    out: &mut Out<Vec<u8>>,
+) -> Result<Status, CliFault> {
+    match view {
+        View::Value => value(alloc, model, last, out),
+        View::Check => check(alloc, model, order, last, out),
+        View::CheckAll => check_all(alloc, alloc, model, order, last, out),
+        View::Table => table(alloc, alloc, model, last, out),
+        View::Diff => diff(alloc, alloc, model, &mut In::new(OLD), last, out),
+        View::Info => info(alloc, model, order, &mut Some(In::new(BLOCKS)), out),
+        View::Show => show(alloc, alloc, model, last, None, out),
+        View::Log => log(alloc, alloc, model, order, last, true, out),
+        View::Replay => replay(alloc, alloc, model, order, last, out),
+    }
+}
+
+#[test]
+fn an_engine_may_have_a_fault(rt: HostRuntime) {
+    let (alloc, file) = (rt.alloc(), Input::Model);
+    let unread = value(alloc, &mut Shut, &mut Shut, &mut Shut);
+    assert!(rt; unread == Err(CliFault::CannotRead(file)));
+    let faulty = value(alloc, &mut In::new(b"".as_slice()), &mut Shut, &mut Shut);
+    let (line, cause) = (1, Cause::MissingHeader(Key::Kind));
+    let error = TextError { line, cause };
+    assert!(rt; faulty == Err(CliFault::Text { file, error }));
+    let unwritten = value(alloc, &mut In::new(MODEL), &mut In::new(OLD), &mut Shut);
+    assert!(rt; unwritten == Err(CliFault::CannotWrite));
+}
+
+/// What a plan begins with, whether its script is done in turn, the script, and the status and the report.
+type Planned = (Begins, bool, &'static [u8], Status, &'static [u8]);
+
+/// With a schedule or a history, which is that of the small pit.
+#[derive(Clone, Copy)]
+enum Begins {
+    Nothing,
+    NoHistory,
+    Schedule,
+    History,
+}
+
+/// Each leaves blocks 0 and 1 in period 0 and block 3 in period 1. A job that is refused counts.
+const PLANS: &[Planned] = &[
+    (Begins::Nothing, false, SCRIPT, Status::Failed, REPORT),
+    (Begins::NoHistory, true, SCRIPT, Status::Failed, NEW_REPORT),
+    (Begins::Schedule, true, b"", Status::Fine, NO_REPORT),
+    (Begins::History, true, b"", Status::Fine, NO_REPORT),
+];
 
 const REPORT: &[u8] = b"planner 1 job 1 committed 1 tries 1
 planner 1 job 2 refused over 0 0 5.000000 4.000000 tries 1
-planner 1 job 3 committed 2 tries 1
-value 15.045454545455000000
-";
+planner 1 job 3 committed 2 tries 1\nvalue 15.045454545455000000\n";
 
-const OPTIONS: PlanOptions = PlanOptions {
-    retries: 3,
-    is_in_turn: false,
-    is_strict: false,
-};
+const NEW_REPORT: &[u8] = b"history new\nplanner 1 job 1 committed 1 tries 1
+planner 1 job 2 refused over 0 0 5.000000 4.000000 tries 1
+planner 1 job 3 committed 2 tries 1\nvalue 15.045454545455000000\n";
 
-/// How a plan ends, and what it writes.
-#[derive(Drop)]
-struct Ended {
-    answer: Result<Status, CliFault>,
-    solution: Vec<u8>,
-    report: Vec<u8>,
-    history: Vec<u8>,
-}
+const NO_REPORT: &[u8] = b"value 15.045454545455000000\n";
 
 #[test]
-fn a_script_is_done(rt: HostRuntime) {
-    let input = input_of(&rt, rt.alloc(), Beginning::nothing(), SCRIPT);
-    let found = planned(&rt, rt.alloc(), input, OPTIONS);
-    assert_ended(&rt, &found, Status::Fine, SOLUTION, REPORT);
-    assert!(rt; found.history.as_slice() == HISTORY);
-    drop(found);
+fn each_plan_is_made(rt: HostRuntime) {
+    for row in PLANS {
+        assert!(rt; is_planned(&rt, rt.alloc(), *row));
+    }
 }
 
-fn planned<R: Threads + Wait + Abort + Sync>(
-    rt: &R,
-    alloc: Global,
-    input: PlanInput<Global>,
-    options: PlanOptions,
-) -> Ended {
+fn is_planned<R: Threads + Wait + Abort + Sync>(rt: &R, alloc: Global, row: Planned) -> bool {
+    let (begins, is_in_turn, script, status, lines) = row;
+    let input = input_of(rt, alloc, begins, script);
+    let options = PlanOptions {
+        retries: 3,
+        is_in_turn,
+        is_strict: true,
+    };
     let mut solution = Out::new(Vec::new(alloc));
     let mut report = Out::new(Vec::new(alloc));
     let mut history = Some(Stream {
         sink: Out::new(Vec::new(alloc)),
     });
-    assert!(rt; options.retries <= 1000);
     let answer = plan(
         rt,
         alloc,
@@ -128,37 +180,26 @@ fn planned<R: Threads + Wait + Abort + Sync>(
         &mut report,
         &mut history,
     );
-    Ended {
-        answer,
-        solution: solution.into_inner(),
-        report: report.into_inner(),
-        history: history.expect(rt, "a device").sink.into_inner(),
-    }
+    let is_solution = is_written(solution, b"0 0\n1 0\n3 1\n");
+    let is_report = is_written(report, lines);
+    let is_history = is_written(history.expect(rt, "a device").sink, HISTORY);
+    answer == Ok(status) && is_solution && is_report && is_history
 }
 
-fn assert_ended(rt: &impl Abort, ended: &Ended, status: Status, solution: &[u8], report: &[u8]) {
-    assert!(rt; ended.answer == Ok(status));
-    assert!(rt; ended.solution.as_slice() == solution);
-    assert!(rt; ended.report.as_slice() == report);
-}
-
-/// A plan that begins so, with one script.
-fn input_of(
-    rt: &impl Abort,
-    alloc: Global,
-    beginning: Beginning<Global>,
-    script: &[u8],
-) -> PlanInput<Global> {
+fn input_of(rt: &impl Abort, alloc: Global, begins: Begins, script: &[u8]) -> PlanInput<Global> {
+    let beginning = match begins {
+        Begins::Nothing => Beginning::nothing(),
+        Begins::NoHistory => Beginning::no_history(),
+        Begins::Schedule => Beginning::schedule(bytes_of(rt, alloc, HISTORY)),
+        Begins::History => Beginning::history(bytes_of(rt, alloc, HISTORY)),
+    };
     let mut scripts = Vec::new(alloc);
     let script = bytes_of(rt, alloc, script);
     assert!(rt; scripts.push(script).is_ok());
-    PlanInput::new(
-        bytes_of(rt, alloc, MODEL),
-        bytes_of(rt, alloc, PRECEDENCE),
-        Some(bytes_of(rt, alloc, BLOCKS)),
-        beginning,
-        scripts,
-    )
+    let model = bytes_of(rt, alloc, MODEL);
+    let precedence = bytes_of(rt, alloc, PRECEDENCE);
+    let blocks = Some(bytes_of(rt, alloc, BLOCKS));
+    PlanInput::new(model, precedence, blocks, beginning, scripts)
 }
 
 fn bytes_of(rt: &impl Abort, alloc: Global, text: &[u8]) -> Vec<u8> {
@@ -170,159 +211,11 @@ fn bytes_of(rt: &impl Abort, alloc: Global, text: &[u8]) -> Vec<u8> {
     }
 }
 
-/// In one thread, and a job that is refused counts.
-const STRICT_TURNS: PlanOptions = PlanOptions {
-    retries: 3,
-    is_in_turn: true,
-    is_strict: true,
-};
-
-/// Block 2 takes the place of block 3.
-const SWAP: &[u8] = b"begin
-put 2 1
-clear 3
-commit
-";
-
-/// Block 2 is then worth 30 * 0.909090909091.
-const SWAP_REPORT: &[u8] = b"planner 1 job 1 committed 3 tries 1
-value 37.772727272730000000
-";
-
-/// The entry that stands behind the history then.
-const SWAP_LINE: &[u8] =
-    b"{\"act\":\"commit\",\"job\":1,\"planner\":1,\"reads\":[],\"reply\":{\"committed\":3},\"start\":2,\"writes\":[[2,1],[3,null]]}
-";
-
-#[test]
-fn a_history_is_carried_on(rt: HostRuntime) {
-    let text = bytes_of(&rt, rt.alloc(), HISTORY);
-    assert_swapped(&rt, rt.alloc(), Beginning::history(text));
-}
-
-#[test]
-fn a_history_is_a_schedule(rt: HostRuntime) {
-    let text = bytes_of(&rt, rt.alloc(), HISTORY);
-    assert_swapped(&rt, rt.alloc(), Beginning::schedule(text));
-}
-
-/// A plan goes on behind the history.
-fn assert_swapped<R: Threads + Wait + Abort + Sync>(
-    rt: &R,
-    alloc: Global,
-    beginning: Beginning<Global>,
-) {
-    let input = input_of(rt, alloc, beginning, SWAP);
-    let found = planned(rt, alloc, input, STRICT_TURNS);
-    assert_ended(rt, &found, Status::Fine, b"0 0\n1 0\n2 1\n", SWAP_REPORT);
-    assert!(rt; found.history.strip_prefix(HISTORY) == Some(SWAP_LINE));
-    drop(found);
-}
-
-#[test]
-fn a_history_is_begun(rt: HostRuntime) {
-    let input = input_of(&rt, rt.alloc(), Beginning::no_history(), SCRIPT);
-    let found = planned(&rt, rt.alloc(), input, STRICT_TURNS);
-    assert_ended(&rt, &found, Status::Failed, SOLUTION, NEW_REPORT);
-    assert!(rt; found.history.as_slice() == HISTORY);
-    drop(found);
-}
-
-const NEW_REPORT: &[u8] = b"history new
-planner 1 job 1 committed 1 tries 1
-planner 1 job 2 refused over 0 0 5.000000 4.000000 tries 1
-planner 1 job 3 committed 2 tries 1
-value 15.045454545455000000
-";
-
-#[test]
-fn a_history_is_replayed(rt: HostRuntime) {
-    let legal = b"legal 3 2\nvalue 15.045454545455000000\n";
-    assert_answer(&rt, replayed(rt.alloc(), HISTORY), Status::Fine, legal);
-    assert_answer(
-        &rt,
-        replayed(rt.alloc(), CHANGED),
-        Status::Failed,
-        b"illegal 1\n",
-    );
-}
-
-fn replayed(alloc: Global, history: &[u8]) -> Answered {
-    let mut model = In::new(MODEL);
-    let mut precedence = In::new(PRECEDENCE);
-    let mut history = In::new(history);
-    let mut out = Out::new(Vec::new(alloc));
-    let answer = replay(
-        alloc,
-        alloc,
-        &mut model,
-        &mut precedence,
-        &mut history,
-        &mut out,
-    );
-    (answer, out.into_inner())
-}
-
-#[test]
-fn an_engine_may_have_a_fault(rt: HostRuntime) {
-    let alloc = rt.alloc();
-    let unread = value(alloc, &mut Shut::new(), &mut Shut::new(), &mut Shut::new());
-    assert!(rt; unread == Err(CliFault::CannotRead(Input::Model)));
-    let mut model = In::new(b"".as_slice());
-    let faulty = value(alloc, &mut model, &mut Shut::new(), &mut Shut::new());
-    assert!(rt; faulty == Err(MISSING_KIND));
-    let mut model = In::new(MODEL);
-    let mut solution = In::new(SOLUTION);
-    let unwritten = value(alloc, &mut model, &mut solution, &mut Shut::new());
-    assert!(rt; unwritten == Err(CliFault::CannotWrite));
-}
-
-const MISSING_KIND: CliFault = CliFault::Text {
-    file: Input::Model,
-    error: TextError {
-        line: 1,
-        cause: Cause::MissingHeader(Key::Kind),
-    },
-};
-
-/// Each fault, and the status that the program ends with.
+/// Faults, each with the status that the program ends with.
 const FAULTS: &[(CliFault, u8)] = &[
-    (MISSING_KIND, 2),
-    (
-        CliFault::Script {
-            number: 1,
-            error: ScriptError {
-                line: 1,
-                cause: ScriptCause::Order,
-            },
-        },
-        2,
-    ),
-    (
-        CliFault::Lines {
-            file: Input::History,
-            error: LinesError {
-                line: 1,
-                cause: LinesCause::NotFormat,
-            },
-        },
-        2,
-    ),
     (CliFault::TooLong(Input::Precedence), 2),
-    (
-        CliFault::LimitBelowZero {
-            resource: 0,
-            period: 0,
-        },
-        2,
-    ),
-    (
-        CliFault::Start(BreachLine(Breach::Precedence {
-            block: 2,
-            before: 0,
-        })),
-        2,
-    ),
+    (CliFault::FewCommits { commits: 1 }, 2),
+    (CliFault::Start(BreachLine(BEHIND)), 2),
     (CliFault::PlannerCount, 2),
     (CliFault::CannotRead(Input::Solution), 3),
     (CliFault::CannotWrite, 3),
@@ -339,4 +232,11 @@ fn each_fault_has_its_status(rt: HostRuntime) {
     for (fault, status) in FAULTS {
         assert!(rt; fault.status() == *status);
     }
+    let (file, line, number, place, resource, period) = (Input::History, 1, 1, 1, 0, 0);
+    assert!(rt; CliFault::Illegal { file, place }.status() == 2);
+    assert!(rt; CliFault::LimitBelowZero { resource, period }.status() == 2);
+    let error = LinesError { line, cause: Shape };
+    assert!(rt; CliFault::Lines { file, error }.status() == 2);
+    let error = ScriptError { line, cause: Order };
+    assert!(rt; CliFault::Script { number, error }.status() == 2);
 }

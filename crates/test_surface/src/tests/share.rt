@@ -1,64 +1,73 @@
-//! `pit_share`: two planners of one workspace.
-ghost use Rattle.std.specs.Prelude.{◌≡◌};
+//! `pit_share` and `pit_run`: planners of one workspace, by hand and by scripts in threads of their own.
+ghost use Rattle.std.specs.Prelude.{◌≡◌, All};
 ghost use Rattle.pit_share.specs.declared.blank.TheConstants.{PLANNERS_MAX};
 
-use super::resumed::going_on;
-use super::tiny::tiny;
-use pit_book::{Desk, EntryReply, Reply, Stop};
-use pit_num::NoMemory;
+use super::book::{OVER, resumed};
+use super::tiny::{HISTORY, WORTH, empty_desk, tiny};
+use pit_book::{Desk, Reply, ResumeFault};
+use pit_model::Instance;
+use pit_num::NumError;
+use pit_run::{
+    Gate, InTurnError, Open, Outcome, PlannerRun, Report, RunEnd, RunError, Script, ScriptCause,
+    run, run_in_turn,
+};
 use pit_share::{
-    Blank, CloseError, Closed, OpenError, Planner, PlannerLog, ReadStop, Seat, Session,
-    Transaction, Workspace,
+    Blank, CloseError, OpenError, Planner, PlannerLog, ReadStop, Seat, Session, Transaction,
+    Workspace,
 };
 use pit_tx::WorkError;
 use std::alloc::Global;
 use std::marker::Brand;
 use std::process::Abort;
 use std::sync::Wait;
+use std::sync::atomic::{AtomicU64, Ordering};
+use std::thread::Threads;
 
-/// A desk of the small pit, with no start, that may have two entries.
-fn empty_desk(rt: &impl Abort, alloc: Global) -> Desk<Global> {
-    let answer = Desk::open(alloc, tiny(rt, alloc), &[], 2);
-    answer.ok().expect(rt, "a desk")
-}
-
+/// A desk that goes on from a history of three entries is shared by planners, who may not be too many.
 #[test]
 fn planners_share_a_desk(rt: HostRuntime) {
-    let desk = match shared(&rt, rt.alloc(), empty_desk(&rt, rt.alloc()), 2) {
+    let desk = match resumed(&rt, rt.alloc(), HISTORY, 100) {
         Ok(desk) => desk,
-        Err((_desk, OpenError::PlannerCount)) => panic!(rt; "too many planners"),
+        Err(ResumeFault::NoMemory) => panic!(rt; "no memory"),
+        Err(_) => panic!(rt; "refused"),
+    };
+    assert!(rt; desk.plan().value() == WORTH);
+    let desk = match shared(&rt, rt.alloc(), desk, 65, &[]) {
+        Ok(_) => panic!(rt; "opened"),
+        Err((desk, OpenError::PlannerCount)) => desk,
         Err((_desk, OpenError::NoPlace)) => panic!(rt; "no place"),
         Err((_desk, OpenError::NoMemory)) => panic!(rt; "no memory"),
     };
-    assert!(rt; desk.history().len() == 2);
-    assert!(rt; desk.plan().commits() == 1);
-    drop(desk);
-}
-
-#[test]
-fn planners_may_be_too_many(rt: HostRuntime) {
-    let Err((desk, error)) = shared(&rt, rt.alloc(), empty_desk(&rt, rt.alloc()), 65) else {
-        panic!(rt; "opened");
-    };
-    assert!(rt; error == OpenError::PlannerCount);
-    assert!(rt; desk.max_entries() == 2);
+    let answer = shared(&rt, rt.alloc(), desk, 2, &[]);
+    let desk = answer.ok().expect(&rt, "a desk");
+    assert!(rt; (desk.history().len(), desk.plan().commits()) == (5, 3));
     drop(desk);
 }
 
 /// The desk that a workspace leaves, or the one that comes back where none is opened.
 type Shared = Result<Desk<Global>, (Desk<Global>, OpenError)>;
 
-fn shared<W: Wait + Abort>(rt: &W, alloc: Global, desk: Desk<Global>, planners: u32) -> Shared {
-    play::<Brand, _, _>(rt, rt, alloc, desk, planners, Blank::new())
+/// Planners share a desk: by scripts, one for each, or by hand where there are none.
+fn shared<R: Threads + Wait + Abort + Sync>(
+    rt: &R,
+    alloc: Global,
+    desk: Desk<Global>,
+    planners: u32,
+    scripts: &[Script<Global>],
+) -> Shared
+    requires { All (λ script. script.pit ≡ desk.plan.pit) scripts.now }
+{
+    play::<Brand, _, _>(rt, rt, alloc, desk, planners, Blank::new(), scripts)
 }
 
-fn play<S: Session, R: Wait + Drop, W: Wait + Abort>(
-    rt: &W,
-    own: R,
+fn play<S: Session + Send + Sync, O: Wait + Drop + Send + Sync, R: Threads + Wait + Abort + Sync>(
+    rt: &R,
+    own: O,
     alloc: Global,
     desk: Desk<Global>,
     planners: u32,
     blank: Blank,
+    scripts: &[Script<Global>],
 ) -> Shared
     requires pit { desk.plan.pit ≡ S.instance }
     requires history { desk.history ≡ S.opening }
@@ -67,247 +76,255 @@ fn play<S: Session, R: Wait + Drop, W: Wait + Abort>(
     requires ledger { blank.ledger ≡ S.name }
     requires parts { S.parts ≡ PLANNERS_MAX }
     requires book { blank.book ≡ S.book }
+    requires scripts { All (λ script. script.pit ≡ S.instance) scripts.now }
 {
-    match Workspace::<S, R, _>::open(own, alloc, desk, planners, blank) {
-        Ok((workspace, seats)) => Ok(play_in(rt, alloc, workspace, seats)),
-        Err(refused) => Err(refused),
+    let (workspace, seats) = match Workspace::<S, O, _>::open(own, alloc, desk, planners, blank) {
+        Ok(opened) => opened,
+        Err(refused) => return Err(refused),
+    };
+    if scripts.is_empty() {
+        return Ok(by_hand(rt, alloc, workspace, seats));
     }
+    assert!(rt; scripts.len() == planners as usize);
+    let answer = run(rt, alloc, workspace, seats, scripts, 3, &Open);
+    Ok(desk_of(rt, answer))
 }
 
-fn play_in<S: Session, R: Wait + Drop, W: Wait + Abort>(
+/// No log is there at first.
+fn by_hand<S: Session, R: Wait + Drop, W: Wait + Abort>(
     rt: &W,
     alloc: Global,
     workspace: Workspace<S, R, Global>,
     seats: Vec<Seat<S, Global>>,
 ) -> Desk<Global> {
-    let (first, second) = logs_of(rt, &workspace, seats);
-    assert!(rt; is_log(&first, 1, EntryReply::Withdrawn));
-    assert!(rt; is_log(&second, 2, EntryReply::Committed { number: 1 }));
-    let mut logs = Vec::new(alloc);
-    assert!(rt; logs.push(first).is_ok());
-    let (workspace, mut logs) = unclosed(rt, workspace, logs);
-    assert!(rt; logs.push(second).is_ok());
-    let closed = closed(rt, workspace, logs);
-    assert!(rt; closed.desk().history().len() == 2);
-    closed.into_desk()
-}
-
-/// Whether it is the log of a planner with one item, which was answered so.
-fn is_log<S: Session>(log: &PlannerLog<S, Global>, planner: u32, reply: EntryReply) -> bool {
-    log.planner() == planner
-        && log.items().len() == 1
-        && log.items().iter().all(|entry| entry.reply == reply)
-}
-
-/// Without the log of planner 2 it isn't closed.
-fn unclosed<S: Session, R: Wait + Drop>(
-    rt: &impl Abort,
-    workspace: Workspace<S, R, Global>,
-    logs: Vec<PlannerLog<S, Global>>,
-) -> (Workspace<S, R, Global>, Vec<PlannerLog<S, Global>>) {
+    let workspace = match workspace.close(Vec::new(alloc)) {
+        Err((workspace, _, CloseError::Missing { planner: 1 })) => workspace,
+        _ => panic!(rt; "closed"),
+    };
+    let logs = logs_of(rt, alloc, &workspace, seats);
     match workspace.close(logs) {
-        Ok(_) => panic!(rt; "closed"),
-        Err((workspace, logs, error)) => {
-            assert!(rt; error == CloseError::Missing { planner: 2 });
-            (workspace, logs)
-        }
-    }
-}
-
-fn closed<S: Session, R: Wait + Drop>(
-    rt: &impl Abort,
-    workspace: Workspace<S, R, Global>,
-    logs: Vec<PlannerLog<S, Global>>,
-) -> Closed<Global> {
-    match workspace.close(logs) {
-        Ok(closed) => closed,
-        Err((_, _, CloseError::Missing { planner })) => panic!(rt; "no log of {planner}"),
+        Ok(closed) => closed.into_desk(),
         Err((_, _, CloseError::Differs { planner })) => panic!(rt; "another log of {planner}"),
+        Err(_) => panic!(rt; "a log is missing"),
     }
 }
 
-/// Planner 1 has begun when planner 2 commits.
+/// Planner 1 has begun when planner 2 commits. It begins anew, and gives that up.
 fn logs_of<S: Session, R: Wait + Drop, W: Wait + Abort>(
     rt: &W,
+    alloc: Global,
     workspace: &Workspace<S, R, Global>,
-    seats: Vec<Seat<S, Global>>,
-) -> (PlannerLog<S, Global>, PlannerLog<S, Global>) {
-    let (first, second) = two_of(rt, seats);
-    let transaction = begun(rt, first.sit(workspace), 1, 0);
-    let second = after_commit(rt, second.sit(workspace));
-    let first = after_abort(rt, after_read(rt, transaction));
-    let second = after_stop(rt, second);
-    (first.finish(), second.finish())
-}
-
-fn two_of<S: Session>(
-    rt: &impl Abort,
     mut seats: Vec<Seat<S, Global>>,
-) -> (Seat<S, Global>, Seat<S, Global>) {
-    assert!(rt; seats.len() == 2);
-    let second = seats.pop().expect(rt, "a seat");
-    let first = seats.pop().expect(rt, "a seat");
+) -> Vec<PlannerLog<S, Global>> {
+    let second = seats.pop().expect(rt, "a seat").sit(workspace);
+    let first = seats.pop().expect(rt, "a seat").sit(workspace);
     drop(seats);
-    (first, second)
+    let first = first.begin(1).ok().expect(rt, "memory");
+    let second = after_commit(rt, second);
+    let first = after_abort(rt, first).begin(2).ok().expect(rt, "memory");
+    let first = first.abandon();
+    let mut logs = Vec::new(alloc);
+    assert!(rt; logs.push(first.finish()).is_ok());
+    assert!(rt; logs.push(second.finish()).is_ok());
+    assert!(rt;
+        logs.iter()
+            .all(|log| log.planner() <= 2 && log.items().len() == 1)
+    );
+    logs
 }
 
-/// Begins a transaction, which sees so many commits.
-fn begun<'a, S: Session, R: Wait + Drop>(
-    rt: &impl Abort,
-    planner: Planner<'a, S, R, Global>,
-    job: u32,
-    start: u32,
-) -> Transaction<'a, S, R, Global> {
-    match planner.begin(job) {
-        Ok(transaction) => {
-            assert!(rt; transaction.start() == start);
-            transaction
-        }
-        Err((_planner, NoMemory)) => panic!(rt; "no memory"),
-    }
-}
-
-/// Planner 2 puts block 3 into period 1.
+/// Planner 2 reads block 3, and puts block 2 in its place.
 fn after_commit<'a, S: Session, R: Wait + Drop, W: Wait + Abort>(
     rt: &W,
     planner: Planner<'a, S, R, Global>,
 ) -> Planner<'a, S, R, Global> {
     assert!(rt; planner.number() == 2);
-    let mut transaction = begun(rt, planner, 1, 0);
-    assert!(rt; transaction.put(3, 1) == Ok(()));
+    let mut transaction = planner.begin(1).ok().expect(rt, "memory");
+    assert!(rt; (transaction.start(), transaction.read(3)) == (2, Ok(Some(1))));
+    assert!(rt; is_filled(&mut transaction));
     match transaction.commit(rt) {
         Ok((planner, reply)) => {
-            assert!(rt; reply == Reply::Committed { number: 1 });
+            assert!(rt; reply == Reply::Committed { number: 3 });
             planner
         }
         Err((transaction, _)) => transaction.abandon(),
     }
 }
 
-/// Planner 1 can't read block 3 any more, and gives the transaction up.
-fn after_read<'a, S: Session, R: Wait + Drop>(
-    rt: &impl Abort,
+fn is_filled<S: Session, R: Wait + Drop>(transaction: &mut Transaction<'_, S, R, Global>) -> bool {
+    transaction.put(4, 0) == Err(WorkError::NoBlock)
+        && transaction.put(2, 1) == Ok(())
+        && transaction.clear(3) == Ok(())
+        && transaction.reads() == [(3, Some(1))].as_slice()
+        && transaction.writes() == [(2, Some(1)), (3, None)].as_slice()
+}
+
+/// Planner 1 can't read block 3 any more, and withdraws.
+fn after_abort<'a, S: Session, R: Wait + Drop, W: Wait + Abort>(
+    rt: &W,
     mut transaction: Transaction<'a, S, R, Global>,
 ) -> Planner<'a, S, R, Global> {
     assert!(rt; transaction.read(4) == Err(ReadStop::NoBlock));
-    assert!(rt; transaction.read(3) == Err(MOVED));
-    transaction.abandon()
-}
-
-const MOVED: ReadStop = ReadStop::Moved {
-    block: 3,
-    version: 1,
-};
-
-/// It begins anew, reads block 3, and thinks better of it.
-fn after_abort<'a, S: Session, R: Wait + Drop, W: Wait + Abort>(
-    rt: &W,
-    planner: Planner<'a, S, R, Global>,
-) -> Planner<'a, S, R, Global> {
-    let mut transaction = begun(rt, planner, 2, 1);
-    assert!(rt; found(rt, transaction.read(3)) == Some(1));
-    assert!(rt; transaction.put(4, 0) == Err(WorkError::NoBlock));
-    assert!(rt; transaction.put(0, 0) == Ok(()));
-    assert!(rt; transaction.clear(3) == Ok(()));
-    assert!(rt; transaction.reads() == [(3, Some(1))].as_slice());
-    assert!(rt; transaction.writes() == [(0, Some(0)), (3, None)].as_slice());
+    match transaction.read(3) {
+        Err(ReadStop::Moved { block, version }) => assert!(rt; (block, version) == (3, 3)),
+        Err(ReadStop::NoEntry) => panic!(rt; "no entry"),
+        Err(ReadStop::NoMemory) => panic!(rt; "no memory"),
+        _ => panic!(rt; "read"),
+    }
     match transaction.abort(rt) {
         Ok(planner) => planner,
         Err((transaction, _)) => transaction.abandon(),
     }
 }
 
-fn found(rt: &impl Abort, answer: Result<Option<u32>, ReadStop>) -> Option<u32> {
-    match answer {
-        Ok(period) => period,
-        Err(ReadStop::NoBlock) => panic!(rt; "no block"),
-        Err(ReadStop::NoEntry) => panic!(rt; "no entry"),
-        Err(ReadStop::Moved { .. }) => panic!(rt; "moved"),
-        Err(ReadStop::NoMemory) => panic!(rt; "no memory"),
-    }
-}
+/// Puts blocks 0 and 1 into period 0, then block 3, which is too much, and thinks better of putting that into period 1.
+const SCRIPT: &[u8] =
+    b"begin\nput 0 0\nput 1 0\ncommit\nbegin\nput 3 0\ncommit\nbegin\nput 3 1\nabort\n";
 
-/// The history has both entries that it may have.
-fn after_stop<'a, S: Session, R: Wait + Drop, W: Wait + Abort>(
-    rt: &W,
-    planner: Planner<'a, S, R, Global>,
-) -> Planner<'a, S, R, Global> {
-    match begun(rt, planner, 2, 1).commit(rt) {
-        Ok(_) => panic!(rt; "answered"),
-        Err((transaction, stop)) => {
-            assert!(rt; stop == Stop::Full);
-            transaction.abandon()
-        }
-    }
-}
-
-/// A planner of a desk that goes on from a history sees what that leaves.
 #[test]
-fn planners_go_on(rt: HostRuntime) {
-    let desk = looked_at(&rt, rt.alloc(), going_on(&rt, rt.alloc(), 4), 1);
-    assert!(rt; desk.history().len() == 3);
+fn a_planner_does_its_script(rt: HostRuntime) {
+    let desk = empty_desk(&rt, rt.alloc(), 100);
+    let script = script_of(&rt, rt.alloc(), desk.plan().instance());
+    assert!(rt; script.jobs() == 3);
+    let scripts = [script];
+    let answer = shared(&rt, rt.alloc(), desk, 1, &scripts);
+    drop(scripts);
+    let desk = answer.ok().expect(&rt, "a desk");
+    assert!(rt; (desk.history().len(), desk.plan().commits()) == (3, 1));
     drop(desk);
 }
 
-fn looked_at<W: Wait + Abort>(
-    rt: &W,
-    alloc: Global,
-    desk: Desk<Global>,
-    planners: u32,
-) -> Desk<Global> {
-    look::<Brand, _, _>(rt, rt, alloc, desk, planners, Blank::new())
-}
-
-fn look<S: Session, R: Wait + Drop, W: Wait + Abort>(
-    rt: &W,
-    own: R,
-    alloc: Global,
-    desk: Desk<Global>,
-    planners: u32,
-    blank: Blank,
-) -> Desk<Global>
-    requires pit { desk.plan.pit ≡ S.instance }
-    requires history { desk.history ≡ S.opening }
-    requires limit { desk.max_entries ≡ S.max_entries }
-    requires planners { planners ≡ S.planners }
-    requires ledger { blank.ledger ≡ S.name }
-    requires parts { S.parts ≡ PLANNERS_MAX }
-    requires book { blank.book ≡ S.book }
+fn script_of(rt: &impl Abort, alloc: Global, pit: &Instance<Global>) -> Script<Global>
+    ensures { result.pit ≡ pit.now }
 {
-    match Workspace::<S, R, _>::open(own, alloc, desk, planners, blank) {
-        Ok((workspace, seats)) => look_in(rt, alloc, workspace, seats),
-        Err(_) => panic!(rt; "no workspace"),
+    match Script::parse(alloc, SCRIPT, pit) {
+        Ok(script) => script,
+        Err(_) => panic!(rt; "no script"),
     }
 }
 
-fn look_in<S: Session, R: Wait + Drop>(
+/// The desk that a run of the script leaves.
+fn desk_of<S: Session, R: Wait + Drop>(
     rt: &impl Abort,
-    alloc: Global,
-    workspace: Workspace<S, R, Global>,
-    seats: Vec<Seat<S, Global>>,
+    answer: Result<Report<Global>, RunError<S, R, Global>>,
 ) -> Desk<Global> {
-    let log = log_of(rt, &workspace, seats);
-    let mut logs = Vec::new(alloc);
-    assert!(rt; logs.push(log).is_ok());
-    closed(rt, workspace, logs).into_desk()
+    let Report { closed, runs } = match answer {
+        Ok(report) => report,
+        Err(
+            RunError::NoMemory {
+                workspace: _,
+                seats: _,
+            },
+        ) => panic!(rt; "no memory"),
+        Err(
+            RunError::NotClosed {
+                workspace: _,
+                logs: _,
+                cause: _,
+            },
+        ) => panic!(rt; "not closed"),
+    };
+    assert!(rt; is_run(runs.first(), 3, ("whole", 0)));
+    drop(runs);
+    closed.into_desk()
 }
 
-/// The log of one planner, who reads block 3 and gives the transaction up.
-fn log_of<S: Session, R: Wait + Drop>(
-    rt: &impl Abort,
-    workspace: &Workspace<S, R, Global>,
-    mut seats: Vec<Seat<S, Global>>,
-) -> PlannerLog<S, Global> {
-    let seat = seats.pop().expect(rt, "a seat");
-    drop(seats);
-    let transaction = begun(rt, seat.sit(workspace), 1, 2);
-    after_look(rt, transaction).finish()
+/// Whether planner 1 did so many jobs of the script, and how its run ended.
+fn is_run(run: Option<&PlannerRun<Global>>, count: usize, end: (&str, u32)) -> bool {
+    let Some(run) = run else {
+        return false;
+    };
+    let (refusal, tries) = (OVER, 1);
+    let jobs = [
+        Outcome::Committed { number: 1, tries },
+        Outcome::Refused { refusal, tries },
+        Outcome::Withdrawn { tries },
+    ];
+    run.planner() == 1 && Some(run.jobs()) == jobs.get(..count) && end_of(run.ended()) == end
 }
 
-fn after_look<'a, S: Session, R: Wait + Drop>(
-    rt: &impl Abort,
-    mut transaction: Transaction<'a, S, R, Global>,
-) -> Planner<'a, S, R, Global> {
-    assert!(rt; found(rt, transaction.read(3)) == Some(1));
-    transaction.abandon()
+/// How a run ended, and before which job.
+fn end_of(end: RunEnd) -> (&'static str, u32) {
+    match end {
+        RunEnd::Whole => ("whole", 0),
+        RunEnd::Full { job } => ("full", job),
+        RunEnd::NoMemory { job } => ("no memory", job),
+        RunEnd::NoEntry { job } => ("no entry", job),
+        RunEnd::NoThread => ("no thread", 1),
+    }
+}
+
+/// Counts each commit by one before it, and by ten after it.
+#[derive(Drop)]
+struct Counting(AtomicU64);
+
+impl Gate for Counting {
+    fn before_commit(&self, planner: u32, _job: u32) {
+        self.0.fetch_add(u64::from(planner), Ordering::SeqCst);
+    }
+
+    fn after_commit(&self, _planner: u32, _job: u32) {
+        self.0.fetch_add(10, Ordering::SeqCst);
+    }
+}
+
+/// A planner stops where the history has the two entries that it may have.
+#[test]
+fn planners_take_turns(rt: HostRuntime) {
+    let gate = Counting(AtomicU64::new(0));
+    let desk = empty_desk(&rt, rt.alloc(), 2);
+    let scripts = [script_of(&rt, rt.alloc(), desk.plan().instance())];
+    let answer = run_in_turn(&rt, rt.alloc(), desk, &scripts, 3, &gate);
+    drop(scripts);
+    let report = answer.ok().expect(&rt, "a report");
+    assert!(rt; report.closed.desk().history().len() == 2);
+    assert!(rt; is_run(report.runs.first(), 2, ("full", 3)));
+    drop(report);
+    assert!(rt; gate.0.load(Ordering::SeqCst) == 22);
+}
+
+#[test]
+fn planners_who_take_turns_may_be_none(rt: HostRuntime) {
+    let desk = empty_desk(&rt, rt.alloc(), 100);
+    match run_in_turn(&rt, rt.alloc(), desk, &[], 3, &Open) {
+        Ok(_) => panic!(rt; "a report"),
+        Err(InTurnError::PlannerCount) => {}
+        Err(InTurnError::NoPlace) => panic!(rt; "no place"),
+        Err(InTurnError::NoMemory) => panic!(rt; "no memory"),
+        Err(InTurnError::NotClosed { planner, .. }) => panic!(rt; "not closed by {planner}"),
+    }
+}
+
+/// Scripts, the line of the first fault, and its cause.
+const FAULTY: &[(&[u8], u64, ScriptCause)] = &[
+    (b"\xff\n", 1, ScriptCause::NotAscii),
+    (b"dig 0\n", 1, ScriptCause::UnknownWord),
+    (b"begin 1\n", 1, ScriptCause::FieldCount),
+    (b"begin\nread x\n", 2, MALFORMED),
+    (b"begin\nread 4\n", 2, ScriptCause::BlockRange),
+    (b"begin\nrevise 1 0 4\n", 2, ScriptCause::ResourceRange),
+    (b"begin\nput 0 2\n", 2, ScriptCause::PeriodRange),
+    (b"put 0 0\n", 1, ScriptCause::Order),
+    (b"begin\nbench 7 0\n", 2, ScriptCause::NoBench),
+    (b"begin\n", 2, ScriptCause::Unended),
+];
+
+const MALFORMED: ScriptCause = ScriptCause::BadNumber(NumError::Malformed);
+
+#[test]
+fn a_script_may_have_a_fault(rt: HostRuntime) {
+    let pit = tiny(&rt, rt.alloc());
+    assert_faults(&rt, rt.alloc(), &pit);
+    drop(pit);
+}
+
+fn assert_faults(rt: &impl Abort, alloc: Global, pit: &Instance<Global>) {
+    for (text, line, cause) in FAULTY {
+        match Script::parse(alloc, text, pit) {
+            Ok(_) => panic!(rt; "no fault"),
+            Err(error) if error.cause == ScriptCause::JobCount => panic!(rt; "many jobs"),
+            Err(error) if error.cause == ScriptCause::NoMemory => panic!(rt; "no memory"),
+            Err(error) => assert!(rt; (error.line, error.cause) == (*line, *cause)),
+        }
+    }
 }

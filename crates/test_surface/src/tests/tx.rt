@@ -4,49 +4,54 @@ use pit_tx::{Work, WorkError};
 use std::alloc::Global;
 use std::process::Abort;
 
-/// Planner 2's job 7, which has seen 3 commits, on four blocks, two periods and one resource.
-fn new_work(rt: &impl Abort, alloc: Global) -> Work<Global> {
-    match Work::new(alloc, 2, 7, 3, 4, 2, 1) {
-        Ok(work) => work,
-        Err(NoMemory) => panic!(rt; "no memory"),
-    }
-}
+/// A block, with its period or none.
+pub(super) type Pair = (u32, Option<u32>);
 
 #[test]
 fn a_work_keeps_first_reads_and_last_writes(rt: HostRuntime) {
-    let mut work = new_work(&rt, rt.alloc());
-    assert_new(&rt, &work);
-    assert_changed(&rt, &mut work);
-    assert!(rt; work.reads() == [(3, Some(1))].as_slice());
-    assert!(rt; work.writes() == [(2, Some(1)), (3, None)].as_slice());
+    let reads = [(3, Some(1)), (3, None)];
+    let writes = [(2, Some(0)), (3, None), (2, Some(1))];
+    let mut work = work_of(&rt, rt.alloc(), (7, &reads, 3, &writes));
+    assert_filled(&rt, &mut work);
     drop(work);
 }
 
-fn assert_new(rt: &impl Abort, work: &Work<Global>) {
-    assert!(rt; work.planner() == 2);
-    assert!(rt; work.job() == 7);
-    assert!(rt; work.start() == 3);
-    assert!(rt; work.blocks() == 4);
-    assert!(rt; work.periods() == 2);
-    assert!(rt; work.known(3) == None);
-}
+/// A job, what it has read after so many commits, and what it writes.
+pub(super) type Call<'a> = (u32, &'a [Pair], u32, &'a [Pair]);
 
-fn assert_changed(rt: &impl Abort, work: &mut Work<Global>) {
-    assert_done(rt, work.note(3, Some(1)));
-    assert_done(rt, work.note(3, None));
-    assert!(rt; work.known(3) == Some(Some(1)));
-    assert_done(rt, work.put(2, 0));
-    assert_done(rt, work.clear(3));
-    assert_done(rt, work.put(2, 1));
-    assert!(rt; work.known(3) == Some(None));
-    assert!(rt; work.put(4, 0) == Err(WorkError::NoBlock));
-    assert!(rt; work.put(3, 2) == Err(WorkError::NoPeriod));
-}
-
-fn assert_done(rt: &impl Abort, answer: Result<(), WorkError>) {
-    match answer {
-        Ok(()) => {}
+/// What planner 1 does for a job, on four blocks, two periods and one resource.
+pub(super) fn work_of(rt: &impl Abort, alloc: Global, call: Call<'_>) -> Work<Global> {
+    let (job, reads, start, writes) = call;
+    let mut work = match Work::new(alloc, 1, job, start, 4, 2, 1) {
+        Ok(work) => work,
+        Err(NoMemory) => panic!(rt; "no memory"),
+    };
+    match filled(&mut work, reads, writes) {
+        Ok(()) => work,
         Err(WorkError::NoMemory) => panic!(rt; "no memory"),
         Err(_) => panic!(rt; "refused"),
     }
+}
+
+fn filled(work: &mut Work<Global>, reads: &[Pair], writes: &[Pair]) -> Result<(), WorkError> {
+    for (block, period) in reads {
+        work.note(*block, *period)?;
+    }
+    for (block, period) in writes {
+        match period {
+            Some(t) => work.put(*block, *t)?,
+            None => work.clear(*block)?,
+        }
+    }
+    Ok(())
+}
+
+fn assert_filled(rt: &impl Abort, work: &mut Work<Global>) {
+    assert!(rt; (work.planner(), work.job(), work.start()) == (1, 7, 3));
+    assert!(rt; (work.blocks(), work.periods()) == (4, 2));
+    assert!(rt; (work.known(0), work.known(3)) == (None, Some(None)));
+    assert!(rt; work.put(4, 0) == Err(WorkError::NoBlock));
+    assert!(rt; work.put(3, 2) == Err(WorkError::NoPeriod));
+    assert!(rt; work.reads() == [(3, Some(1))].as_slice());
+    assert!(rt; work.writes() == [(2, Some(1)), (3, None)].as_slice());
 }
