@@ -14,6 +14,7 @@ mod threads;
 
 use pit_desk::{Desk, Entry, audit};
 use pit_model::Instance;
+use pit_plan::Plan;
 use pit_plan_sample::Reading;
 use pit_sample::{Size, TINY, TINY_SIZE, built};
 use std::alloc::{Allocator, Global};
@@ -54,12 +55,15 @@ fn audited<A: Allocator + Copy + Drop>(
     history: &[Entry<A>],
 ) -> Option<Reading> {
     let pit = tiny(rt, alloc);
-    let None = pit.unmeetable() else {
-        panic!(rt; "unmeetable");
-    };
+    assert!(rt; pit.unmeetable().is_none());
     assert!(rt; history.len() < 1_000_000);
-    let answer = audit(alloc, pit, history);
-    let plan = answer.ok().expect(rt, "a legal history");
+    match audit(alloc, pit, history) {
+        Ok(plan) => reading(plan),
+        Err(_) => panic!(rt; "not legal"),
+    }
+}
+
+fn reading(plan: Plan<Global>) -> Option<Reading> {
     let reading = Reading::of(&plan);
     drop(plan);
     reading

@@ -59,7 +59,7 @@ pub(super) fn has_refused<W: Wait + Abort>(
 }
 
 /// The heap of a hall, which is its allocator too, and calm memory for all else.
-#[derive(Clone, Copy)]
+#[derive(Drop)]
 struct Stage<'a, R: Wait + Abort + Copy + Drop, A: Allocator + Copy + Drop> {
     rt: R,
     heap: &'a Heap,

@@ -2,10 +2,15 @@
 use super::desk_of;
 use super::playing::{Stage, heap_of};
 use super::steps::{Answer, Doing, FIRST, SECOND, Step, are_entries};
-use super::threads::{NO_JOBS, shared};
+use super::threads::shared;
 use Answer::{Done, Start};
 use Step::{Begin, Commit, Put};
+use pit_desk::Desk;
 use pit_share::{OpenError, PLANNERS_MAX};
+use std::alloc::Global;
+use std::process::Abort;
+use std::sync::Wait;
+use std::thread::Threads;
 
 /// A number of planners that is refused, and one that isn't.
 const NUMBERS: &[(u32, u32)] = &[(0, 1), (PLANNERS_MAX + 1, 2), (u32::MAX, PLANNERS_MAX)];
@@ -14,16 +19,28 @@ const NUMBERS: &[(u32, u32)] = &[(0, 1), (PLANNERS_MAX + 1, 2), (u32::MAX, PLANN
 #[test]
 fn seats_1_to_64_planners(rt: HostRuntime) {
     for (refused, fine) in NUMBERS {
-        let desk = desk_of(&rt, rt.alloc(), false, 100);
-        let Err((desk, error)) = shared(&rt, rt.alloc(), desk, *refused, NO_JOBS) else {
-            panic!(rt; "opened for {refused}");
-        };
-        assert!(rt; error == OpenError::PlannerCount, "for {refused}");
-        let answer = shared(&rt, rt.alloc(), desk, *fine, NO_JOBS);
-        let desk = answer.ok().expect(&rt, "a workspace");
-        assert!(rt; desk.history().is_empty(), "of {fine}");
-        drop(desk);
+        seat(&rt, rt.alloc(), *refused, *fine);
     }
+}
+
+fn seat<R: Threads + Wait + Abort + Sync>(rt: &R, alloc: Global, refused: u32, fine: u32) {
+    let desk = desk_of(rt, alloc, false, 100);
+    match shared(rt, alloc, desk, refused, 0, 0) {
+        Err((desk, OpenError::PlannerCount)) => seat_all(rt, alloc, desk, fine),
+        _ => panic!(rt; "not refused"),
+    }
+}
+
+fn seat_all<R: Threads + Wait + Abort + Sync>(
+    rt: &R,
+    alloc: Global,
+    desk: Desk<Global>,
+    planners: u32,
+) {
+    let answer = shared(rt, alloc, desk, planners, 0, 0);
+    let desk = answer.ok().expect(rt, "a workspace");
+    assert!(rt; desk.history().is_empty());
+    drop(desk);
 }
 
 /// What is done in two workspaces, one behind the other, and the value after each in units of 10^-18.
@@ -37,7 +54,7 @@ const SESSIONS: &[(&[Doing], i128)] = &[
         ],
         4_545_454_545_455_000_000,
     ),
-    // Block 0 in period 0. It is worth -10.
+    // Block 0 in period 0 too. It is worth -10.
     (
         &[
             (1, Begin(7), Start(1)),

@@ -194,7 +194,7 @@ fn refuse_each<W: Wait + Abort>(
     let last = asked_by(rt, alloc, doings, doings.len());
     for number in first..last {
         let count = count_of(rt, alloc, number, Row { doings, ..ROW });
-        assert!(rt; count.has_refused(), "request {number}");
+        assert!(rt; count.has_refused());
     }
-    assert!(rt; first.saturating_add(least) < last, "too few requests");
+    assert!(rt; first.saturating_add(least) < last);
 }

@@ -27,44 +27,31 @@ pub(super) fn left<'a, S: Session, R: Wait + Drop, A: Allocator + Copy + Drop>(
 }
 
 impl<'a, R: Wait + Abort + Copy + Drop, A: Allocator + Copy + Drop> Stage<'a, R, A> {
-    /// Where a planner is after a step, which is answered so. Where memory is refused, the step is made again, and finds all as it was.
+    /// Where a planner is after a step, and whether it was done.
     pub(super) fn after<'w, S: Session>(
         &self,
         place: Place<'w, S, R, A>,
         doing: Doing,
-    ) -> Place<'w, S, R, A> {
-        let (_, step, due) = doing;
-        let before = (self.heap.count(), self.seen_at(&place, step));
-        let (place, answer) = tried(&self.rt, place, step);
-        if answer == Answer::NoMemory {
-            self.assert_same(before, self.seen_at(&place, step));
-            return self.after_refusal(place, doing);
-        }
-        self.assert_so(answer == due && self.is_fine(step, before.0));
-        place
-    }
-
-    fn after_refusal<'w, S: Session>(
-        &self,
-        place: Place<'w, S, R, A>,
-        doing: Doing,
-    ) -> Place<'w, S, R, A> {
+    ) -> (Place<'w, S, R, A>, bool) {
+        let before = (self.heap.count(), self.seen_at(&place, doing.1));
         let (place, answer) = tried(&self.rt, place, doing.1);
-        self.assert_so(answer == doing.2);
-        place
+        let seen = self.seen_at(&place, doing.1);
+        (place, self.is_done(doing, answer, before, seen))
     }
 
-    /// No request was made by what takes no memory.
-    fn is_fine(&self, step: Step, before: Count) -> bool {
-        !matches!(step, Step::Abandon) || self.heap.count() == before
+    /// Whether there was memory for a step, which is answered so then. Else all is as it was. Giving up takes no memory.
+    fn is_done(&self, doing: Doing, answer: Answer, before: (Count, Seen), seen: Seen) -> bool {
+        if answer == Answer::NoMemory {
+            self.assert_same(before, seen);
+            return false;
+        }
+        self.assert_so(answer == doing.2);
+        self.assert_so(!matches!(doing.1, Step::Abandon) || self.heap.count() == before.0);
+        true
     }
 
     /// What is held, but of the endings, which may have taken memory; and the planner's number, or what its transaction has.
-    fn seen_at<'w, S: Session>(
-        &self,
-        place: &Place<'w, S, R, A>,
-        step: Step,
-    ) -> (usize, Result<Sets, u32>) {
+    fn seen_at<'w, S: Session>(&self, place: &Place<'w, S, R, A>, step: Step) -> Seen {
         let used = match step {
             Step::Commit | Step::Withdraw => 0,
             _ => self.heap.used(),
@@ -75,6 +62,8 @@ impl<'a, R: Wait + Abort + Copy + Drop, A: Allocator + Copy + Drop> Stage<'a, R,
         }
     }
 }
+
+type Seen = (usize, Result<Sets, u32>);
 
 /// The first four of a list. The small pit has room for no more.
 type Four<T> = (Option<T>, Option<T>, Option<T>, Option<T>);

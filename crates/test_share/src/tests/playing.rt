@@ -45,7 +45,7 @@ pub(super) fn count_of<W: Wait + Abort>(rt: &W, plain: Global, number: u64, row:
 }
 
 /// A heap, which is the allocator too, and the name of the row that is played on it. What is only for comparing has plain memory.
-#[derive(Clone, Copy)]
+#[derive(Drop)]
 pub(super) struct Stage<'a, R: Wait + Abort + Copy + Drop, A: Allocator + Copy + Drop> {
     pub(super) rt: R,
     pub(super) plain: Global,
@@ -149,11 +149,9 @@ impl<'a, R: Wait + Abort + Copy + Drop, A: Allocator + Copy + Drop> Stage<'a, R,
         doings: &[Doing],
     ) -> Logs<S, A> {
         let before = self.heap.count();
-        let mut places = self.seated(workspace, seats);
+        let places = self.seated(workspace, seats);
         self.assert_so(self.heap.count() == before);
-        for doing in doings {
-            places = self.play_one(places, *doing);
-        }
+        let places = self.play_all(places, doings);
         let before = self.heap.count();
         let logs = (left(places.0).finish(), left(places.1).finish());
         self.assert_so(self.heap.count() == before);
@@ -174,16 +172,36 @@ impl<'a, R: Wait + Abort + Copy + Drop, A: Allocator + Copy + Drop> Stage<'a, R,
         )
     }
 
+    /// Does these, and again what was not done for want of memory, which is once at most.
+    fn play_all<'w, S: Session>(
+        &self,
+        mut places: Places<'w, S, R, A>,
+        doings: &[Doing],
+    ) -> Places<'w, S, R, A> {
+        let mut at: usize = 0;
+        for _ in 0..=doings.len() {
+            if let Some(doing) = doings.get(at) {
+                let (now, is_done) = self.play_one(places, *doing);
+                places = now;
+                at = at.wrapping_add(usize::from(is_done));
+            }
+        }
+        self.assert_so(at == doings.len());
+        places
+    }
+
     fn play_one<'w, S: Session>(
         &self,
         places: Places<'w, S, R, A>,
         doing: Doing,
-    ) -> Places<'w, S, R, A> {
+    ) -> (Places<'w, S, R, A>, bool) {
         let (first, second) = places;
-        match doing.0 {
-            1 => (self.after(first, doing), second),
-            _ => (first, self.after(second, doing)),
+        if doing.0 == 1 {
+            let (first, is_done) = self.after(first, doing);
+            return ((first, second), is_done);
         }
+        let (second, is_done) = self.after(second, doing);
+        ((first, second), is_done)
     }
 
     /// An empty list with room for two logs. What is given here is not counted among the calls of a workspace.
@@ -203,13 +221,22 @@ impl<'a, R: Wait + Abort + Copy + Drop, A: Allocator + Copy + Drop> Stage<'a, R,
     ) -> Desk<A> {
         let (first, second) = logs;
         self.assert_so(room.push(first).is_ok());
-        match workspace.close(room) {
+        let (workspace, mut logs) = self.unclosed(workspace, room);
+        self.assert_so(logs.push(second).is_ok());
+        logs.reverse();
+        closed(&self.rt, workspace, logs)
+    }
+
+    fn unclosed<S: Session>(
+        &self,
+        workspace: Workspace<S, R, A>,
+        logs: Vec<PlannerLog<S, A>, A>,
+    ) -> (Workspace<S, R, A>, Vec<PlannerLog<S, A>, A>) {
+        match workspace.close(logs) {
             Ok(_) => panic!(self.rt; "closed by one log"),
-            Err((workspace, mut logs, error)) => {
+            Err((workspace, logs, error)) => {
                 self.assert_so(error == CloseError::Missing { planner: 2 } && logs.len() == 1);
-                self.assert_so(logs.push(second).is_ok());
-                logs.reverse();
-                closed(&self.rt, workspace, logs)
+                (workspace, logs)
             }
         }
     }

@@ -23,11 +23,11 @@ const PLANNERS: &[u32] = &[2, 4, 16];
 /// The seeds, each of one workspace.
 const SEEDS: u32 = 20;
 
-/// The transactions of each planner.
-const JOBS: u32 = 20;
+/// The steps of each planner, seven of which are a whole transaction.
+const STEPS: u32 = 7 * 20;
 
 /// The entries that the desk may have: the opening one, and one for each transaction.
-const ENTRIES: u32 = 1 + 16 * JOBS;
+const ENTRIES: u32 = 1 + 16 * 20;
 
 /// The history is legal, each log is in it, and each read is of the schedule after the transaction's start.
 #[test]
@@ -40,7 +40,7 @@ fn planners_share_one_schedule(rt: HostRuntime) {
 fn play_seeds<R: Threads + Wait + Abort + Sync>(rt: &R, alloc: Global, planners: u32) {
     for seed in 0..SEEDS {
         let desk = desk_of(rt, alloc, true, ENTRIES);
-        let answer = shared(rt, alloc, desk, planners, Task { seed, jobs: JOBS });
+        let answer = shared(rt, alloc, desk, planners, seed, STEPS);
         let desk = answer.ok().expect(rt, "a workspace");
         assert_legal(rt, alloc, &desk);
         assert!(rt; has_snapshots(desk.history()));
@@ -49,24 +49,16 @@ fn play_seeds<R: Threads + Wait + Abort + Sync>(rt: &R, alloc: Global, planners:
     }
 }
 
-/// What each planner draws its transactions from, and how many they are.
-#[derive(Clone, Copy)]
-pub(super) struct Task {
-    seed: u32,
-    jobs: u32,
-}
-
-pub(super) const NO_JOBS: Task = Task { seed: 0, jobs: 0 };
-
-/// What so many planners leave, each in a thread of its own.
+/// What so many planners leave, each in a thread of its own, who draw so many steps.
 pub(super) fn shared<R: Threads + Wait + Abort + Sync>(
     rt: &R,
     alloc: Global,
     desk: Desk<Global>,
     planners: u32,
-    task: Task,
+    seed: u32,
+    steps: u32,
 ) -> Left<Global> {
-    play::<Brand, _, _>(rt, rt, alloc, desk, planners, Blank::new(), task)
+    play::<Brand, _, _>(rt, rt, alloc, desk, planners, Blank::new(), seed, steps)
 }
 
 fn play<S: Session + Send + Sync, O: Wait + Drop + Send + Sync, R: Threads + Wait + Abort + Sync>(
@@ -76,7 +68,8 @@ fn play<S: Session + Send + Sync, O: Wait + Drop + Send + Sync, R: Threads + Wai
     desk: Desk<Global>,
     planners: u32,
     blank: Blank,
-    task: Task,
+    seed: u32,
+    steps: u32,
 ) -> Left<Global>
     requires pit { desk.plan.pit ≡ S.instance }
     requires history { desk.history ≡ S.opening }
@@ -88,7 +81,7 @@ fn play<S: Session + Send + Sync, O: Wait + Drop + Send + Sync, R: Threads + Wai
 {
     match Workspace::<S, O, _>::open(own, alloc, desk, planners, blank) {
         Ok((workspace, seats)) => {
-            let logs = logs_of(rt, &workspace, seats, task).expect(rt, "memory");
+            let logs = logs_of(rt, &workspace, seats, seed, steps).expect(rt, "memory");
             Ok(closed(rt, workspace, logs))
         }
         Err(refused) => Err(refused),
@@ -103,60 +96,59 @@ fn logs_of<
     rt: &R,
     workspace: &Workspace<S, O, Global>,
     seats: Vec<Seat<S, Global>, Global>,
-    task: Task,
+    seed: u32,
+    steps: u32,
 ) -> Result<Vec<PlannerLog<S, Global>, Global>, AllocError> {
-    thread::map_vec(rt, seats, &|seat| log_of(rt, workspace, seat, task))
+    thread::map_vec(rt, seats, &|seat| log_of(rt, workspace, seat, seed, steps))
 }
 
 fn log_of<S: Session, O: Wait + Drop, R: Wait + Abort>(
     rt: &R,
     workspace: &Workspace<S, O, Global>,
     seat: Seat<S, Global>,
-    task: Task,
+    seed: u32,
+    steps: u32,
 ) -> PlannerLog<S, Global> {
     let planner = seat.sit(workspace);
-    let mut series = Series::new(task.seed.wrapping_mul(64).wrapping_add(planner.number()));
+    let mut series = Series::new(seed.wrapping_mul(64).wrapping_add(planner.number()));
     let mut place = Place::Between(planner);
-    for job in 0..task.jobs {
-        place = after_job(rt, place, job, &mut series);
+    let mut turn: u32 = 0;
+    for step in 0..steps {
+        let (now, answer) = tried(rt, place, drawn(step, turn, &mut series));
+        place = now;
+        assert!(rt; is_answer(answer));
+        turn = turn_after(turn, answer);
+        thread::yield_now();
     }
     left(place).finish()
 }
 
-/// A transaction that reads, writes, revises and ends as is drawn, or is given up where a block can't be read.
-fn after_job<'a, S: Session, O: Wait + Drop, R: Wait + Abort>(
-    rt: &R,
-    mut place: Place<'a, S, O, Global>,
-    job: u32,
-    series: &mut Series,
-) -> Place<'a, S, O, Global> {
-    for turn in 0..7 {
-        let (now, answer) = tried(rt, place, drawn(job, turn, series));
-        if matches!(answer, Answer::Unread(_)) {
-            return Place::Between(left(now));
-        }
-        assert!(rt; is_fine(answer));
-        place = now;
-        thread::yield_now();
-    }
-    place
-}
-
-fn is_fine(answer: Answer) -> bool {
-    matches!(
-        answer,
-        Answer::Done | Answer::Start(_) | Answer::Holds(_) | Answer::Ends(_)
-    )
-}
-
-/// Reads three blocks, changes two things, and ends.
-fn drawn(job: u32, turn: u32, series: &mut Series) -> Step {
+/// A transaction reads three blocks, changes two things, and ends.
+fn drawn(step: u32, turn: u32, series: &mut Series) -> Step {
     match turn {
-        0 => Step::Begin(job),
+        0 => Step::Begin(step),
         1..=3 => Step::Read(series.below(4)),
         4 | 5 => drawn_change(series),
-        _ => drawn_end(series),
+        6 => drawn_end(series),
+        _ => Step::Abandon,
     }
+}
+
+/// It is given up where a block can't be read.
+fn turn_after(turn: u32, answer: Answer) -> u32 {
+    match answer {
+        Answer::Unread(_) => 7,
+        _ if turn < 6 => turn.wrapping_add(1),
+        _ => 0,
+    }
+}
+
+/// Whether there was memory and room for a step, and the step is one of those that may be taken there.
+fn is_answer(answer: Answer) -> bool {
+    !matches!(
+        answer,
+        Answer::NoMemory | Answer::Stopped(_) | Answer::Refused(_) | Answer::Wrong
+    )
 }
 
 fn drawn_change(series: &mut Series) -> Step {
