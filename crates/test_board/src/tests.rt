@@ -1,4 +1,6 @@
 //! Halls of desks whose pits have no rule to break, so that each commit is taken.
+//!
+//! `memory` plays what `lists` has, on heaps that may refuse a request. In `threads` readers look beside who commits.
 ghost use Rattle.std.specs.Prelude.{◌≡◌, ◌+◌, ◌<◌, ℕ, true, IfSome};
 ghost use Rattle.pit_desk.specs.declared.reply.Reply.TheVariants.{Committed};
 ghost use Rattle.pit_desk.specs.History.{commit_of};
@@ -17,12 +19,7 @@ use std::alloc::Allocator;
 use std::marker::Model;
 use std::process::Abort;
 use std::sync::Wait;
-use std::sync::ledger::{Book, Share};
-
-type Pair = (u32, Option<u32>);
-
-/// A resource and a period, with an upper limit or none.
-type Revision = (u32, u32, Option<i64>);
+use std::sync::ledger::Share;
 
 /// The entries that a desk may have.
 const ENTRIES: u32 = 10_000;
@@ -94,11 +91,6 @@ impl<S: Session, R: Wait + Drop, A: Allocator + Copy + Drop> OpenHall<S, R, A> {
         self.hall.value.front()
     }
 
-    /// How many these are.
-    fn count(&self) -> u32 {
-        self.front().count()
-    }
-
     /// Enters a commit and publishes it. Where memory is refused, the work is handed back.
     fn commit<W: Wait + Abort>(&mut self, rt: &W, work: Work<A>) -> Result<(), Work<A>> {
         assert!(rt; self.desk.fits(&work));
@@ -164,28 +156,6 @@ impl<S: Session, A: Allocator + Copy + Drop> Reader<S, A> {
         }
         self.view.read(block)
     }
-
-    fn begin(&mut self) -> u32 {
-        self.view.begin()
-    }
-
-    fn learn(&mut self, front: &Front<S>) {
-        self.view.learn(front);
-    }
-
-    fn count_entry(&mut self, total: &mut Book<S>) {
-        self.view.count_entry(total);
-    }
-
-    /// The commits that were seen.
-    fn front(&self) -> &Front<S> {
-        self.view.front()
-    }
-
-    /// How many these are.
-    fn count(&self) -> u32 {
-        self.front().count()
-    }
 }
 
 /// A desk over a pit of this size, of which nothing is told.
@@ -210,39 +180,14 @@ fn new_work<A: Allocator + Copy + Drop>(rt: &impl Abort, alloc: A, plan: &Plan<A
     answer.expect(rt, "a work")
 }
 
-fn write_all<A: Allocator + Copy + Drop>(
+/// Writes that a block has a period, or none.
+fn write<A: Allocator + Copy + Drop>(
     work: &mut Work<A>,
-    writes: &[Pair],
+    block: u32,
+    period: Option<u32>,
 ) -> Result<(), WorkError> {
-    for (b, period) in writes {
-        match period {
-            Some(t) => work.put(*b, *t)?,
-            None => work.clear(*b)?,
-        }
+    match period {
+        Some(t) => work.put(block, t),
+        None => work.clear(block),
     }
-    Ok(())
-}
-
-fn revise_all<A: Allocator + Copy + Drop>(
-    work: &mut Work<A>,
-    revises: &[Revision],
-) -> Result<(), WorkError> {
-    for (r, t, upper) in revises {
-        work.revise(*r, *t, *upper)?;
-    }
-    Ok(())
-}
-
-/// A work with these writes and revisions.
-fn work_of<A: Allocator + Copy + Drop>(
-    rt: &impl Abort,
-    alloc: A,
-    plan: &Plan<A>,
-    writes: &[Pair],
-    revises: &[Revision],
-) -> Work<A> {
-    let mut work = new_work(rt, alloc, plan);
-    assert!(rt; write_all(&mut work, writes).is_ok());
-    assert!(rt; revise_all(&mut work, revises).is_ok());
-    work
 }

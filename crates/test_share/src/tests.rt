@@ -1,37 +1,24 @@
 //! Workspaces over the small pit, with a second resource that no block takes.
+//!
+//! `steps` has what planners do and what that is answered, `places` makes one step, and `playing` makes those of a row in turn, on a heap that
+//! may refuse a request: `rows`, `closing` and `memory` are about that. In `threads` planners work at once.
 ghost use Rattle.std.specs.Prelude.{◌<◌};
 
-mod changes;
 mod closing;
-mod logs;
 mod memory;
 mod places;
 mod playing;
 mod rows;
-mod stage;
 mod steps;
 mod threads;
 
-use linked_list_allocator::LocalHeap;
-use pit_desk::{AuditFault, Desk, Entry, EntryReply, audit};
+use pit_desk::{Desk, Entry, audit};
 use pit_model::Instance;
 use pit_plan::Plan;
 use pit_plan_sample::Reading;
-use pit_refuse::Refusing;
 use pit_sample::{Size, TINY, TINY_SIZE, built};
 use std::alloc::{Allocator, Global};
 use std::process::Abort;
-
-/// A heap that counts requests, and refuses one or none.
-type Heap = Refusing<LocalHeap>;
-
-/// The bytes of a heap, of which no workspace takes half.
-const BYTES: usize = 1_048_576;
-
-/// A heap that refuses the request of this number; of the number 0 there is none.
-fn heap_of(rt: &impl Abort, alloc: Global, number: u64) -> Heap {
-    Refusing::over_heap(alloc, BYTES, number).expect(rt, "a heap")
-}
 
 /// Of two resources in two periods more limits may be revised than a transaction has room for at first.
 const SIZE: Size = Size {
@@ -44,22 +31,20 @@ fn tiny<A: Allocator + Copy + Drop>(rt: &impl Abort, alloc: A) -> Instance<A> {
     built(alloc, SIZE, TINY).expect(rt, "a pit")
 }
 
-/// A desk of the small pit, with no start, that may have so many entries.
-fn empty_desk<A: Allocator + Copy + Drop>(rt: &impl Abort, alloc: A, max_entries: u32) -> Desk<A> {
-    let answer = Desk::open(alloc, tiny(rt, alloc), &[], max_entries);
-    answer.ok().expect(rt, "a desk")
-}
-
-/// A desk of the small pit, on which block 3 has period 1.
-fn started_desk<A: Allocator + Copy + Drop>(
+/// A desk of the small pit that may have so many entries, and on which block 3 may have period 1 at first.
+fn desk_of<A: Allocator + Copy + Drop>(
     rt: &impl Abort,
     alloc: A,
+    has_start: bool,
     max_entries: u32,
 ) -> Desk<A> {
     let pit = tiny(rt, alloc);
     assert!(rt; pit.blocks() > 3);
     assert!(rt; pit.periods() > 1);
-    let answer = Desk::open(alloc, pit, &[(3, 1)], max_entries);
+    let answer = match has_start {
+        true => Desk::open(alloc, pit, &[(3, 1)], max_entries),
+        false => Desk::open(alloc, pit, &[], max_entries),
+    };
     answer.ok().expect(rt, "a desk")
 }
 
@@ -70,12 +55,9 @@ fn audited<A: Allocator + Copy + Drop>(
     history: &[Entry<A>],
 ) -> Option<Reading> {
     let pit = tiny(rt, alloc);
-    let None = pit.unmeetable() else {
-        panic!(rt; "unmeetable");
-    };
+    assert!(rt; pit.unmeetable().is_none());
     assert!(rt; history.len() < 1_000_000);
-    let answer: Result<Plan<Global>, AuditFault> = audit(alloc, pit, history);
-    match answer {
+    match audit(alloc, pit, history) {
         Ok(plan) => reading(plan),
         Err(_) => panic!(rt; "not legal"),
     }
@@ -92,27 +74,4 @@ fn assert_legal<A: Allocator + Copy + Drop>(rt: &impl Abort, alloc: Global, desk
     let reading = audited(rt, alloc, desk.history());
     assert!(rt; reading.is_some());
     assert!(rt; reading == Reading::of(desk.plan()));
-}
-
-/// An entry's planner and its reply.
-type Answered = (u32, EntryReply);
-
-/// Whether the entries past the first so many are these.
-fn is_history<A: Allocator + Copy + Drop>(
-    history: &[Entry<A>],
-    opened: usize,
-    answers: &[Answered],
-) -> bool {
-    let Some(past) = history.get(opened..) else {
-        return false;
-    };
-    if past.len() != answers.len() {
-        return false;
-    }
-    for (entry, answer) in past.iter().zip(answers.iter()) {
-        if (entry.planner, entry.reply) != *answer {
-            return false;
-        }
-    }
-    true
 }

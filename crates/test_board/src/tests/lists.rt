@@ -1,23 +1,19 @@
-//! Publications that look random. After each of them each slot is what a list of all writes says.
-ghost use Rattle.std.specs.Prelude.{◌≡◌};
-
-use super::{OpenHall, Pair, Reader, Revision, desk_over, work_of};
-use pit_board::{EmptyList, Session, Slot};
+//! What is published, and a list of all writes, which says what each slot is.
+use super::memory::has_refused;
+use super::{Reader, desk_over, new_work, write};
+use pit_board::{Session, Slot};
 use pit_desk::Desk;
+use pit_plan::Plan;
 use pit_plan_sample::{Kept, held_in, last_in};
 use pit_sample::{Series, Size};
 use pit_tx::Work;
-use std::alloc::Global;
-use std::marker::Brand;
+use std::alloc::{Allocator, Global};
 use std::process::Abort;
-use std::sync::Wait;
-use std::sync::ledger::{Blank, Share};
 
-/// The seeds, each of a list.
-const SEEDS: u32 = 60;
+type Pair = (u32, Option<u32>);
 
-/// The publications of each list.
-const COMMITS: u32 = 12;
+/// A resource and a period, with an upper limit or none.
+type Revision = (u32, u32, Option<i64>);
 
 const SIZE: Size = Size {
     blocks: 5,
@@ -25,191 +21,156 @@ const SIZE: Size = Size {
     resources: 2,
 };
 
+/// What each second commit writes.
+pub(super) const WRITES: &[Pair] = &[(2, Some(1)), (0, None), (3, Some(0))];
+
+/// What the others write.
+const FEWER: &[Pair] = &[(2, Some(1)), (0, None)];
+
+pub(super) const REVISES: &[Revision] = &[(0, 1, Some(7)), (0, 0, None)];
+
+/// What these commits write.
+pub(super) fn writes_by(number: u32) -> &'static [Pair] {
+    match number % 2 {
+        0 => WRITES,
+        _ => FEWER,
+    }
+}
+
+/// The seeds, each of commits that look random.
+const SEEDS: u32 = 60;
+
+/// After each publication each slot is what a list of all writes says.
 #[test]
 fn shows_what_a_list_says(rt: HostRuntime) {
     for seed in 0..SEEDS {
-        play_seed(&rt, rt.alloc(), seed);
+        has_refused(&rt, rt.alloc(), 0, Some(Series::new(seed)));
     }
 }
 
-/// A few commits are made before the hall is opened.
-fn play_seed<W: Wait + Abort>(rt: &W, alloc: Global, seed: u32) {
-    let mut series = Series::new(seed);
-    let mut kept = Vec::new(alloc);
-    let mut desk = desk_over(rt, alloc, SIZE);
-    for _ in 0..series.below(4) {
-        commit_before(rt, alloc, &mut desk, &mut kept, &mut series);
-    }
-    play::<Brand, _, _>(
-        rt,
-        rt,
-        alloc,
-        EmptyList::new(),
-        Blank::new(2),
-        desk,
-        &mut kept,
-        &mut series,
-    );
-    drop(kept);
+/// The number of the last commit, the writes of all, and what draws the next one, which is else one of those above.
+#[derive(Drop)]
+pub(super) struct List {
+    pub(super) number: u32,
+    pub(super) drawn: Option<Series>,
+    kept: Vec<Kept>,
 }
 
-fn commit_before(
-    rt: &impl Abort,
-    alloc: Global,
-    desk: &mut Desk<Global>,
-    kept: &mut Vec<Kept>,
-    series: &mut Series,
-) {
-    let writes = draw_writes(rt, alloc, series);
-    let work = work_of(rt, alloc, desk.plan(), &writes, &[]);
-    commit(rt, desk, work);
-    keep(rt, kept, desk.plan().commits(), &writes);
-    drop(writes);
-}
-
-fn commit(rt: &impl Abort, desk: &mut Desk<Global>, work: Work<Global>) {
-    assert!(rt; desk.fits(&work));
-    let answer = desk.commit(work);
-    assert!(rt; answer.is_ok());
-    drop(answer);
-}
-
-fn play<S: Session, R: Wait + Drop, W: Wait + Abort>(
-    rt: &W,
-    own: R,
-    alloc: Global,
-    list: EmptyList,
-    shares: Blank,
-    desk: Desk<Global>,
-    kept: &mut Vec<Kept>,
-    series: &mut Series,
-)
-    requires pit { desk.plan.pit ≡ S.instance }
-    requires history { desk.history ≡ S.opening }
-    requires list { list ≡ S.book }
-    requires name { shares.name ≡ S.name }
-    requires parts { shares.parts ≡ S.parts }
-    requires two { shares.parts ≡ 2 }
-{
-    let (total, rest) = shares.open::<S>();
-    let answer = OpenHall::<S, R, _>::open(own, alloc, list, desk, 2);
-    let opened = answer.ok().expect(rt, "a hall");
-    play_opened(rt, alloc, opened, rest, kept, series);
-    drop(total);
-}
-
-/// Of two readers one looks late.
-fn play_opened<S: Session, R: Wait + Drop, W: Wait + Abort>(
-    rt: &W,
-    alloc: Global,
-    mut opened: OpenHall<S, R, Global>,
-    mut rest: Share<S>,
-    kept: &mut Vec<Kept>,
-    series: &mut Series,
-)
-    requires parts { rest.parts ≡ 2 }
-    requires left { rest.amount ≡ 0 }
-{
-    let mut reader = opened.reader(&mut rest).expect(rt, "a place");
-    let late = opened.reader(&mut rest).expect(rt, "a place");
-    publish_all(rt, alloc, &mut opened, &mut reader, kept, series);
-    look_late(rt, late, kept);
-    drop(reader);
-    drop(opened);
-    drop(rest);
-}
-
-fn look_late<S: Session>(rt: &impl Abort, mut late: Reader<S, Global>, kept: &[Kept]) {
-    assert!(rt; has_slots(&mut late, kept));
-    drop(late);
-}
-
-/// A reader looks after each publication.
-fn publish_all<S: Session, R: Wait + Drop, W: Wait + Abort>(
-    rt: &W,
-    alloc: Global,
-    opened: &mut OpenHall<S, R, Global>,
-    reader: &mut Reader<S, Global>,
-    kept: &mut Vec<Kept>,
-    series: &mut Series,
-) {
-    assert!(rt; has_slots(reader, kept));
-    for _ in 0..COMMITS {
-        publish(rt, alloc, opened, kept, series);
-        assert!(rt; has_slots(reader, kept));
-    }
-}
-
-/// Publishes a drawn commit.
-fn publish<S: Session, R: Wait + Drop, W: Wait + Abort>(
-    rt: &W,
-    alloc: Global,
-    opened: &mut OpenHall<S, R, Global>,
-    kept: &mut Vec<Kept>,
-    series: &mut Series,
-) {
-    let writes = draw_writes(rt, alloc, series);
-    let revises = draw_revises(rt, alloc, series);
-    let work = work_of(rt, alloc, opened.desk.plan(), &writes, &revises);
-    assert!(rt; opened.commit(rt, work).is_ok());
-    keep(rt, kept, opened.count(), &writes);
-    drop(writes);
-    drop(revises);
-}
-
-/// Up to three blocks, of which one may stand twice.
-fn draw_writes(rt: &impl Abort, alloc: Global, series: &mut Series) -> Vec<Pair> {
-    let mut writes = Vec::new(alloc);
-    for _ in 0..series.below(4) {
-        let pair = (series.below(SIZE.blocks), series.period(SIZE.periods));
-        assert!(rt; writes.push(pair).is_ok());
-    }
-    writes
-}
-
-/// Up to two limits.
-fn draw_revises(rt: &impl Abort, alloc: Global, series: &mut Series) -> Vec<Revision> {
-    let mut revises = Vec::new(alloc);
-    for _ in 0..series.below(3) {
-        let (r, t) = (series.below(SIZE.resources), series.below(SIZE.periods));
-        assert!(rt; revises.push((r, t, draw_upper(series))).is_ok());
-    }
-    revises
-}
-
-/// None in one case of three, and else up to 4 millionths.
-fn draw_upper(series: &mut Series) -> Option<i64> {
-    match series.below(3) {
-        0 => None,
-        _ => Some(i64::from(series.below(5))),
-    }
-}
-
-fn keep(rt: &impl Abort, kept: &mut Vec<Kept>, number: u32, writes: &[Pair]) {
-    for (block, period) in writes {
-        let write = Kept {
-            number,
-            block: *block,
-            period: *period,
-        };
-        assert!(rt; kept.push(write).is_ok());
-    }
-}
-
-/// Whether each block is read as the list says.
-fn has_slots<S: Session>(reader: &mut Reader<S, Global>, kept: &[Kept]) -> bool {
-    for b in 0..SIZE.blocks {
-        if reader.read(b) != Some(slot_in(kept, b)) {
-            return false;
+impl List {
+    pub(super) fn new(alloc: Global, drawn: Option<Series>) -> List {
+        List {
+            number: 0,
+            drawn,
+            kept: Vec::new(alloc),
         }
     }
-    true
-}
 
-/// What the list says of a block.
-fn slot_in(kept: &[Kept], block: u32) -> Slot {
-    Slot {
-        period: held_in(kept, block),
-        version: last_in(kept, block),
+    /// A desk on which up to three commits are made, if they are drawn.
+    pub(super) fn desk<A: Allocator + Copy + Drop>(
+        &mut self,
+        rt: &impl Abort,
+        alloc: A,
+    ) -> Desk<A> {
+        let mut desk = desk_over(rt, alloc, SIZE);
+        let commits = match &mut self.drawn {
+            Some(series) => series.below(4),
+            None => 0,
+        };
+        for _ in 0..commits {
+            self.commit(rt, alloc, &mut desk);
+        }
+        desk
+    }
+
+    fn commit<A: Allocator + Copy + Drop>(
+        &mut self,
+        rt: &impl Abort,
+        alloc: A,
+        desk: &mut Desk<A>,
+    ) {
+        let work = self.next(rt, alloc, desk.plan());
+        assert!(rt; desk.fits(&work));
+        assert!(rt; desk.commit(work).is_ok());
+    }
+
+    /// The work of the next commit.
+    pub(super) fn next<A: Allocator + Copy + Drop>(
+        &mut self,
+        rt: &impl Abort,
+        alloc: A,
+        plan: &Plan<A>,
+    ) -> Work<A> {
+        self.number = self.number.wrapping_add(1);
+        let mut work = new_work(rt, alloc, plan);
+        self.fill(rt, &mut work);
+        self.revise(rt, &mut work);
+        work
+    }
+
+    fn fill<A: Allocator + Copy + Drop>(&mut self, rt: &impl Abort, work: &mut Work<A>) {
+        for at in 0..3 {
+            if let Some((block, period)) = self.pair(at) {
+                let number = self.number;
+                let kept = Kept {
+                    number,
+                    block,
+                    period,
+                };
+                assert!(rt; write(work, block, period).is_ok());
+                assert!(rt; self.kept.push(kept).is_ok());
+            }
+        }
+    }
+
+    fn revise<A: Allocator + Copy + Drop>(&mut self, rt: &impl Abort, work: &mut Work<A>) {
+        for at in 0..2 {
+            if let Some((r, t, upper)) = self.revision(at) {
+                assert!(rt; work.revise(r, t, upper).is_ok());
+            }
+        }
+    }
+
+    /// One of up to three writes. Of those that are drawn a block may stand twice.
+    fn pair(&mut self, at: usize) -> Option<Pair> {
+        let Some(series) = &mut self.drawn else {
+            return writes_by(self.number).get(at).copied();
+        };
+        match series.below(2) {
+            0 => None,
+            _ => Some((series.below(SIZE.blocks), series.period(SIZE.periods))),
+        }
+    }
+
+    /// One of up to two revisions. Of those that are drawn one in three is of no limit, and the others are of up to 4 millionths.
+    fn revision(&mut self, at: usize) -> Option<Revision> {
+        let Some(series) = &mut self.drawn else {
+            return REVISES.get(at).copied();
+        };
+        let (r, t) = (series.below(SIZE.resources), series.below(SIZE.periods));
+        match series.below(6) {
+            0..=2 => None,
+            3 => Some((r, t, None)),
+            _ => Some((r, t, Some(i64::from(series.below(5))))),
+        }
+    }
+
+    /// Whether each block is read as the list says.
+    pub(super) fn is_read<S: Session, A: Allocator + Copy + Drop>(
+        &self,
+        reader: &mut Reader<S, A>,
+    ) -> bool {
+        for b in 0..SIZE.blocks {
+            if reader.read(b) != Some(self.slot(b)) {
+                return false;
+            }
+        }
+        true
+    }
+
+    fn slot(&self, block: u32) -> Slot {
+        Slot {
+            period: held_in(&self.kept, block),
+            version: last_in(&self.kept, block),
+        }
     }
 }

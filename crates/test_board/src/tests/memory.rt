@@ -1,13 +1,13 @@
 //! Want of memory, and calls that take none.
 ghost use Rattle.std.specs.Prelude.{◌≡◌, ◌<◌};
 
-use super::{OpenHall, Pair, Reader, Revision, desk_over, work_of};
+use super::lists::{List, REVISES, WRITES, writes_by};
+use super::{OpenHall, Reader};
 use linked_list_allocator::LocalHeap;
-use pit_board::{Changes, EmptyList, Front, Session, Slot};
+use pit_board::{Changes, EmptyList, Front, Session};
 use pit_desk::Desk;
 use pit_refuse::{Count, Refusing};
-use pit_sample::Size;
-use pit_tx::Work;
+use pit_sample::Series;
 use std::alloc::{Allocator, Global};
 use std::marker::Brand;
 use std::process::Abort;
@@ -15,43 +15,22 @@ use std::sync::Wait;
 use std::sync::ledger::{Blank, Book, Share};
 
 /// An allocator that counts requests, and refuses one or none.
-type Heap<'a> = &'a Refusing<LocalHeap>;
+type Heap = Refusing<LocalHeap>;
 
 /// The bytes of a heap, of which no hall takes half.
 const BYTES: usize = 1_048_576;
 
-const SIZE: Size = Size {
-    blocks: 4,
-    periods: 2,
-    resources: 1,
-};
-
-/// What is read of each block.
-type Slots = [Option<Slot>; 4];
-
 /// The places of a hall.
 const READERS: u32 = 2;
 
-/// What each second commit writes.
-const WRITES: &[Pair] = &[(2, Some(1)), (0, None), (3, Some(0))];
-
-/// The commits that are published, behind an opening history without any.
-const COMMITS: u32 = 4;
-
-/// What the others write.
-const FEWER: &[Pair] = &[(2, Some(1)), (0, None)];
-
-const REVISES: &[Revision] = &[(0, 1, Some(7)), (0, 0, None)];
+/// The commits that are published.
+const COMMITS: u32 = 12;
 
 /// Each request of a hall is refused in turn. What is asked for again finds all as it was.
 #[test]
 fn is_unchanged_where_memory_is_refused(rt: HostRuntime) {
-    refuse_each(&rt, rt.alloc());
-}
-
-fn refuse_each<W: Wait + Abort>(rt: &W, alloc: Global) {
-    for number in 1..200 {
-        if is_whole(rt, alloc, number) {
+    for number in 1..1_000 {
+        if !has_refused(&rt, rt.alloc(), number, None) {
             assert!(rt; number > 20, "a request of each call at least");
             return;
         }
@@ -59,300 +38,195 @@ fn refuse_each<W: Wait + Abort>(rt: &W, alloc: Global) {
     panic!(rt; "never whole");
 }
 
-/// Whether no request had the number. All memory is given back in the end.
-fn is_whole<W: Wait + Abort>(rt: &W, alloc: Global, number: u64) -> bool {
-    let calm = Refusing::over_heap(alloc, BYTES, 0).expect(rt, "a heap");
-    let heap = Refusing::over_heap(alloc, BYTES, number).expect(rt, "a heap");
-    play_twice(rt, &heap, &calm, &heap);
+/// Whether the request of this number was made, and so was refused. All memory is given back in the end.
+pub(super) fn has_refused<W: Wait + Abort>(
+    rt: &W,
+    plain: Global,
+    number: u64,
+    drawn: Option<Series>,
+) -> bool {
+    let calm = Refusing::over_heap(plain, BYTES, 0).expect(rt, "a heap");
+    let heap = Refusing::over_heap(plain, BYTES, number).expect(rt, "a heap");
+    let stage = Stage {
+        rt,
+        heap: &heap,
+        alloc: &heap,
+        calm: &calm,
+    };
+    stage.play_twice(List::new(plain, drawn));
     assert!(rt; heap.used() == 0 && calm.used() == 0);
-    !heap.count().has_refused()
+    heap.count().has_refused()
 }
 
-/// Opens a hall of a desk, and opens another for it where memory was refused. The desk's memory is calm.
-fn play_twice<A: Allocator + Copy + Drop, W: Wait + Abort>(
-    rt: &W,
-    heap: Heap<'_>,
-    calm: A,
+/// The heap of a hall, which is its allocator too, and calm memory for all else.
+#[derive(Drop)]
+struct Stage<'a, R: Wait + Abort + Copy + Drop, A: Allocator + Copy + Drop> {
+    rt: R,
+    heap: &'a Heap,
     alloc: A,
-) {
-    let desk = desk_over(rt, calm, SIZE);
-    if let Some(desk) = play(rt, heap, calm, alloc, desk) {
-        play_again(rt, heap, calm, alloc, desk);
-    }
+    calm: A,
 }
 
-fn play_again<A: Allocator + Copy + Drop, W: Wait + Abort>(
-    rt: &W,
-    heap: Heap<'_>,
-    calm: A,
-    alloc: A,
-    desk: Desk<A>,
-) {
-    assert!(rt; heap.count().has_refused());
-    assert!(rt; heap.used() == 0);
-    let left = play(rt, heap, calm, alloc, desk);
-    assert!(rt; left.is_none(), "no memory twice");
-    drop(left);
-}
-
-/// Makes each call of a hall. The desk is handed back where none is opened.
-fn play<A: Allocator + Copy + Drop, W: Wait + Abort>(
-    rt: &W,
-    heap: Heap<'_>,
-    calm: A,
-    alloc: A,
-    desk: Desk<A>,
-) -> Option<Desk<A>> {
-    in_session::<Brand, _, _, _>(
-        rt,
-        rt,
-        heap,
-        calm,
-        alloc,
-        EmptyList::new(),
-        Blank::new(3),
-        desk,
-    )
-}
-
-fn in_session<S: Session, R: Wait + Drop, A: Allocator + Copy + Drop, W: Wait + Abort>(
-    rt: &W,
-    own: R,
-    heap: Heap<'_>,
-    calm: A,
-    alloc: A,
-    list: EmptyList,
-    shares: Blank,
-    desk: Desk<A>,
-) -> Option<Desk<A>>
-    requires pit { desk.plan.pit ≡ S.instance }
-    requires history { desk.history ≡ S.opening }
-    requires list { list ≡ S.book }
-    requires name { shares.name ≡ S.name }
-    requires parts { shares.parts ≡ S.parts }
-    requires three { shares.parts ≡ 3 }
-{
-    let (total, rest) = shares.open::<S>();
-    match OpenHall::<S, R, A>::open(own, alloc, list, desk, READERS) {
-        Ok(opened) => {
-            each_call(rt, heap, calm, opened, total, rest);
-            None
+impl<'a, R: Wait + Abort + Copy + Drop, A: Allocator + Copy + Drop> Stage<'a, R, A> {
+    /// Opens a hall of a desk, and opens another for it where memory was refused.
+    fn play_twice(&self, mut list: List) {
+        let desk = list.desk(&self.rt, self.calm);
+        if let Some(desk) = self.play(desk, &mut list) {
+            assert!(self.rt; self.heap.count().has_refused() && self.heap.used() == 0);
+            let left = self.play(desk, &mut list);
+            assert!(self.rt; left.is_none(), "no memory twice");
+            drop(left);
         }
-        Err(desk) => Some(desk),
+        drop(list);
     }
-}
 
-/// Takes each place, publishes, and ends the hall before its readers.
-fn each_call<S: Session, R: Wait + Drop, A: Allocator + Copy + Drop, W: Wait + Abort>(
-    rt: &W,
-    heap: Heap<'_>,
-    calm: A,
-    mut opened: OpenHall<S, R, A>,
-    mut total: Book<S>,
-    mut rest: Share<S>,
-)
-    requires parts { rest.parts ≡ 3 }
-    requires left { rest.amount ≡ 0 }
-{
-    let before = heap.count();
-    let mut reader = opened.reader(&mut rest).expect(rt, "a place");
-    let late = opened.reader(&mut rest).expect(rt, "a place");
-    assert_taken(rt, &opened, &mut rest);
-    assert!(rt; heap.count() == before);
-    publish_all(rt, heap, calm, &mut opened, &mut reader, &mut total);
-    assert_same(rt, late, &mut reader);
-    end(rt, opened, reader);
-}
-
-/// No place is left.
-fn assert_taken<S: Session, R: Wait + Drop, A: Allocator + Copy + Drop>(
-    rt: &impl Abort,
-    opened: &OpenHall<S, R, A>,
-    rest: &mut Share<S>,
-)
-    requires parts { 0 < rest.old.parts }
-    requires left { rest.old.amount ≡ 0 }
-{
-    let more = opened.reader(rest);
-    assert!(rt; more.is_none(), "no place is left");
-    drop(more);
-}
-
-/// Who looks late begins with all commits, and both read the same.
-fn assert_same<S: Session, A: Allocator + Copy + Drop>(
-    rt: &impl Abort,
-    mut late: Reader<S, A>,
-    reader: &mut Reader<S, A>,
-) {
-    assert!(rt; late.count() == 0 && late.begin() == COMMITS);
-    assert!(rt; read_all(&mut late) == read_all(reader));
-    drop(late);
-}
-
-/// Where the hall is gone, no reader is let in, and what was seen stays.
-fn end<S: Session, R: Wait + Drop, A: Allocator + Copy + Drop>(
-    rt: &impl Abort,
-    opened: OpenHall<S, R, A>,
-    mut reader: Reader<S, A>,
-) {
-    let count = opened.count();
-    drop(opened);
-    assert!(rt; reader.read(0).is_none());
-    assert!(rt; reader.begin() == count);
-    drop(reader);
-}
-
-/// Publishes `COMMITS`, two at a time, and copies changes.
-fn publish_all<S: Session, R: Wait + Drop, A: Allocator + Copy + Drop, W: Wait + Abort>(
-    rt: &W,
-    heap: Heap<'_>,
-    calm: A,
-    opened: &mut OpenHall<S, R, A>,
-    reader: &mut Reader<S, A>,
-    total: &mut Book<S>,
-) {
-    publish_two(rt, heap, calm, opened, reader, total, 1);
-    publish_two(rt, heap, calm, opened, reader, total, 3);
-    copy_twice(rt, heap, opened.alloc);
-}
-
-fn publish_two<S: Session, R: Wait + Drop, A: Allocator + Copy + Drop, W: Wait + Abort>(
-    rt: &W,
-    heap: Heap<'_>,
-    calm: A,
-    opened: &mut OpenHall<S, R, A>,
-    reader: &mut Reader<S, A>,
-    total: &mut Book<S>,
-    first: u32,
-) {
-    for number in first..first.wrapping_add(2) {
-        publish(rt, heap, calm, opened, number);
-        assert_quiet(rt, heap, opened, reader, total);
-        assert!(rt; read_all(reader) == slots_after(number));
+    /// Makes each call of a hall. The desk is handed back where none is opened.
+    fn play(&self, desk: Desk<A>, list: &mut List) -> Option<Desk<A>> {
+        self.in_session::<Brand>(EmptyList::new(), Blank::new(3), desk, list)
     }
-}
 
-/// What these commits write.
-fn writes_by(number: u32) -> &'static [Pair] {
-    match number % 2 {
-        0 => WRITES,
-        _ => FEWER,
+    fn in_session<S: Session>(
+        &self,
+        empty: EmptyList,
+        shares: Blank,
+        desk: Desk<A>,
+        list: &mut List,
+    ) -> Option<Desk<A>>
+        requires pit { desk.plan.pit ≡ S.instance }
+        requires history { desk.history ≡ S.opening }
+        requires list { empty ≡ S.book }
+        requires name { shares.name ≡ S.name }
+        requires parts { shares.parts ≡ S.parts }
+        requires three { shares.parts ≡ 3 }
+    {
+        let (total, rest) = shares.open::<S>();
+        match OpenHall::<S, R, A>::open(self.rt, self.alloc, empty, desk, READERS) {
+            Ok(opened) => {
+                self.play_opened(opened, total, rest, list);
+                None
+            }
+            Err(desk) => Some(desk),
+        }
     }
-}
 
-/// What the board shows after so many commits.
-fn slots_after(number: u32) -> Slots {
-    let last = match number.wrapping_sub(number % 2) {
-        0 => shown(None, 0),
-        even => shown(Some(0), even),
-    };
-    [
-        shown(None, number),
-        shown(None, 0),
-        shown(Some(1), number),
-        last,
-    ]
-}
-
-fn shown(period: Option<u32>, version: u32) -> Option<Slot> {
-    Some(Slot { period, version })
-}
-
-fn read_all<S: Session, A: Allocator + Copy + Drop>(reader: &mut Reader<S, A>) -> Slots {
-    [
-        reader.read(0),
-        reader.read(1),
-        reader.read(2),
-        reader.read(3),
-    ]
-}
-
-/// Publishes a commit, and again where memory was refused.
-fn publish<S: Session, R: Wait + Drop, A: Allocator + Copy + Drop, W: Wait + Abort>(
-    rt: &W,
-    heap: Heap<'_>,
-    calm: A,
-    opened: &mut OpenHall<S, R, A>,
-    number: u32,
-) {
-    let work = work_of(rt, calm, opened.desk.plan(), writes_by(number), REVISES);
-    let before = (heap.count(), heap.used());
-    if let Err(work) = opened.commit(rt, work) {
-        assert_refused(rt, heap, before);
-        assert!(rt; opened.count() == number.wrapping_sub(1));
-        assert!(rt; opened.desk.plan().commits() == number.wrapping_sub(1));
-        assert!(rt; work.writes() == writes_by(number));
-        publish_again(rt, opened, work);
+    /// Takes each place, publishes, and ends the hall before one of its readers.
+    fn play_opened<S: Session>(
+        &self,
+        mut opened: OpenHall<S, R, A>,
+        mut total: Book<S>,
+        mut rest: Share<S>,
+        list: &mut List,
+    )
+        requires parts { rest.parts ≡ 3 }
+        requires left { rest.amount ≡ 0 }
+    {
+        let opening = list.number;
+        let before = self.heap.count();
+        let mut reader = opened.reader(&mut rest).expect(&self.rt, "a place");
+        let late = opened.reader(&mut rest).expect(&self.rt, "a place");
+        assert!(self.rt; opened.reader(&mut rest).is_none(), "no place is left");
+        assert!(self.rt; self.heap.count() == before);
+        self.publish_all(&mut opened, &mut reader, &mut total, list);
+        self.look_late(late, opening, list);
+        self.end(opened, reader, list.number);
     }
-}
 
-fn publish_again<S: Session, R: Wait + Drop, A: Allocator + Copy + Drop, W: Wait + Abort>(
-    rt: &W,
-    opened: &mut OpenHall<S, R, A>,
-    work: Work<A>,
-) {
-    match opened.commit(rt, work) {
-        Ok(()) => {}
-        Err(_) => panic!(rt; "no memory twice"),
+    /// Who looks late begins with all commits, if anybody begins, and reads them.
+    fn look_late<S: Session>(&self, mut late: Reader<S, A>, opening: u32, list: &List) {
+        assert!(self.rt; late.view.front().count() == opening);
+        assert!(self.rt; list.drawn.is_some() || late.view.begin() == list.number);
+        assert!(self.rt; list.is_read(&mut late));
+        drop(late);
     }
-}
 
-/// Memory was refused since, and none is lost.
-fn assert_refused(rt: &impl Abort, heap: Heap<'_>, before: (Count, usize)) {
-    let (count, used) = before;
-    assert!(rt; heap.count().has_refused_since(count));
-    assert!(rt; heap.used() == used);
-}
-
-/// Copies changes, and copies them again where memory was refused.
-fn copy_twice<A: Allocator + Copy + Drop>(rt: &impl Abort, heap: Heap<'_>, alloc: A) {
-    let before = (heap.count(), heap.used());
-    if !is_copied(rt, alloc) {
-        assert_refused(rt, heap, before);
-        assert!(rt; is_copied(rt, alloc), "no memory twice");
+    /// Where the hall is gone, no reader is let in, and what was seen stays.
+    fn end<S: Session>(&self, opened: OpenHall<S, R, A>, mut reader: Reader<S, A>, number: u32) {
+        drop(opened);
+        assert!(self.rt; reader.read(0).is_none());
+        assert!(self.rt; reader.view.begin() == number);
+        drop(reader);
     }
-}
 
-/// Whether there was memory for a copy of the changes, which then has the writes.
-fn is_copied<A: Allocator + Copy + Drop>(rt: &impl Abort, alloc: A) -> bool {
-    let Ok(changes) = Changes::copied(alloc, WRITES, REVISES) else {
-        return false;
-    };
-    assert!(rt; changes.writes() == WRITES);
-    drop(changes);
-    true
-}
+    /// A reader looks after each publication: without more, where commits are drawn.
+    fn publish_all<S: Session>(
+        &self,
+        opened: &mut OpenHall<S, R, A>,
+        reader: &mut Reader<S, A>,
+        total: &mut Book<S>,
+        list: &mut List,
+    ) {
+        assert!(self.rt; list.is_read(reader));
+        for _ in 0..COMMITS {
+            self.publish(opened, list);
+            if list.drawn.is_none() {
+                self.assert_quiet(opened, reader, total);
+            }
+            assert!(self.rt; list.is_read(reader));
+        }
+        self.copy_twice();
+    }
 
-/// Whatever is asked of a reader and of fronts takes no memory.
-fn assert_quiet<S: Session, R: Wait + Drop, A: Allocator + Copy + Drop>(
-    rt: &impl Abort,
-    heap: Heap<'_>,
-    opened: &OpenHall<S, R, A>,
-    reader: &mut Reader<S, A>,
-    total: &mut Book<S>,
-) {
-    let before = heap.count();
-    catch_up(rt, opened.front(), reader);
-    assert!(rt; reader.begin() == opened.count());
-    assert!(rt; reader.read(0).is_some());
-    reader.count_entry(total);
-    assert!(rt; heap.count() == before);
-}
+    /// Publishes the next commit, and again where memory was refused.
+    fn publish<S: Session>(&self, opened: &mut OpenHall<S, R, A>, list: &mut List) {
+        let before = list.number;
+        let work = list.next(&self.rt, self.calm, opened.desk.plan());
+        let seen = (self.heap.count(), self.heap.used());
+        if let Err(work) = opened.commit(&self.rt, work) {
+            self.assert_refused(seen);
+            assert!(self.rt; opened.front().count() == before);
+            assert!(self.rt; opened.desk.plan().commits() == before);
+            assert!(self.rt; work.writes() == writes_by(list.number));
+            assert!(self.rt; opened.commit(&self.rt, work).is_ok(), "no memory twice");
+        }
+    }
 
-/// The reader's front, which is behind, grows to the other, and is learnt.
-fn catch_up<S: Session, A: Allocator + Copy + Drop>(
-    rt: &impl Abort,
-    other: &Front<S>,
-    reader: &mut Reader<S, A>,
-) {
-    let mut front = reader.front().again();
-    assert!(rt; is_behind(&front, other));
-    front.grow(other);
-    reader.learn(&front);
-    drop(front);
-    assert!(rt; reader.front().is_same(other));
-}
+    /// Memory was refused since, and none is lost.
+    fn assert_refused(&self, before: (Count, usize)) {
+        assert!(self.rt; self.heap.count().has_refused_since(before.0));
+        assert!(self.rt; self.heap.used() == before.1);
+    }
 
-fn is_behind<S: Session>(front: &Front<S>, other: &Front<S>) -> bool {
-    front.begins(other) && !other.begins(front)
+    /// Copies changes, and copies them again where memory was refused.
+    fn copy_twice(&self) {
+        let before = (self.heap.count(), self.heap.used());
+        if !self.is_copied() {
+            self.assert_refused(before);
+            assert!(self.rt; self.is_copied(), "no memory twice");
+        }
+    }
+
+    /// Whether there was memory for a copy of the changes, which then has the writes.
+    fn is_copied(&self) -> bool {
+        let Ok(changes) = Changes::copied(self.alloc, WRITES, REVISES) else {
+            return false;
+        };
+        assert!(self.rt; changes.writes() == WRITES);
+        drop(changes);
+        true
+    }
+
+    /// Whatever is asked of a reader and of fronts takes no memory.
+    fn assert_quiet<S: Session>(
+        &self,
+        opened: &OpenHall<S, R, A>,
+        reader: &mut Reader<S, A>,
+        total: &mut Book<S>,
+    ) {
+        let before = self.heap.count();
+        self.catch_up(opened.front(), reader);
+        assert!(self.rt; reader.view.begin() == opened.front().count());
+        assert!(self.rt; reader.read(0).is_some());
+        reader.view.count_entry(total);
+        assert!(self.rt; self.heap.count() == before);
+    }
+
+    /// The reader's front, which is behind, grows to the other, and is learnt.
+    fn catch_up<S: Session>(&self, other: &Front<S>, reader: &mut Reader<S, A>) {
+        let mut front = reader.view.front().again();
+        assert!(self.rt; front.begins(other) && !other.begins(&front));
+        front.grow(other);
+        reader.view.learn(&front);
+        drop(front);
+        assert!(self.rt; reader.view.front().is_same(other));
+    }
 }

@@ -2,11 +2,11 @@
 //! commit is added at the first turn, its cell is empty, and the board shows it.
 ghost use Rattle.std.specs.Prelude.{◌≡◌, ◌+◌, ◌<◌};
 
-use super::{OpenHall, Reader, desk_over, new_work};
+use super::{OpenHall, Reader, desk_over, new_work, write};
 use pit_board::{EmptyList, Session, Slot};
 use pit_desk::Desk;
 use pit_sample::Size;
-use pit_tx::{Work, WorkError};
+use pit_tx::Work;
 use std::alloc::{AllocError, Allocator, Global};
 use std::marker::Brand;
 use std::process::Abort;
@@ -29,13 +29,6 @@ const SIZE: Size = Size {
     periods: 2,
     resources: 1,
 };
-
-/// What a reader found: how many looks were wrong, and how many commits it has seen.
-#[derive(Clone, Copy)]
-struct Found {
-    wrong: u32,
-    count: u32,
-}
 
 #[test]
 fn readers_see_beginnings_of_one_list(rt: HostRuntime) {
@@ -71,7 +64,9 @@ fn play<
     let opened = answer.ok().expect(rt, "a hall");
     let all = readers_of(rt, alloc, &opened, &mut rest, readers);
     let (found, opened) = read_beside(rt, alloc, opened, all);
-    assert_found(rt, found);
+    let found = found.expect(rt, "memory");
+    assert!(rt; found.iter().all(|is_so| *is_so));
+    drop(found);
     look_late(rt, opened, rest);
     drop(total);
 }
@@ -85,7 +80,7 @@ fn look_late<S: Session, O: Wait + Drop, A: Allocator + Copy + Drop>(
     requires left { rest.amount ≡ 0 }
 {
     let mut late = opened.reader(&mut rest).expect(rt, "a place");
-    assert!(rt; late.begin() == COMMITS && is_right(&mut late, 0));
+    assert!(rt; late.view.begin() == COMMITS && is_right(&mut late, 0));
     drop(late);
     drop(opened);
     drop(rest);
@@ -122,75 +117,59 @@ fn read_beside<
     alloc: A,
     opened: OpenHall<S, O, A>,
     readers: Vec<Reader<S, A>, A>,
-) -> (Result<Vec<Found, A>, AllocError>, OpenHall<S, O, A>) {
+) -> (Result<Vec<bool, A>, AllocError>, OpenHall<S, O, A>) {
     join(
         rt,
-        move || look_all(rt, readers),
+        move || thread::map_vec(rt, readers, &|reader| look(reader)),
         move || publish_all(rt, alloc, opened),
     )
 }
 
-fn look_all<S: Session + Send + Sync, R: Threads + Sync, A: Allocator + Copy + Drop + Send + Sync>(
-    rt: &R,
-    readers: Vec<Reader<S, A>, A>,
-) -> Result<Vec<Found, A>, AllocError> {
-    thread::map_vec(rt, readers, &|reader| look(reader))
-}
-
-/// Begins and reads until it has seen the last commit.
-fn look<S: Session, A: Allocator + Copy + Drop>(mut reader: Reader<S, A>) -> Found {
-    let mut wrong: u32 = 0;
+/// Begins and reads until it has seen the last commit. Whether no look was wrong, and it hasn't seen more than all.
+fn look<S: Session, A: Allocator + Copy + Drop>(mut reader: Reader<S, A>) -> bool {
+    let mut is_so = true;
+    let mut count: u32 = 0;
     for turn in 0..LOOKS {
-        let before = reader.count();
-        if !is_right(&mut reader, turn) || reader.count() < before {
-            wrong = wrong.wrapping_add(1);
-        }
-        if reader.count() == COMMITS {
+        is_so = is_so && is_right(&mut reader, turn) && reader.view.front().count() >= count;
+        count = reader.view.front().count();
+        if count == COMMITS {
             break;
         }
         thread::yield_now();
     }
-    let count = reader.count();
     drop(reader);
-    Found { wrong, count }
+    is_so && count <= COMMITS
 }
 
 /// Whether a block is read as the commits leave it that are then seen. In each second turn the reader begins before.
 fn is_right<S: Session, A: Allocator + Copy + Drop>(reader: &mut Reader<S, A>, turn: u32) -> bool {
     if turn % 2 == 0 {
-        reader.begin();
+        reader.view.begin();
     }
     let block = turn / 2 % SIZE.blocks;
     let slot = reader.read(block);
-    slot == Some(slot_after(reader.count(), block))
+    slot == Some(slot_after(reader.view.front().count(), block))
 }
 
-/// Whether the commit of a number writes a block.
-fn is_written(number: u32, block: u32) -> bool {
-    number.wrapping_add(block) % 3 != 0
-}
-
-/// The period that it gives the blocks that it writes.
-fn period_by(number: u32) -> Option<u32> {
+/// The period that the commit of a number gives a block, or none, if it writes the block.
+fn written_by(number: u32, block: u32) -> Option<Option<u32>> {
+    if number.wrapping_add(block) % 3 == 0 {
+        return None;
+    }
     match number % 5 {
-        0 => None,
-        _ => Some(number % 2),
+        0 => Some(None),
+        _ => Some(Some(number % 2)),
     }
 }
 
-/// The last commit, of so many, that writes a block: of two in turn one does.
-fn last_by(count: u32, block: u32) -> u32 {
-    if is_written(count, block) {
-        return count;
-    }
-    count.saturating_sub(1)
-}
-
-/// The slot of a block after so many commits.
+/// The slot of a block after so many commits. Of two in turn one writes it.
 fn slot_after(count: u32, block: u32) -> Slot {
-    let version = last_by(count, block);
+    let version = match written_by(count, block) {
+        Some(_) => count,
+        None => count.saturating_sub(1),
+    };
     Slot {
-        period: period_by(version),
+        period: written_by(version, block).unwrap_or(None),
         version,
     }
 }
@@ -214,38 +193,14 @@ fn publish<S: Session, O: Wait + Drop, R: Wait + Abort, A: Allocator + Copy + Dr
     number: u32,
 ) {
     let mut work = new_work(rt, alloc, opened.desk.plan());
-    assert!(rt; write(&mut work, number).is_ok());
+    fill(rt, &mut work, number);
     assert!(rt; opened.commit(rt, work).is_ok());
 }
 
-fn write<A: Allocator + Copy + Drop>(work: &mut Work<A>, number: u32) -> Result<(), WorkError> {
+fn fill<A: Allocator + Copy + Drop>(rt: &impl Abort, work: &mut Work<A>, number: u32) {
     for b in 0..SIZE.blocks {
-        if is_written(number, b) {
-            write_block(work, b, period_by(number))?;
+        if let Some(period) = written_by(number, b) {
+            assert!(rt; write(work, b, period).is_ok());
         }
     }
-    Ok(())
-}
-
-fn write_block<A: Allocator + Copy + Drop>(
-    work: &mut Work<A>,
-    b: u32,
-    period: Option<u32>,
-) -> Result<(), WorkError> {
-    match period {
-        Some(t) => work.put(b, t),
-        None => work.clear(b),
-    }
-}
-
-/// No look was wrong, and no reader has seen more than all.
-fn assert_found<A: Allocator + Copy + Drop>(
-    rt: &impl Abort,
-    found: Result<Vec<Found, A>, AllocError>,
-) {
-    let all = found.expect(rt, "memory");
-    for found in all.as_slice() {
-        assert!(rt; found.wrong == 0 && found.count <= COMMITS);
-    }
-    drop(all);
 }

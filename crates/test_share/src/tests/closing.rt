@@ -1,15 +1,16 @@
 //! How workspaces are opened and closed.
-use super::playing::{assert_played, play_over, played};
-use super::stage::Stage;
-use super::steps::Doing;
-use super::steps::Step::{Begin, Commit, Put};
-use super::threads::seated;
-use super::{Answered, assert_legal, empty_desk, heap_of, is_history};
-use pit_desk::{Desk, EntryReply, Reply};
+use super::desk_of;
+use super::playing::{Stage, heap_of};
+use super::steps::{Answer, Doing, FIRST, SECOND, Step, are_entries};
+use super::threads::shared;
+use Answer::{Done, Start};
+use Step::{Begin, Commit, Put};
+use pit_desk::Desk;
 use pit_share::{OpenError, PLANNERS_MAX};
 use std::alloc::Global;
 use std::process::Abort;
 use std::sync::Wait;
+use std::thread::Threads;
 
 /// A number of planners that is refused, and one that isn't.
 const NUMBERS: &[(u32, u32)] = &[(0, 1), (PLANNERS_MAX + 1, 2), (u32::MAX, PLANNERS_MAX)];
@@ -18,76 +19,72 @@ const NUMBERS: &[(u32, u32)] = &[(0, 1), (PLANNERS_MAX + 1, 2), (u32::MAX, PLANN
 #[test]
 fn seats_1_to_64_planners(rt: HostRuntime) {
     for (refused, fine) in NUMBERS {
-        let heap = heap_of(&rt, rt.alloc(), 0);
-        let stage = Stage {
-            heap: &heap,
-            row: "refused numbers",
-        };
-        let desk = handed_back(&rt, rt.alloc(), stage, *refused);
-        let desk = seated(&rt, rt.alloc(), desk, *fine);
-        assert!(rt; desk.history().is_empty(), "of {fine}");
-        drop(desk);
-        drop(heap);
+        seat(&rt, rt.alloc(), *refused, *fine);
     }
 }
 
-fn handed_back<W: Wait + Abort>(
-    rt: &W,
+fn seat<R: Threads + Wait + Abort + Sync>(rt: &R, alloc: Global, refused: u32, fine: u32) {
+    let desk = desk_of(rt, alloc, false, 100);
+    match shared(rt, alloc, desk, refused, 0, 0) {
+        Err((desk, OpenError::PlannerCount)) => seat_all(rt, alloc, desk, fine),
+        _ => panic!(rt; "not refused"),
+    }
+}
+
+fn seat_all<R: Threads + Wait + Abort + Sync>(
+    rt: &R,
     alloc: Global,
-    stage: Stage<'_>,
+    desk: Desk<Global>,
     planners: u32,
-) -> Desk<Global> {
-    let desk = empty_desk(rt, alloc, 100);
-    match play_over(rt, stage, alloc, desk, planners, &[]) {
-        Ok(_) => panic!(rt; "opened for {planners}"),
-        Err((desk, error)) => {
-            assert!(rt; error == OpenError::PlannerCount, "for {planners}");
-            desk
-        }
-    }
+) {
+    let answer = shared(rt, alloc, desk, planners, 0, 0);
+    let desk = answer.ok().expect(rt, "a workspace");
+    assert!(rt; desk.history().is_empty());
+    drop(desk);
 }
 
-/// Block 3 in period 1, by the first commit.
-const FIRST: &[Doing] = &[
-    (1, Begin(1, 0)),
-    (1, Put(3, 1, Ok(()))),
-    (1, Commit(Reply::Committed { number: 1 })),
+/// What is done in two workspaces, one behind the other, and the value after each in units of 10^-18.
+const SESSIONS: &[(&[Doing], i128)] = &[
+    // Block 3 in period 1. It is worth 5, discounted once at 0.1.
+    (
+        &[
+            (1, Begin(1), Start(0)),
+            (1, Put(3, 1), Done),
+            (1, Commit, FIRST),
+        ],
+        4_545_454_545_455_000_000,
+    ),
+    // Block 0 in period 0 too. It is worth -10.
+    (
+        &[
+            (1, Begin(7), Start(1)),
+            (1, Put(0, 0), Done),
+            (1, Commit, SECOND),
+        ],
+        -5_454_545_454_545_000_000,
+    ),
 ];
 
-/// Its value, 5 discounted once at 0.1, in units of 10^-18.
-const AFTER_FIRST: i128 = 4_545_454_545_455_000_000;
-
-/// Block 0 in period 0, by the second.
-const SECOND: &[Doing] = &[
-    (1, Begin(7, 1)),
-    (1, Put(0, 0, Ok(()))),
-    (1, Commit(Reply::Committed { number: 2 })),
-];
-
-/// The value of both: block 0 is worth -10.
-const AFTER_SECOND: i128 = -5_454_545_454_545_000_000;
-
-const ANSWERS: &[Answered] = &[
-    (1, EntryReply::Committed { number: 1 }),
-    (1, EntryReply::Committed { number: 2 }),
-];
+/// The entries of both.
+const BOTH: &[Doing] = &[(1, Commit, FIRST), (1, Commit, SECOND)];
 
 /// Without a log of each planner it isn't closed, and all comes back. A desk is opened again with the history that it has.
 #[test]
 fn closes_by_all_logs(rt: HostRuntime) {
     let heap = heap_of(&rt, rt.alloc(), 0);
     let stage = Stage {
+        rt: &rt,
+        plain: rt.alloc(),
         heap: &heap,
+        alloc: rt.alloc(),
         row: "two workspaces",
     };
-    let desk = empty_desk(&rt, rt.alloc(), 100);
-    let desk = played(&rt, stage, rt.alloc(), desk, FIRST);
-    assert_played(&rt, rt.alloc(), stage, &desk, 0, FIRST);
-    assert!(rt; desk.plan().value() == AFTER_FIRST);
-    let desk = played(&rt, stage, rt.alloc(), desk, SECOND);
-    assert!(rt; desk.plan().value() == AFTER_SECOND);
-    assert_legal(&rt, rt.alloc(), &desk);
-    assert!(rt; is_history(desk.history(), 0, ANSWERS));
+    let mut desk = desk_of(&rt, rt.alloc(), false, 100);
+    for (doings, value) in SESSIONS {
+        desk = stage.played(desk, doings);
+        assert!(rt; desk.plan().value() == *value);
+    }
+    assert!(rt; are_entries(desk.history(), 0, BOTH, 0));
     drop(desk);
     drop(heap);
 }

@@ -1,10 +1,11 @@
-//! Where a planner is: in a transaction, or between two. Where memory is refused, a call is made again, and finds all as it was.
-use super::changes::{changed, sets_of};
-use super::stage::Stage;
-use super::steps::Step;
+//! Where a planner is: in a transaction, or between two.
+use super::playing::Stage;
+use super::steps::{Answer, Doing, Pair, Revision, Step};
 use pit_board::Session;
-use pit_desk::{Reply, Stop};
-use pit_share::{Planner, Transaction};
+use pit_desk::{EntryReply, Stop, entry_reply_of};
+use pit_refuse::Count;
+use pit_share::{Planner, ReadStop, Transaction};
+use pit_tx::WorkError;
 use std::alloc::Allocator;
 use std::process::Abort;
 use std::sync::Wait;
@@ -13,19 +14,6 @@ use std::sync::Wait;
 pub(super) enum Place<'a, S: Session, R: Wait + Drop, A: Allocator + Copy + Drop> {
     Between(Planner<'a, S, R, A>),
     Within(Transaction<'a, S, R, A>),
-}
-
-/// Where a planner is after a step.
-pub(super) fn after<'a, S: Session, R: Wait + Drop, A: Allocator + Copy + Drop, W: Wait + Abort>(
-    rt: &W,
-    stage: Stage<'_>,
-    place: Place<'a, S, R, A>,
-    step: Step,
-) -> Place<'a, S, R, A> {
-    match place {
-        Place::Between(planner) => after_begin(rt, stage, planner, step),
-        Place::Within(transaction) => after_change(rt, stage, transaction, step),
-    }
 }
 
 /// The planner, who leaves the transaction that is open.
@@ -38,191 +26,176 @@ pub(super) fn left<'a, S: Session, R: Wait + Drop, A: Allocator + Copy + Drop>(
     }
 }
 
-fn after_begin<'a, S: Session, R: Wait + Drop, A: Allocator + Copy + Drop>(
-    rt: &impl Abort,
-    stage: Stage<'_>,
-    planner: Planner<'a, S, R, A>,
+impl<'a, R: Wait + Abort + Copy + Drop, A: Allocator + Copy + Drop> Stage<'a, R, A> {
+    /// Where a planner is after a step, and whether it was done.
+    pub(super) fn after<'w, S: Session>(
+        &self,
+        place: Place<'w, S, R, A>,
+        doing: Doing,
+    ) -> (Place<'w, S, R, A>, bool) {
+        let before = (self.heap.count(), self.seen_at(&place, doing.1));
+        let (place, answer) = tried(&self.rt, place, doing.1);
+        let seen = self.seen_at(&place, doing.1);
+        (place, self.is_done(doing, answer, before, seen))
+    }
+
+    /// Whether there was memory for a step, which is answered so then. Else all is as it was. Giving up takes no memory.
+    fn is_done(&self, doing: Doing, answer: Answer, before: (Count, Seen), seen: Seen) -> bool {
+        if answer == Answer::NoMemory {
+            self.assert_same(before, seen);
+            return false;
+        }
+        self.assert_so(answer == doing.2);
+        self.assert_so(!matches!(doing.1, Step::Abandon) || self.heap.count() == before.0);
+        true
+    }
+
+    /// What is held, but of the endings, which may have taken memory; and the planner's number, or what its transaction has.
+    fn seen_at<'w, S: Session>(&self, place: &Place<'w, S, R, A>, step: Step) -> Seen {
+        let used = match step {
+            Step::Commit | Step::Withdraw => 0,
+            _ => self.heap.used(),
+        };
+        match place {
+            Place::Between(planner) => (used, Err(planner.number())),
+            Place::Within(transaction) => (used, Ok(sets_of(transaction))),
+        }
+    }
+}
+
+type Seen = (usize, Result<Sets, u32>);
+
+/// The first four of a list. The small pit has room for no more.
+type Four<T> = (Option<T>, Option<T>, Option<T>, Option<T>);
+
+fn four_of<T: Copy>(set: &[T]) -> Four<T> {
+    (
+        set.get(0).copied(),
+        set.get(1).copied(),
+        set.get(2).copied(),
+        set.get(3).copied(),
+    )
+}
+
+/// After how many commits a transaction began, and its reads, writes and revisions.
+#[derive(Clone, Copy, PartialEq)]
+struct Sets {
+    start: u32,
+    reads: Four<Pair>,
+    writes: Four<Pair>,
+    revises: Four<Revision>,
+}
+
+fn sets_of<'a, S: Session, R: Wait + Drop, A: Allocator + Copy + Drop>(
+    transaction: &Transaction<'a, S, R, A>,
+) -> Sets {
+    Sets {
+        start: transaction.start(),
+        reads: four_of(transaction.reads()),
+        writes: four_of(transaction.writes()),
+        revises: four_of(transaction.revises()),
+    }
+}
+
+/// Where a planner is after a step, and what that is answered.
+pub(super) fn tried<'a, S: Session, R: Wait + Drop, A: Allocator + Copy + Drop, W: Wait>(
+    rt: &W,
+    place: Place<'a, S, R, A>,
     step: Step,
-) -> Place<'a, S, R, A> {
-    match step {
-        Step::Begin(job, start) => Place::Within(begun(rt, stage, planner, job, start)),
-        _ => panic!(rt; "not in a transaction in {}", stage.row),
+) -> (Place<'a, S, R, A>, Answer) {
+    match place {
+        Place::Between(planner) => begun(planner, step),
+        Place::Within(transaction) => gone_on(rt, transaction, step),
     }
 }
 
 fn begun<'a, S: Session, R: Wait + Drop, A: Allocator + Copy + Drop>(
-    rt: &impl Abort,
-    stage: Stage<'_>,
     planner: Planner<'a, S, R, A>,
-    job: u32,
-    start: u32,
-) -> Transaction<'a, S, R, A> {
-    let transaction = begun_twice(rt, stage, planner, job);
-    let found = transaction.start();
-    assert!(rt; found == start, "{found} for {start} in {}", stage.row);
-    transaction
-}
-
-fn begun_twice<'a, S: Session, R: Wait + Drop, A: Allocator + Copy + Drop>(
-    rt: &impl Abort,
-    stage: Stage<'_>,
-    planner: Planner<'a, S, R, A>,
-    job: u32,
-) -> Transaction<'a, S, R, A> {
-    let seen = (stage.heap.used(), planner.number());
-    let before = (stage.heap.count(), seen);
-    match planner.begin(job) {
-        Ok(transaction) => transaction,
-        Err((planner, _)) => {
-            stage.assert_same(rt, before, (stage.heap.used(), planner.number()));
-            opened(rt, planner, job)
-        }
-    }
-}
-
-/// Begins a transaction, where memory isn't refused.
-pub(super) fn opened<'a, S: Session, R: Wait + Drop, A: Allocator + Copy + Drop>(
-    rt: &impl Abort,
-    planner: Planner<'a, S, R, A>,
-    job: u32,
-) -> Transaction<'a, S, R, A> {
-    match planner.begin(job) {
-        Ok(transaction) => transaction,
-        Err(_) => panic!(rt; "no memory"),
-    }
-}
-
-fn after_change<'a, S: Session, R: Wait + Drop, A: Allocator + Copy + Drop, W: Wait + Abort>(
-    rt: &W,
-    stage: Stage<'_>,
-    transaction: Transaction<'a, S, R, A>,
     step: Step,
-) -> Place<'a, S, R, A> {
+) -> (Place<'a, S, R, A>, Answer) {
+    let Step::Begin(job) = step else {
+        return (Place::Between(planner), Answer::Wrong);
+    };
+    match planner.begin(job) {
+        Ok(transaction) => {
+            let start = transaction.start();
+            (Place::Within(transaction), Answer::Start(start))
+        }
+        Err((planner, _)) => (Place::Between(planner), Answer::NoMemory),
+    }
+}
+
+fn gone_on<'a, S: Session, R: Wait + Drop, A: Allocator + Copy + Drop, W: Wait>(
+    rt: &W,
+    mut transaction: Transaction<'a, S, R, A>,
+    step: Step,
+) -> (Place<'a, S, R, A>, Answer) {
     match step {
-        Step::Commit(reply) => Place::Between(committed(rt, stage, transaction, reply)),
-        Step::Abort => Place::Between(aborted(rt, stage, transaction)),
-        Step::Abandon => Place::Between(abandoned(rt, stage, transaction)),
-        Step::Stopped(stop) => Place::Within(stopped(rt, stage, transaction, stop)),
-        _ => Place::Within(changed(rt, stage, transaction, step)),
-    }
-}
-
-fn committed<'a, S: Session, R: Wait + Drop, A: Allocator + Copy + Drop, W: Wait + Abort>(
-    rt: &W,
-    stage: Stage<'_>,
-    transaction: Transaction<'a, S, R, A>,
-    reply: Reply,
-) -> Planner<'a, S, R, A> {
-    let (planner, answer) = committed_twice(rt, stage, transaction);
-    assert!(rt; answer == Some(reply), "in {}", stage.row);
-    planner
-}
-
-fn committed_twice<'a, S: Session, R: Wait + Drop, A: Allocator + Copy + Drop, W: Wait + Abort>(
-    rt: &W,
-    stage: Stage<'_>,
-    transaction: Transaction<'a, S, R, A>,
-) -> (Planner<'a, S, R, A>, Option<Reply>) {
-    let due = (Stop::NoMemory, sets_of(&transaction));
-    let before = (stage.heap.count(), due);
-    match transaction.commit(rt) {
-        Ok((planner, reply)) => (planner, Some(reply)),
-        Err((transaction, stop)) => {
-            stage.assert_same(rt, before, (stop, sets_of(&transaction)));
-            answered(rt, transaction)
+        Step::Commit => match transaction.commit(rt) {
+            Ok((planner, reply)) => (Place::Between(planner), Answer::Ends(entry_reply_of(reply))),
+            Err((transaction, stop)) => (Place::Within(transaction), of_stop(stop)),
+        },
+        Step::Withdraw => match transaction.abort(rt) {
+            Ok(planner) => (Place::Between(planner), Answer::Ends(EntryReply::Withdrawn)),
+            Err((transaction, stop)) => (Place::Within(transaction), of_stop(stop)),
+        },
+        Step::Abandon => (Place::Between(transaction.abandon()), Answer::Done),
+        _ => {
+            let answer = answer_to(&mut transaction, step);
+            (Place::Within(transaction), answer)
         }
     }
 }
 
-/// Commits. A transaction that is stopped is abandoned, and has no reply.
-pub(super) fn answered<'a, S: Session, R: Wait + Drop, A: Allocator + Copy + Drop, W: Wait>(
-    rt: &W,
-    transaction: Transaction<'a, S, R, A>,
-) -> (Planner<'a, S, R, A>, Option<Reply>) {
-    match transaction.commit(rt) {
-        Ok((planner, reply)) => (planner, Some(reply)),
-        Err((transaction, _)) => (transaction.abandon(), None),
+fn of_stop(stop: Stop) -> Answer {
+    match stop {
+        Stop::NoMemory => Answer::NoMemory,
+        stop => Answer::Stopped(stop),
     }
 }
 
-fn aborted<'a, S: Session, R: Wait + Drop, A: Allocator + Copy + Drop, W: Wait + Abort>(
-    rt: &W,
-    stage: Stage<'_>,
-    transaction: Transaction<'a, S, R, A>,
-) -> Planner<'a, S, R, A> {
-    let (planner, is_answered) = aborted_twice(rt, stage, transaction);
-    assert!(rt; is_answered, "in {}", stage.row);
-    planner
-}
-
-fn aborted_twice<'a, S: Session, R: Wait + Drop, A: Allocator + Copy + Drop, W: Wait + Abort>(
-    rt: &W,
-    stage: Stage<'_>,
-    transaction: Transaction<'a, S, R, A>,
-) -> (Planner<'a, S, R, A>, bool) {
-    let due = (Stop::NoMemory, sets_of(&transaction));
-    let before = (stage.heap.count(), due);
-    match transaction.abort(rt) {
-        Ok(planner) => (planner, true),
-        Err((transaction, stop)) => {
-            stage.assert_same(rt, before, (stop, sets_of(&transaction)));
-            withdrawn(rt, transaction)
+fn answer_to<'a, S: Session, R: Wait + Drop, A: Allocator + Copy + Drop>(
+    transaction: &mut Transaction<'a, S, R, A>,
+    step: Step,
+) -> Answer {
+    match step {
+        Step::Read(block) => of_read(transaction.read(block)),
+        Step::Put(block, period) => of_change(transaction.put(block, period)),
+        Step::Clear(block) => of_change(transaction.clear(block)),
+        Step::Revise(resource, period, upper) => {
+            of_change(transaction.revise(resource, period, upper))
         }
+        Step::Compare(reads, writes, revises) if has(transaction, reads, writes, revises) => {
+            Answer::Done
+        }
+        _ => Answer::Wrong,
     }
 }
 
-/// Aborts. A transaction that is stopped is abandoned, and isn't answered.
-pub(super) fn withdrawn<'a, S: Session, R: Wait + Drop, A: Allocator + Copy + Drop, W: Wait>(
-    rt: &W,
-    transaction: Transaction<'a, S, R, A>,
-) -> (Planner<'a, S, R, A>, bool) {
-    match transaction.abort(rt) {
-        Ok(planner) => (planner, true),
-        Err((transaction, _)) => (transaction.abandon(), false),
+fn of_read(answer: Result<Option<u32>, ReadStop>) -> Answer {
+    match answer {
+        Ok(period) => Answer::Holds(period),
+        Err(ReadStop::NoMemory) => Answer::NoMemory,
+        Err(stop) => Answer::Unread(stop),
     }
 }
 
-/// Gives it up, which takes no memory.
-fn abandoned<'a, S: Session, R: Wait + Drop, A: Allocator + Copy + Drop>(
-    rt: &impl Abort,
-    stage: Stage<'_>,
-    transaction: Transaction<'a, S, R, A>,
-) -> Planner<'a, S, R, A> {
-    let before = stage.heap.count();
-    let planner = transaction.abandon();
-    stage.assert_quiet(rt, before);
-    planner
-}
-
-/// Neither ending is answered, and the transaction comes back.
-fn stopped<'a, S: Session, R: Wait + Drop, A: Allocator + Copy + Drop, W: Wait + Abort>(
-    rt: &W,
-    stage: Stage<'_>,
-    transaction: Transaction<'a, S, R, A>,
-    stop: Stop,
-) -> Transaction<'a, S, R, A> {
-    let (transaction, first) = not_committed(rt, transaction);
-    let (transaction, second) = not_aborted(rt, transaction);
-    assert!(rt; first == stop && second == stop, "in {}", stage.row);
-    transaction
-}
-
-fn not_committed<'a, S: Session, R: Wait + Drop, A: Allocator + Copy + Drop, W: Wait + Abort>(
-    rt: &W,
-    transaction: Transaction<'a, S, R, A>,
-) -> (Transaction<'a, S, R, A>, Stop) {
-    match transaction.commit(rt) {
-        Ok(_) => panic!(rt; "answered"),
-        Err(stopped) => stopped,
+fn of_change(answer: Result<(), WorkError>) -> Answer {
+    match answer {
+        Ok(()) => Answer::Done,
+        Err(WorkError::NoMemory) => Answer::NoMemory,
+        Err(error) => Answer::Refused(error),
     }
 }
 
-fn not_aborted<'a, S: Session, R: Wait + Drop, A: Allocator + Copy + Drop, W: Wait + Abort>(
-    rt: &W,
-    transaction: Transaction<'a, S, R, A>,
-) -> (Transaction<'a, S, R, A>, Stop) {
-    match transaction.abort(rt) {
-        Ok(_) => panic!(rt; "answered"),
-        Err(stopped) => stopped,
-    }
+/// Whether these are its sets, in this order.
+fn has<'a, S: Session, R: Wait + Drop, A: Allocator + Copy + Drop>(
+    transaction: &Transaction<'a, S, R, A>,
+    reads: &[Pair],
+    writes: &[Pair],
+    revises: &[Revision],
+) -> bool {
+    transaction.reads() == reads
+        && transaction.writes() == writes
+        && transaction.revises() == revises
 }

@@ -1,175 +1,162 @@
 //! What two planners do in turn on the small pit, with answers that were found by hand.
-use super::heap_of;
-use super::playing::play_row;
-use super::steps::Step::{
-    Abandon, Abort as Give, Begin, Clear, Commit, Has, Put, Read, Revise, Stopped,
-};
-use super::steps::{Row, Step};
-use pit_desk::{Refusal, Reply, Stop};
+use super::playing::count_of;
+use super::steps::{Answer, FIRST, ROW, Row, SECOND, Step, THIRD, WITHDRAWN};
+use Answer::{Done, Ends, Holds, Refused, Start, Stopped, Unread};
+use Step::{Abandon, Begin, Clear, Commit, Compare, Put, Read, Revise, Withdraw};
+use pit_desk::{EntryReply, Refusal, Stop};
 use pit_share::ReadStop;
 use pit_tx::WorkError;
 
-const FIRST: Step = Commit(Reply::Committed { number: 1 });
+/// Block 3 has been written by the third commit.
+const MOVED: Answer = Ends(EntryReply::Refused(Refusal::Moved {
+    block: 3,
+    version: 3,
+}));
 
-const SECOND: Step = Commit(Reply::Committed { number: 2 });
+/// The load of resource 0 in period 0, 1 of block 3, is above a limit that is a millionth less.
+const OVER_ALONE: Answer = Ends(EntryReply::Refused(Refusal::Over {
+    resource: 0,
+    period: 0,
+    load: 1_000_000,
+    limit: 999_999,
+}));
 
-const THIRD: Step = Commit(Reply::Committed { number: 3 });
+/// With block 0 it is 3.
+const OVER: Answer = Ends(EntryReply::Refused(Refusal::Over {
+    resource: 0,
+    period: 0,
+    load: 3_000_000,
+    limit: 1_000_000,
+}));
 
 const ROWS: &[Row] = &[
     Row {
         name: "block 3 was taken away and put back since it was read",
         has_start: true,
-        max_entries: 100,
         doings: &[
-            (1, Begin(1, 1)),
-            (1, Read(3, Ok(Some(1)))),
-            (2, Begin(1, 1)),
-            (2, Clear(3, Ok(()))),
-            (2, SECOND),
-            (2, Begin(2, 2)),
-            (2, Put(3, 1, Ok(()))),
-            (2, THIRD),
-            (1, Put(0, 0, Ok(()))),
-            (
-                1,
-                Commit(Reply::Refused(Refusal::Moved {
-                    block: 3,
-                    version: 3,
-                })),
-            ),
+            (1, Begin(1), Start(1)),
+            (1, Read(3), Holds(Some(1))),
+            (2, Begin(1), Start(1)),
+            (2, Clear(3), Done),
+            (2, Commit, SECOND),
+            (2, Begin(2), Start(2)),
+            (2, Put(3, 1), Done),
+            (2, Commit, THIRD),
+            (1, Put(0, 0), Done),
+            (1, Commit, MOVED),
         ],
+        ..ROW
     },
     Row {
         name: "the own writes are read, and not noted",
-        has_start: false,
-        max_entries: 100,
         doings: &[
-            (1, Begin(1, 0)),
-            (1, Put(3, 1, Ok(()))),
-            (1, Read(3, Ok(Some(1)))),
-            (1, Clear(3, Ok(()))),
-            (1, Read(3, Ok(None))),
-            (1, Has(&[], &[(3, None)], &[])),
-            (1, Read(4, Err(ReadStop::NoBlock))),
-            (1, Put(3, 2, Err(WorkError::NoPeriod))),
-            (1, Put(3, 0, Ok(()))),
-            (1, FIRST),
+            (1, Begin(1), Start(0)),
+            (1, Put(3, 1), Done),
+            (1, Read(3), Holds(Some(1))),
+            (1, Clear(3), Done),
+            (1, Read(3), Holds(None)),
+            (1, Compare(&[], &[(3, None)], &[]), Done),
+            (1, Read(4), Unread(ReadStop::NoBlock)),
+            (1, Put(3, 2), Refused(WorkError::NoPeriod)),
+            (1, Put(3, 0), Done),
+            (1, Commit, FIRST),
         ],
+        ..ROW
     },
     Row {
         name: "an abort makes an entry, and what is abandoned makes none",
-        has_start: false,
-        max_entries: 100,
         doings: &[
-            (1, Begin(1, 0)),
-            (1, Put(3, 0, Ok(()))),
-            (1, Give),
-            (1, Begin(2, 0)),
-            (1, Put(3, 0, Ok(()))),
-            (1, Abandon),
+            (1, Begin(1), Start(0)),
+            (1, Put(3, 0), Done),
+            (1, Withdraw, WITHDRAWN),
+            (1, Begin(2), Start(0)),
+            (1, Put(3, 0), Done),
+            (1, Abandon, Done),
         ],
+        ..ROW
     },
     Row {
         name: "the history is full",
-        has_start: false,
         max_entries: 1,
         doings: &[
-            (1, Begin(1, 0)),
-            (1, FIRST),
-            (1, Begin(2, 1)),
-            (1, Put(3, 1, Ok(()))),
-            (1, Stopped(Stop::Full)),
-            (1, Has(&[], &[(3, Some(1))], &[])),
-            (1, Abandon),
+            (1, Begin(1), Start(0)),
+            (1, Commit, FIRST),
+            (1, Begin(2), Start(1)),
+            (1, Put(3, 1), Done),
+            (1, Commit, Stopped(Stop::Full)),
+            (1, Withdraw, Stopped(Stop::Full)),
+            (1, Compare(&[], &[(3, Some(1))], &[]), Done),
+            (1, Abandon, Done),
         ],
+        ..ROW
     },
     Row {
         name: "a block that another planner has moved since the start",
-        has_start: false,
-        max_entries: 100,
         doings: &[
-            (1, Begin(1, 0)),
-            (2, Begin(1, 0)),
-            (2, Put(3, 1, Ok(()))),
-            (2, FIRST),
+            (1, Begin(1), Start(0)),
+            (2, Begin(1), Start(0)),
+            (2, Put(3, 1), Done),
+            (2, Commit, FIRST),
             (
                 1,
-                Read(
-                    3,
-                    Err(ReadStop::Moved {
-                        block: 3,
-                        version: 1,
-                    }),
-                ),
+                Read(3),
+                Unread(ReadStop::Moved {
+                    block: 3,
+                    version: 1,
+                }),
             ),
-            (1, Abandon),
-            (1, Begin(1, 1)),
-            (1, Read(3, Ok(Some(1)))),
-            (2, Begin(2, 1)),
-            (2, Clear(3, Ok(()))),
-            (2, SECOND),
-            (1, Abandon),
-            (1, Begin(1, 2)),
+            (1, Abandon, Done),
+            (1, Begin(1), Start(1)),
+            (1, Read(3), Holds(Some(1))),
+            (2, Begin(2), Start(1)),
+            (2, Clear(3), Done),
+            (2, Commit, SECOND),
+            (1, Abandon, Done),
+            (1, Begin(1), Start(2)),
         ],
+        ..ROW
     },
     Row {
         name: "commits of both planners, and a transaction that began before them",
-        has_start: false,
-        max_entries: 100,
         doings: &[
-            (1, Begin(1, 0)),
-            (2, Begin(1, 0)),
-            (2, Put(3, 1, Ok(()))),
-            (2, FIRST),
-            (2, Begin(2, 1)),
-            (2, Read(3, Ok(Some(1)))),
-            (2, Give),
-            (1, SECOND),
-            (1, Begin(2, 2)),
-            (1, Read(3, Ok(Some(1)))),
-            (1, Abandon),
+            (1, Begin(1), Start(0)),
+            (2, Begin(1), Start(0)),
+            (2, Put(3, 1), Done),
+            (2, Commit, FIRST),
+            (2, Begin(2), Start(1)),
+            (2, Read(3), Holds(Some(1))),
+            (2, Withdraw, WITHDRAWN),
+            (1, Commit, SECOND),
+            (1, Begin(2), Start(2)),
+            (1, Read(3), Holds(Some(1))),
+            (1, Abandon, Done),
         ],
+        ..ROW
     },
     Row {
         name: "a limit that is revised with the writes, and what is refused of revisions",
-        has_start: false,
-        max_entries: 100,
         doings: &[
-            (1, Begin(1, 0)),
-            (1, Revise((2, 2, None), Err(WorkError::NoResource))),
-            (1, Revise((0, 2, None), Err(WorkError::NoPeriod))),
-            (1, Revise((0, 0, Some(999_999)), Ok(()))),
-            (1, Put(3, 0, Ok(()))),
+            (1, Begin(1), Start(0)),
+            (1, Revise(2, 2, None), Refused(WorkError::NoResource)),
+            (1, Revise(0, 2, None), Refused(WorkError::NoPeriod)),
+            (1, Revise(0, 0, Some(999_999)), Done),
+            (1, Put(3, 0), Done),
+            (1, Commit, OVER_ALONE),
+            (1, Begin(2), Start(0)),
+            (1, Revise(0, 0, Some(1_000_000)), Done),
+            (1, Read(3), Holds(None)),
+            (1, Put(3, 0), Done),
             (
                 1,
-                Commit(Reply::Refused(Refusal::Over {
-                    resource: 0,
-                    period: 0,
-                    load: 1_000_000,
-                    limit: 999_999,
-                })),
+                Compare(&[(3, None)], &[(3, Some(0))], &[((0, 0), Some(1_000_000))]),
+                Done,
             ),
-            (1, Begin(2, 0)),
-            (1, Revise((0, 0, Some(1_000_000)), Ok(()))),
-            (1, Read(3, Ok(None))),
-            (1, Put(3, 0, Ok(()))),
-            (
-                1,
-                Has(&[(3, None)], &[(3, Some(0))], &[(0, 0, Some(1_000_000))]),
-            ),
-            (1, FIRST),
-            (2, Begin(1, 1)),
-            (2, Put(0, 0, Ok(()))),
-            (
-                2,
-                Commit(Reply::Refused(Refusal::Over {
-                    resource: 0,
-                    period: 0,
-                    load: 3_000_000,
-                    limit: 1_000_000,
-                })),
-            ),
+            (1, Commit, FIRST),
+            (2, Begin(1), Start(1)),
+            (2, Put(0, 0), Done),
+            (2, Commit, OVER),
         ],
+        ..ROW
     },
 ];
 
@@ -177,8 +164,6 @@ const ROWS: &[Row] = &[
 #[test]
 fn answers_as_by_hand(rt: HostRuntime) {
     for row in ROWS {
-        let heap = heap_of(&rt, rt.alloc(), 0);
-        play_row(&rt, rt.alloc(), &heap, *row);
-        drop(heap);
+        count_of(&rt, rt.alloc(), 0, *row);
     }
 }

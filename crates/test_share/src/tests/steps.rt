@@ -1,37 +1,60 @@
 //! What planners do, and what that is answered.
-use super::Answered;
-use pit_desk::{EntryReply, Reply, Stop};
+use pit_desk::{Entry, EntryReply, Stop};
 use pit_share::ReadStop;
 use pit_tx::WorkError;
-use std::alloc::Global;
-use std::process::Abort;
+use std::alloc::Allocator;
 
 /// A block, and its period or none.
 pub(super) type Pair = (u32, Option<u32>);
 
 /// A resource and a period, with an upper limit or none.
-pub(super) type Revision = (u32, u32, Option<i64>);
+pub(super) type Revision = ((u32, u32), Option<i64>);
 
-/// What a planner does, and what that is answered.
+/// What a planner does.
 #[derive(Clone, Copy)]
 pub(super) enum Step {
-    /// Begins a transaction for a job, after so many commits.
-    Begin(u32, u32),
-    Read(u32, Result<Option<u32>, ReadStop>),
-    Put(u32, u32, Result<(), WorkError>),
-    Clear(u32, Result<(), WorkError>),
-    Revise(Revision, Result<(), WorkError>),
-    /// Has these reads, writes and revisions.
-    Has(&'static [Pair], &'static [Pair], &'static [Revision]),
-    Commit(Reply),
-    Abort,
+    /// Begins a transaction for a job.
+    Begin(u32),
+    Read(u32),
+    Put(u32, u32),
+    Clear(u32),
+    Revise(u32, u32, Option<i64>),
+    /// Compares reads, writes and revisions with these.
+    Compare(&'static [Pair], &'static [Pair], &'static [Revision]),
+    Commit,
+    Withdraw,
     Abandon,
-    /// Ends it by a commit and by an abort, which are both answered so.
-    Stopped(Stop),
 }
 
-/// A planner, and what it does.
-pub(super) type Doing = (u32, Step);
+/// What that is answered.
+#[derive(Clone, Copy, PartialEq)]
+pub(super) enum Answer {
+    /// It is done, and that is all.
+    Done,
+    /// It has begun after so many commits.
+    Start(u32),
+    /// The block has this period, or none.
+    Holds(Option<u32>),
+    /// It has ended, and its entry says so.
+    Ends(EntryReply),
+    Unread(ReadStop),
+    Refused(WorkError),
+    Stopped(Stop),
+    NoMemory,
+    /// No planner can do that there, or the sets are others.
+    Wrong,
+}
+
+pub(super) const FIRST: Answer = Answer::Ends(EntryReply::Committed { number: 1 });
+
+pub(super) const SECOND: Answer = Answer::Ends(EntryReply::Committed { number: 2 });
+
+pub(super) const THIRD: Answer = Answer::Ends(EntryReply::Committed { number: 3 });
+
+pub(super) const WITHDRAWN: Answer = Answer::Ends(EntryReply::Withdrawn);
+
+/// A planner, what it does, and what that is answered.
+pub(super) type Doing = (u32, Step, Answer);
 
 /// A desk on which block 3 may have period 1 at first, how many entries it may have, and what the planners do.
 #[derive(Clone, Copy)]
@@ -42,36 +65,43 @@ pub(super) struct Row {
     pub(super) doings: &'static [Doing],
 }
 
-/// The entry that a step of a planner makes, if it makes one.
-fn entry_by(planner: u32, step: Step) -> Option<Answered> {
-    match step {
-        Step::Commit(Reply::Committed { number }) => {
-            Some((planner, EntryReply::Committed { number }))
+pub(super) const ROW: Row = Row {
+    name: "calls in turn",
+    has_start: false,
+    max_entries: 100,
+    doings: &[],
+};
+
+/// Whether the entries past the first so many are those of these doings: of one planner, or of all, where that is 0.
+pub(super) fn are_entries<A: Allocator + Copy + Drop>(
+    entries: &[Entry<A>],
+    opened: usize,
+    doings: &[Doing],
+    planner: u32,
+) -> bool {
+    let mut at = opened;
+    for doing in doings {
+        if let Some(made) = made_by(*doing, planner) {
+            if made_at(entries, at) != Some(made) {
+                return false;
+            }
+            at = at.wrapping_add(1);
         }
-        Step::Commit(Reply::Refused(why)) => Some((planner, EntryReply::Refused(why))),
-        Step::Abort => Some((planner, EntryReply::Withdrawn)),
+    }
+    at == entries.len()
+}
+
+/// Who made an entry, and what that is answered.
+type Made = (u32, EntryReply);
+
+fn made_by(doing: Doing, planner: u32) -> Option<Made> {
+    match doing {
+        (by, _, Answer::Ends(reply)) if planner == 0 || planner == by => Some((by, reply)),
         _ => None,
     }
 }
 
-/// What is answered to these, where that makes an entry.
-pub(super) fn answers_by(rt: &impl Abort, alloc: Global, doings: &[Doing]) -> Vec<Answered> {
-    let mut answers = Vec::new(alloc);
-    for (planner, step) in doings {
-        if let Some(answer) = entry_by(*planner, *step) {
-            assert!(rt; answers.push(answer).is_ok());
-        }
-    }
-    answers
-}
-
-/// How many entries a planner makes by these.
-pub(super) fn entries_of(planner: u32, doings: &[Doing]) -> usize {
-    let mut entries: usize = 0;
-    for (by, step) in doings {
-        if *by == planner && entry_by(*by, *step).is_some() {
-            entries = entries.wrapping_add(1);
-        }
-    }
-    entries
+fn made_at<A: Allocator + Copy + Drop>(entries: &[Entry<A>], at: usize) -> Option<Made> {
+    let entry = entries.get(at)?;
+    Some((entry.planner, entry.reply))
 }

@@ -2,13 +2,14 @@
 ghost use Rattle.std.specs.Prelude.{◌≡◌, ◌<◌};
 ghost use Rattle.pit_share.specs.declared.blank.TheConstants.{PLANNERS_MAX};
 
-use super::logs::closed;
-use super::places::{Place, answered, opened, withdrawn};
-use super::{assert_legal, started_desk};
+use super::places::{Place, left, tried};
+use super::playing::{Left, closed};
+use super::steps::{Answer, Step};
+use super::{assert_legal, desk_of};
 use pit_board::Session;
 use pit_desk::{Desk, Entry, EntryReply};
 use pit_sample::Series;
-use pit_share::{Blank, Planner, PlannerLog, Seat, Transaction, Workspace};
+use pit_share::{Blank, PlannerLog, Seat, Workspace};
 use std::alloc::{AllocError, Global};
 use std::marker::Brand;
 use std::process::Abort;
@@ -22,11 +23,11 @@ const PLANNERS: &[u32] = &[2, 4, 16];
 /// The seeds, each of one workspace.
 const SEEDS: u32 = 20;
 
-/// The transactions of each planner.
-const JOBS: u32 = 20;
+/// The steps of each planner, seven of which are a whole transaction.
+const STEPS: u32 = 7 * 20;
 
 /// The entries that the desk may have: the opening one, and one for each transaction.
-const ENTRIES: u32 = 1 + 16 * JOBS;
+const ENTRIES: u32 = 1 + 16 * 20;
 
 /// The history is legal, each log is in it, and each read is of the schedule after the transaction's start.
 #[test]
@@ -38,45 +39,26 @@ fn planners_share_one_schedule(rt: HostRuntime) {
 
 fn play_seeds<R: Threads + Wait + Abort + Sync>(rt: &R, alloc: Global, planners: u32) {
     for seed in 0..SEEDS {
-        let desk = started_desk(rt, alloc, ENTRIES);
-        let task = Task { seed, jobs: JOBS };
-        let desk = played(rt, alloc, desk, planners, task);
-        assert_shared(rt, alloc, &desk);
+        let desk = desk_of(rt, alloc, true, ENTRIES);
+        let answer = shared(rt, alloc, desk, planners, seed, STEPS);
+        let desk = answer.ok().expect(rt, "a workspace");
+        assert_legal(rt, alloc, &desk);
+        assert!(rt; has_snapshots(desk.history()));
+        assert!(rt; has_commits(desk.history()));
         drop(desk);
     }
 }
 
-fn assert_shared(rt: &impl Abort, alloc: Global, desk: &Desk<Global>) {
-    assert_legal(rt, alloc, desk);
-    assert!(rt; has_snapshots(desk.history()));
-    assert!(rt; has_commits(desk.history()));
-}
-
-/// What each planner draws its transactions from, and how many they are.
-#[derive(Clone, Copy)]
-struct Task {
+/// What so many planners leave, each in a thread of its own, who draw so many steps.
+pub(super) fn shared<R: Threads + Wait + Abort + Sync>(
+    rt: &R,
+    alloc: Global,
+    desk: Desk<Global>,
+    planners: u32,
     seed: u32,
-    jobs: u32,
-}
-
-/// What so many planners leave who do nothing.
-pub(super) fn seated<R: Threads + Wait + Abort + Sync>(
-    rt: &R,
-    alloc: Global,
-    desk: Desk<Global>,
-    planners: u32,
-) -> Desk<Global> {
-    played(rt, alloc, desk, planners, Task { seed: 0, jobs: 0 })
-}
-
-fn played<R: Threads + Wait + Abort + Sync>(
-    rt: &R,
-    alloc: Global,
-    desk: Desk<Global>,
-    planners: u32,
-    task: Task,
-) -> Desk<Global> {
-    play::<Brand, _, _>(rt, rt, alloc, desk, planners, Blank::new(), task)
+    steps: u32,
+) -> Left<Global> {
+    play::<Brand, _, _>(rt, rt, alloc, desk, planners, Blank::new(), seed, steps)
 }
 
 fn play<S: Session + Send + Sync, O: Wait + Drop + Send + Sync, R: Threads + Wait + Abort + Sync>(
@@ -86,8 +68,9 @@ fn play<S: Session + Send + Sync, O: Wait + Drop + Send + Sync, R: Threads + Wai
     desk: Desk<Global>,
     planners: u32,
     blank: Blank,
-    task: Task,
-) -> Desk<Global>
+    seed: u32,
+    steps: u32,
+) -> Left<Global>
     requires pit { desk.plan.pit ≡ S.instance }
     requires history { desk.history ≡ S.opening }
     requires limit { desk.max_entries ≡ S.max_entries }
@@ -97,26 +80,14 @@ fn play<S: Session + Send + Sync, O: Wait + Drop + Send + Sync, R: Threads + Wai
     requires book { blank.book ≡ S.book }
 {
     match Workspace::<S, O, _>::open(own, alloc, desk, planners, blank) {
-        Ok((workspace, seats)) => play_in(rt, workspace, seats, task),
-        Err(_) => panic!(rt; "no workspace"),
+        Ok((workspace, seats)) => {
+            let logs = logs_of(rt, &workspace, seats, seed, steps).expect(rt, "memory");
+            Ok(closed(rt, workspace, logs))
+        }
+        Err(refused) => Err(refused),
     }
 }
 
-fn play_in<
-    S: Session + Send + Sync,
-    O: Wait + Drop + Send + Sync,
-    R: Threads + Wait + Abort + Sync,
->(
-    rt: &R,
-    workspace: Workspace<S, O, Global>,
-    seats: Vec<Seat<S, Global>, Global>,
-    task: Task,
-) -> Desk<Global> {
-    let logs = logs_of(rt, &workspace, seats, task).expect(rt, "memory");
-    closed(rt, workspace, logs)
-}
-
-/// Each planner works in a thread of its own.
 fn logs_of<
     S: Session + Send + Sync,
     O: Wait + Drop + Send + Sync,
@@ -125,115 +96,86 @@ fn logs_of<
     rt: &R,
     workspace: &Workspace<S, O, Global>,
     seats: Vec<Seat<S, Global>, Global>,
-    task: Task,
+    seed: u32,
+    steps: u32,
 ) -> Result<Vec<PlannerLog<S, Global>, Global>, AllocError> {
-    thread::map_vec(rt, seats, &|seat| log_of(rt, workspace, seat, task))
+    thread::map_vec(rt, seats, &|seat| log_of(rt, workspace, seat, seed, steps))
 }
 
 fn log_of<S: Session, O: Wait + Drop, R: Wait + Abort>(
     rt: &R,
     workspace: &Workspace<S, O, Global>,
     seat: Seat<S, Global>,
-    task: Task,
+    seed: u32,
+    steps: u32,
 ) -> PlannerLog<S, Global> {
-    let mut planner = seat.sit(workspace);
-    let mut series = Series::new(task.seed.wrapping_mul(64).wrapping_add(planner.number()));
-    for job in 0..task.jobs {
-        planner = after_job(rt, planner, job, &mut series);
+    let planner = seat.sit(workspace);
+    let mut series = Series::new(seed.wrapping_mul(64).wrapping_add(planner.number()));
+    let mut place = Place::Between(planner);
+    let mut turn: u32 = 0;
+    for step in 0..steps {
+        let (now, answer) = tried(rt, place, drawn(step, turn, &mut series));
+        place = now;
+        assert!(rt; is_answer(answer));
+        turn = turn_after(turn, answer);
         thread::yield_now();
     }
-    planner.finish()
+    left(place).finish()
 }
 
-/// A transaction that reads, writes and revises what is drawn, and ends as is drawn.
-fn after_job<'a, S: Session, O: Wait + Drop, R: Wait + Abort>(
-    rt: &R,
-    planner: Planner<'a, S, O, Global>,
-    job: u32,
-    series: &mut Series,
-) -> Planner<'a, S, O, Global> {
-    let transaction = opened(rt, planner, job);
-    match after_reads(transaction, series) {
-        Place::Within(transaction) => after_writes(rt, transaction, series),
-        Place::Between(planner) => planner,
+/// A transaction reads three blocks, changes two things, and ends.
+fn drawn(step: u32, turn: u32, series: &mut Series) -> Step {
+    match turn {
+        0 => Step::Begin(step),
+        1..=3 => Step::Read(series.below(4)),
+        4 | 5 => drawn_change(series),
+        6 => drawn_end(series),
+        _ => Step::Abandon,
     }
 }
 
-/// Reads three blocks, and gives up where one was moved.
-fn after_reads<'a, S: Session, O: Wait + Drop>(
-    mut transaction: Transaction<'a, S, O, Global>,
-    series: &mut Series,
-) -> Place<'a, S, O, Global> {
-    for _ in 0..3 {
-        if transaction.read(series.below(4)).is_err() {
-            return Place::Between(transaction.abandon());
-        }
-        thread::yield_now();
-    }
-    Place::Within(transaction)
-}
-
-fn after_writes<'a, S: Session, O: Wait + Drop, R: Wait + Abort>(
-    rt: &R,
-    mut transaction: Transaction<'a, S, O, Global>,
-    series: &mut Series,
-) -> Planner<'a, S, O, Global> {
-    for _ in 0..2 {
-        write(rt, &mut transaction, series);
-    }
-    match series.below(8) {
-        0 => transaction.abandon(),
-        1 => aborted(rt, transaction),
-        _ => committed(rt, transaction),
+/// It is given up where a block can't be read.
+fn turn_after(turn: u32, answer: Answer) -> u32 {
+    match answer {
+        Answer::Unread(_) => 7,
+        _ if turn < 6 => turn.wrapping_add(1),
+        _ => 0,
     }
 }
 
-fn write<'a, S: Session, O: Wait + Drop>(
-    rt: &impl Abort,
-    transaction: &mut Transaction<'a, S, O, Global>,
-    series: &mut Series,
-) {
+/// Whether there was memory and room for a step, and the step is one of those that may be taken there.
+fn is_answer(answer: Answer) -> bool {
+    !matches!(
+        answer,
+        Answer::NoMemory | Answer::Stopped(_) | Answer::Refused(_) | Answer::Wrong
+    )
+}
+
+fn drawn_change(series: &mut Series) -> Step {
     let block = series.below(4);
-    let answer = match series.below(6) {
-        0 | 1 => transaction.put(block, 0),
-        2 | 3 => transaction.put(block, 1),
-        4 => transaction.clear(block),
-        _ => transaction.revise(
+    match series.below(6) {
+        0 | 1 => Step::Put(block, 0),
+        2 | 3 => Step::Put(block, 1),
+        4 => Step::Clear(block),
+        _ => Step::Revise(
             0,
             series.below(2),
             Some(i64::from(series.below(9)) * 1_000_000),
         ),
-    };
-    assert!(rt; answer.is_ok());
+    }
 }
 
-/// Commits, which is answered.
-fn committed<'a, S: Session, O: Wait + Drop, R: Wait + Abort>(
-    rt: &R,
-    transaction: Transaction<'a, S, O, Global>,
-) -> Planner<'a, S, O, Global> {
-    let (planner, reply) = answered(rt, transaction);
-    assert!(rt; reply.is_some());
-    planner
-}
-
-fn aborted<'a, S: Session, O: Wait + Drop, R: Wait + Abort>(
-    rt: &R,
-    transaction: Transaction<'a, S, O, Global>,
-) -> Planner<'a, S, O, Global> {
-    let (planner, is_answered) = withdrawn(rt, transaction);
-    assert!(rt; is_answered);
-    planner
+fn drawn_end(series: &mut Series) -> Step {
+    match series.below(8) {
+        0 => Step::Abandon,
+        1 => Step::Withdraw,
+        _ => Step::Commit,
+    }
 }
 
 /// Whether each block that an entry noted was noted as it was after so many commits as the entry had seen.
 fn has_snapshots(history: &[Entry<Global>]) -> bool {
-    for entry in history {
-        if !is_snapshot(history, entry) {
-            return false;
-        }
-    }
-    true
+    history.iter().all(|entry| is_snapshot(history, entry))
 }
 
 fn is_snapshot(history: &[Entry<Global>], entry: &Entry<Global>) -> bool {
@@ -275,6 +217,5 @@ fn written_by(entry: &Entry<Global>, block: u32) -> Option<Option<u32>> {
 
 /// Whether a planner's commit was taken.
 fn has_commits(history: &[Entry<Global>]) -> bool {
-    history.iter().any(|entry| entry.planner > 0
-        && matches!(entry.reply, EntryReply::Committed { .. }))
+    history.iter().any(|entry| entry.planner > 0 && is_among(entry.reply, u32::MAX))
 }

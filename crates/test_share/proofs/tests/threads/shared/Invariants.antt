@@ -1,5 +1,5 @@
 use Rattle.pit_share.specs.declared.blank.TheConstants.{PLANNERS_MAX}
-use Rattle.test_share.proofs.tests.playing.play_over.Given as goal
+use Rattle.test_share.proofs.tests.threads.shared.Given as goal
 
 -- the count of what is blank
 abbrev pub ghosts-play-S-Ledger : goal.ghosts-play-S-Ledger
