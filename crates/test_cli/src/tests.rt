@@ -8,7 +8,8 @@ mod faults;
 mod memory;
 mod rows;
 
-use pit_cli::{Beginning, PlanInput, PlanOptions, Stream, plan};
+use pit_cli::{Beginning, HistoryOut, PlanInput, PlanOptions, Stream, plan};
+use pit_num::Sink;
 use pit_refuse::Refusing;
 use pit_sample::{Narrow, TINY_MODEL, TINY_PRECEDENCE};
 use pit_step::{CliFault, Status};
@@ -126,9 +127,10 @@ fn input_of<A: Allocator + Copy + Drop>(
     )
 }
 
-/// The outputs of a plan.
+/// The outputs of a plan, with the rooms that they began with.
 #[derive(Drop)]
 struct Outputs {
+    rooms: Rooms,
     solution: Narrow,
     report: Narrow,
     history: Option<Stream<Narrow>>,
@@ -143,36 +145,36 @@ fn outputs_of(alloc: Global, rooms: Rooms) -> Outputs {
         None => None,
     };
     Outputs {
+        rooms,
         solution: Narrow::new(alloc, 7, rooms.0),
         report: Narrow::new(alloc, 7, rooms.1),
         history,
     }
 }
 
-/// What is answered to a case's input.
-fn answer_of<R: Threads + Wait + Sync, A: Allocator + Copy + Drop + Send + Sync>(
+/// What is answered to a case's input. The outputs are of any types, since the contract of `plan` is dear over known ones.
+fn answer_of<
+    R: Threads + Wait + Sync,
+    A: Allocator + Copy + Drop + Send + Sync,
+    W: Sink,
+    L: Sink,
+    H: HistoryOut,
+>(
     rt: &R,
     alloc: A,
     json: Global,
     input: PlanInput<A>,
     case: &Case<'_>,
-    outputs: &mut Outputs,
+    solution: &mut W,
+    report: &mut L,
+    history: &mut Option<H>,
 ) -> Result<Status, CliFault> {
     let options = PlanOptions {
         retries: 3,
         is_in_turn: case.is_in_turn,
         is_strict: case.is_strict,
     };
-    plan(
-        rt,
-        alloc,
-        json,
-        input,
-        options,
-        &mut outputs.solution,
-        &mut outputs.report,
-        &mut outputs.history,
-    )
+    plan(rt, alloc, json, input, options, solution, report, history)
 }
 
 /// What was written for a history.
@@ -190,14 +192,15 @@ fn front(text: &[u8], room: usize) -> &[u8] {
 
 /// Whether the outputs have the case's texts, as far as there is room.
 fn is_written(outputs: &Outputs, case: &Case<'_>) -> bool {
-    outputs.solution.held() == front(case.solution, case.rooms.0)
-        && outputs.report.held() == front(case.report, case.rooms.1)
-        && is_kept(history_of(outputs), case)
+    outputs.solution.held() == front(case.solution, outputs.rooms.0)
+        && outputs.report.held() == front(case.report, outputs.rooms.1)
+        && is_kept(outputs, case)
 }
 
-fn is_kept(history: &[u8], case: &Case<'_>) -> bool {
-    let room = case.rooms.2.unwrap_or(0);
-    history.strip_prefix(case.before.as_bytes()) == Some(front(case.more.as_bytes(), room))
+fn is_kept(outputs: &Outputs, case: &Case<'_>) -> bool {
+    let room = outputs.rooms.2.unwrap_or(0);
+    let past = history_of(outputs).strip_prefix(case.before.as_bytes());
+    past == Some(front(case.more.as_bytes(), room))
 }
 
 fn has_line(alloc: Global, fault: CliFault, line: &str) -> bool {
@@ -269,18 +272,28 @@ struct Ended {
     after: u64,
 }
 
-/// A plan whose request with this number is refused.
+/// A plan into these rooms, whose request with this number is refused.
 fn played<R: Threads + Wait + Abort + Sync>(
     rt: &R,
     alloc: Global,
     number: u64,
     case: &Case<'_>,
+    rooms: Rooms,
 ) -> Ended {
     let heap = Refusing::new(alloc, number);
-    let mut outputs = outputs_of(alloc, case.rooms);
+    let mut outputs = outputs_of(alloc, rooms);
     let input = input_of(rt, &heap, case);
     let before = heap.count().asked;
-    let answer = answer_of(rt, &heap, alloc, input, case, &mut outputs);
+    let answer = answer_of(
+        rt,
+        &heap,
+        alloc,
+        input,
+        case,
+        &mut outputs.solution,
+        &mut outputs.report,
+        &mut outputs.history,
+    );
     let count = heap.count();
     drop(heap);
     let is_so = is_end(alloc, answer, &outputs, case, count.has_refused());
@@ -292,12 +305,18 @@ fn played<R: Threads + Wait + Abort + Sync>(
     }
 }
 
-fn is_so<R: Threads + Wait + Abort + Sync>(rt: &R, alloc: Global, case: &Case<'_>) -> bool {
-    played(rt, alloc, 0, case).is_so
+/// Whether a plan into these rooms ends as it has to.
+fn is_so<R: Threads + Wait + Abort + Sync>(
+    rt: &R,
+    alloc: Global,
+    case: &Case<'_>,
+    rooms: Rooms,
+) -> bool {
+    played(rt, alloc, 0, case, rooms).is_so
 }
 
 fn assert_each<R: Threads + Wait + Abort + Sync>(rt: &R, alloc: Global, cases: &[Case<'_>]) {
     for (i, case) in cases.iter().enumerate() {
-        assert!(rt; is_so(rt, alloc, case), "row {i}");
+        assert!(rt; is_so(rt, alloc, case, case.rooms), "row {i}");
     }
 }

@@ -11,7 +11,6 @@ const STARTED: Case<'static> = Case {
     blocks: Some(TINY_BLOCKS),
     begins: Begins::Schedule("0 0\n"),
     scripts: &[b"begin\nput 1 0\ncommit\nbegin\nbench 2 1\ncommit\nbegin\nread 3\nabort\n"],
-    rooms: KEPT,
     answer: Ok(Status::Failed),
     solution: b"0 0\n1 0\n",
     report: b"planner 1 job 1 committed 2 tries 1
@@ -42,7 +41,6 @@ const HISTORY: &str = r#"{"format":1}
 const CARRIED_ON: Case<'static> = Case {
     begins: Begins::History(HISTORY),
     scripts: &[b"begin\nput 3 1\ncommit\nbegin\nput 3 0\ncommit\nbegin\nread 3\nabort\n"],
-    rooms: KEPT,
     solution: b"0 0\n1 0\n3 1\n",
     report: b"planner 1 job 1 committed 3 tries 1
 planner 1 job 2 refused over 0 0 5.000000 4.000000 tries 1
@@ -64,10 +62,10 @@ value 15.045454545455000000
 };
 
 fn refuse_each<R: Threads + Wait + Abort + Sync>(rt: &R, alloc: Global, case: &Case<'_>) {
-    let none = played(rt, alloc, 0, case);
+    let none = played(rt, alloc, 0, case, KEPT);
     assert!(rt; none.is_so && none.before.wrapping_add(50) < none.after);
     for number in none.before..none.after {
-        let one = played(rt, alloc, number.wrapping_add(1), case);
+        let one = played(rt, alloc, number.wrapping_add(1), case, KEPT);
         assert!(rt; one.is_so && one.before == none.before, "{number}");
     }
 }

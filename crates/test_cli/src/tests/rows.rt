@@ -1,5 +1,5 @@
 //! Plans that begin with no history, and outputs that have no room.
-use super::{BASE, Begins, Case, KEPT, ROOM, Rooms, assert_each, is_so};
+use super::{BASE, Begins, Case, KEPT, ROOM, assert_each, is_so};
 use pit_sample::{LOADING, REVISING, TINY_BLOCKS, TINY_SOLUTION};
 use pit_step::Status;
 
@@ -113,40 +113,41 @@ fn histories_are_kept(rt: HostRuntime) {
 }
 
 /// The three jobs, where an output has too little room.
-fn full(rooms: Rooms) -> Case<'static> {
-    Case {
-        rooms,
-        answer: Err("pit: cannot write"),
-        ..ONE
-    }
-}
+const FULL: Case<'static> = Case {
+    answer: Err("pit: cannot write"),
+    ..ONE
+};
+
+const FULL_SOLUTION: &Case<'static> = &Case {
+    report: b"",
+    ..FULL
+};
+
+const FULL_HISTORY: &Case<'static> = &Case {
+    more: LOADING,
+    ..FULL
+};
 
 #[test]
 fn a_full_output(rt: HostRuntime) {
     for room in 0..SOLUTION.len() {
-        let case = Case {
-            report: b"",
-            ..full((room, ROOM, Some(ROOM)))
-        };
-        assert!(rt; is_so(&rt, rt.alloc(), &case), "{room}");
+        let is = is_so(&rt, rt.alloc(), FULL_SOLUTION, (room, ROOM, Some(ROOM)));
+        assert!(rt; is, "{room}");
     }
 }
 
 #[test]
 fn a_full_report(rt: HostRuntime) {
     for room in 0..REPORT.len() {
-        let case = full((ROOM, room, Some(ROOM)));
-        assert!(rt; is_so(&rt, rt.alloc(), &case), "{room}");
+        let is = is_so(&rt, rt.alloc(), &FULL, (ROOM, room, Some(ROOM)));
+        assert!(rt; is, "{room}");
     }
 }
 
 #[test]
 fn a_full_history(rt: HostRuntime) {
     for room in 0..LOADING.len() {
-        let case = Case {
-            more: LOADING,
-            ..full((ROOM, ROOM, Some(room)))
-        };
-        assert!(rt; is_so(&rt, rt.alloc(), &case), "{room}");
+        let is = is_so(&rt, rt.alloc(), FULL_HISTORY, (ROOM, ROOM, Some(room)));
+        assert!(rt; is, "{room}");
     }
 }
