@@ -1,53 +1,122 @@
 //! Runs of scripts on the small pit.
+//!
+//! A `Row` is a desk, the scripts of its planners, and what they leave: the lines of the report, which tell what became of each job, and the text of the
+//! history. `rows` has planners who run at once, and `turns` those who take turns; in `planning` a run begins as the program has it begin; and in `memory`
+//! each request for memory is refused in turn.
 ghost use Rattle.std.specs.Prelude.{◌≡◌, ◌≤◌, ◌<◌, All, length};
 ghost use Rattle.pit_job.specs.declared.planner_run.TheConstants.{RETRIES_MAX};
 ghost use Rattle.pit_share.specs.Opening.{AreSeats};
 ghost use Rattle.pit_share.specs.declared.blank.TheConstants.{PLANNERS_MAX};
 
-mod lines;
 mod memory;
 mod planning;
 mod rows;
 mod turns;
 
 use pit_board::Session;
+use pit_cli::write_report;
 use pit_desk::{AuditFault, Desk, Entry, audit};
-use pit_job::{Gate, Outcome, RunEnd};
+use pit_job::{Gate, RETRIES_MAX, RunEnd};
+use pit_lines::to_lines;
 use pit_model::Instance;
+use pit_num::Out;
 use pit_plan::Plan;
 use pit_plan_sample::Reading;
 use pit_refuse::{Count, Refusing};
 use pit_run::{PlannerRun, Report, RunError, run};
-use pit_sample::{Fact, TINY, TINY_PLACES, TINY_SIZE, built};
+use pit_sample::{Fact, LOADING, TINY, TINY_PLACES, TINY_SIZE, built, line_feeds};
 use pit_script::Script;
 use pit_share::{Blank, Seat, Workspace};
+use pit_step::CliFault;
 use std::alloc::{Allocator, Global};
 use std::marker::Brand;
 use std::process::Abort;
 use std::sync::Wait;
 use std::thread::Threads;
 
-/// The small pit, with its places.
-fn tiny<A: Allocator + Copy + Drop>(rt: &impl Abort, alloc: A) -> Instance<A> {
+/// A desk of the small pit, the scripts of its planners, and what they leave.
+#[derive(Clone, Copy)]
+struct Row {
+    /// Whether block 3 has period 1 at the start, and not no block a period.
+    is_started: bool,
+    max_entries: u32,
+    texts: &'static [&'static [u8]],
+    /// The report.
+    lines: &'static str,
+    /// How many entries there are, and a text of a history that begins with them.
+    entries: usize,
+    history: &'static str,
+    periods: (Option<u32>, Option<u32>, Option<u32>, Option<u32>),
+    /// The load of period 0, in millionths.
+    load: i128,
+}
+
+/// The lines of a schedule on which no block has a period.
+const NOTHING: &str = "value 0.000000000000000000\nshort 0 1 0.000000 1.000000\n";
+
+/// No job is done.
+const EMPTY: Row = Row {
+    is_started: false,
+    max_entries: 100,
+    texts: &[b"\n"],
+    lines: NOTHING,
+    entries: 0,
+    history: "{\"format\":1}\n",
+    periods: (None, None, None, None),
+    load: 0,
+};
+
+/// Three jobs, of which the second is too heavy.
+const THREE: Row = Row {
+    texts: &[b"begin\nput 0 0\nput 1 0\ncommit\nbegin\nput 3 0\ncommit\nbegin\nput 3 1\ncommit\n"],
+    lines: "\
+planner 1 job 1 committed 1 tries 1
+planner 1 job 2 refused over 0 0 5.000000 4.000000 tries 1
+planner 1 job 3 committed 2 tries 1
+value 15.045454545455000000
+",
+    entries: 3,
+    history: LOADING,
+    periods: (Some(0), Some(0), None, Some(1)),
+    load: 4_000_000,
+    ..EMPTY
+};
+
+/// A job for each of the most planners, and for one more.
+const ONE_JOB: &[u8] = b"begin\nclear 0\ncommit\n";
+
+const MOST: &[&[u8]] = &[ONE_JOB; 64];
+
+const TOO_MANY: &[&[u8]] = &[ONE_JOB; 65];
+
+/// The small pit, with its places, and with further facts.
+fn pit_with<A: Allocator + Copy + Drop>(rt: &impl Abort, alloc: A, more: &[Fact]) -> Instance<A> {
     let mut facts: Vec<Fact, A> = Vec::new(alloc);
     assert!(rt; facts.extend_from_slice(TINY).is_ok());
     assert!(rt; facts.extend_from_slice(TINY_PLACES).is_ok());
+    assert!(rt; facts.extend_from_slice(more).is_ok());
     built(alloc, TINY_SIZE, facts.as_slice()).expect(rt, "a pit")
 }
 
 /// A desk of the small pit, with no start, that may have so many entries.
 fn empty_desk<A: Allocator + Copy + Drop>(rt: &impl Abort, alloc: A, max_entries: u32) -> Desk<A> {
-    let answer = Desk::open(alloc, tiny(rt, alloc), &[], max_entries);
+    let answer = Desk::open(alloc, pit_with(rt, alloc, &[]), &[], max_entries);
     answer.ok().expect(rt, "a desk")
 }
 
-/// A desk of the small pit, on which block 3 has period 1.
-fn started_desk(rt: &impl Abort, alloc: Global) -> Desk<Global> {
-    let pit = tiny(rt, alloc);
+fn started_desk(rt: &impl Abort, alloc: Global, max_entries: u32) -> Desk<Global> {
+    let pit = pit_with(rt, alloc, &[]);
     assert!(rt; pit.blocks() > 3);
     assert!(rt; pit.periods() > 1);
-    let answer = Desk::open(alloc, pit, &[(3, 1)], 100);
+    let answer = Desk::open(alloc, pit, &[(3, 1)], max_entries);
     answer.ok().expect(rt, "a desk")
+}
+
+fn desk_of(rt: &impl Abort, alloc: Global, row: &Row) -> Desk<Global> {
+    match row.is_started {
+        true => started_desk(rt, alloc, row.max_entries),
+        false => empty_desk(rt, alloc, row.max_entries),
+    }
 }
 
 fn script_of<A: Allocator + Copy + Drop>(
@@ -86,21 +155,17 @@ fn scripts_of<A: Allocator + Copy + Drop>(
 /// A heap that counts requests, and refuses one or none.
 type Heap = Refusing<Global>;
 
-/// What a run of scripts leaves on a desk, one script for each of so many planners.
+/// What scripts leave on a desk, one of each planner.
 fn report_of<R: Threads + Wait + Abort + Sync, G: Gate>(
     rt: &R,
     alloc: Global,
     desk: Desk<Global>,
     texts: &[&[u8]],
-    planners: u32,
     retries: u32,
     gate: &G,
-) -> Report<Global>
-    requires each { length texts.now ≡ planners }
-    requires few { retries ≤ RETRIES_MAX }
-{
+) -> Report<Global> {
     let none = Refusing::new(alloc, 0);
-    let (_, report) = counted(rt, &none, alloc, desk, texts, planners, retries, gate);
+    let (_, report) = counted(rt, &none, alloc, desk, texts, retries, gate);
     report
 }
 
@@ -111,13 +176,13 @@ fn counted<R: Threads + Wait + Abort + Sync, G: Gate, A: Allocator + Copy + Drop
     alloc: A,
     desk: Desk<A>,
     texts: &[&[u8]],
-    planners: u32,
     retries: u32,
     gate: &G,
-) -> (Count, Report<A>)
-    requires each { length texts.now ≡ planners }
-    requires few { retries ≤ RETRIES_MAX }
-{
+) -> (Count, Report<A>) {
+    assert!(rt; retries <= RETRIES_MAX);
+    let Ok(planners) = u32::try_from(texts.len()) else {
+        panic!(rt; "too many planners");
+    };
     play::<Brand, _, _, _, _>(
         rt,
         rt,
@@ -208,7 +273,7 @@ fn run_twice<
     match run(rt, alloc, workspace, seats, scripts, retries, gate) {
         Ok(report) => {
             let has_refused = heap.count().has_refused_since(before);
-            assert!(rt; has_stopped(report.runs.as_slice()) == has_refused);
+            assert!(rt; stopped(report.runs.as_slice()) == u32::from(has_refused));
             report
         }
         Err(RunError::NoMemory { workspace, seats }) => {
@@ -219,14 +284,15 @@ fn run_twice<
     }
 }
 
-/// Whether a planner stopped for want of memory.
-fn has_stopped<A: Allocator + Copy + Drop>(runs: &[PlannerRun<A>]) -> bool {
+/// How many planners stopped for want of memory.
+fn stopped<A: Allocator + Copy + Drop>(runs: &[PlannerRun<A>]) -> u32 {
+    let mut count: u32 = 0;
     for run in runs {
         if matches!(run.ended(), RunEnd::NoMemory { .. }) {
-            return true;
+            count = count.wrapping_add(1);
         }
     }
-    false
+    count
 }
 
 fn run_again<
@@ -256,21 +322,13 @@ fn run_again<
     }
 }
 
-/// A planner's jobs ended so.
-fn assert_run(rt: &impl Abort, report: &Report<Global>, k: u32, jobs: &[Outcome], ended: RunEnd) {
-    let run = report.runs.get(k as usize).expect(rt, "a run");
-    assert!(rt; run.planner() == k.wrapping_add(1));
-    assert!(rt; run.jobs() == jobs);
-    assert!(rt; run.ended() == ended);
-}
-
 /// What is read of the plan to which a legal history leads.
 fn audited<A: Allocator + Copy + Drop>(
     rt: &impl Abort,
     alloc: Global,
     history: &[Entry<A>],
 ) -> Option<Reading> {
-    let pit = tiny(rt, alloc);
+    let pit = pit_with(rt, alloc, &[]);
     let None = pit.unmeetable() else {
         panic!(rt; "unmeetable");
     };
@@ -288,10 +346,62 @@ fn reading(plan: Plan<Global>) -> Option<Reading> {
     reading
 }
 
-/// The history is legal, and leads to the plan.
-fn assert_legal<A: Allocator + Copy + Drop>(rt: &impl Abort, alloc: Global, report: &Report<A>) {
+/// The history is legal, and leads to the plan, of which this is read.
+fn assert_legal<A: Allocator + Copy + Drop>(
+    rt: &impl Abort,
+    alloc: Global,
+    report: &Report<A>,
+) -> Reading {
     let desk = report.closed.desk();
     let reading = audited(rt, alloc, desk.history());
-    assert!(rt; reading.is_some());
     assert_eq!(rt; reading, Reading::of(desk.plan()));
+    reading.expect(rt, "a reading")
+}
+
+/// What is answered of a report, and what a text that grows has then.
+fn written<A: Allocator + Copy + Drop>(
+    alloc: A,
+    of_text: Global,
+    report: &Report<Global>,
+) -> (Result<(), CliFault>, Vec<u8>) {
+    let mut out = Out::new(Vec::new(of_text));
+    let answer = write_report(alloc, &mut out, report);
+    (answer, out.into_inner())
+}
+
+fn is_told(alloc: Global, report: &Report<Global>, lines: &str) -> bool {
+    let (answer, text) = written(alloc, alloc, report);
+    let is = answer == Ok(()) && text.as_slice() == lines.as_bytes();
+    drop(text);
+    is
+}
+
+/// Whether a report has the row's entries.
+fn has_entries(alloc: Global, report: &Report<Global>, row: &Row) -> bool {
+    match to_lines(alloc, report.closed.desk().history()) {
+        Ok(text) => {
+            let is = row.history.as_bytes().starts_with(text.as_slice())
+                && line_feeds(text.as_slice()) == row.entries.wrapping_add(1);
+            drop(text);
+            is
+        }
+        Err(_) => false,
+    }
+}
+
+/// A report is the row's, of a legal history.
+fn assert_row(rt: &impl Abort, alloc: Global, row: &Row, report: &Report<Global>) {
+    let reading = assert_legal(rt, alloc, report);
+    let is = reading.periods == row.periods
+        && reading.loads.0 == row.load
+        && report.runs.len() == row.texts.len();
+    assert!(rt; is, "{}", row.lines);
+    let is = is_told(alloc, report, row.lines) && has_entries(alloc, report, row);
+    assert!(rt; is, "{}", row.lines);
+}
+
+/// Each of the most planners has run, and has its entry.
+fn assert_most(rt: &impl Abort, report: &Report<Global>) {
+    assert!(rt; report.runs.len() == 64);
+    assert!(rt; report.closed.desk().history().len() == 64);
 }

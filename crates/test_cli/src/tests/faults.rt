@@ -1,114 +1,72 @@
 //! The first fault of the texts, and what has one behind them.
-use super::{BARE, Begins, Given, assert_refused};
-use pit_model::BuildError;
-use pit_num::NumError;
+use super::{BASE, Begins, Case, assert_each, has_line};
 use pit_plan::Breach;
-use pit_sample::TINY_BLOCKS;
+use pit_sample::{TINY_BLOCKS, TINY_MODEL, TINY_PRECEDENCE};
 use pit_script::{ScriptCause, ScriptError};
 use pit_step::{BreachLine, CliFault, Input};
-use pit_text::{Cause, Key, TextError};
+use pit_text::{Cause, TextError};
 
 /// Refused by each reader, at its first line.
 const BAD: &[u8] = b"no model\n";
 
-fn of_text(file: Input, line: u64, cause: Cause) -> CliFault {
-    let error = TextError { line, cause };
-    CliFault::Text { file, error }
-}
-
-#[test]
-fn a_bad_model(rt: HostRuntime) {
-    let given = Given {
-        model: BAD,
-        precedence: BAD,
-        blocks: Some(BAD),
-        begins: Begins::Schedule(BAD),
-        scripts: &[BAD],
-        ..BARE
-    };
-    let fault = of_text(Input::Model, 2, Cause::MissingHeader(Key::Kind));
-    assert_refused(&rt, rt.alloc(), given, fault);
-}
-
-#[test]
-fn bad_precedences(rt: HostRuntime) {
-    let given = Given {
-        precedence: BAD,
-        blocks: Some(BAD),
-        begins: Begins::Schedule(BAD),
-        scripts: &[BAD],
-        ..BARE
-    };
-    let fault = of_text(Input::Precedence, 1, Cause::BadNumber(NumError::Malformed));
-    assert_refused(&rt, rt.alloc(), given, fault);
-}
-
-#[test]
-fn bad_blocks(rt: HostRuntime) {
-    let given = Given {
-        blocks: Some(BAD),
-        begins: Begins::Schedule(BAD),
-        scripts: &[BAD],
-        ..BARE
-    };
-    let fault = of_text(Input::Blocks, 1, Cause::FieldCount);
-    assert_refused(&rt, rt.alloc(), given, fault);
-}
-
-#[test]
-fn a_bad_start(rt: HostRuntime) {
-    let given = Given {
+/// Texts with faults, each with the first of them.
+const TEXTS: &[Case<'static>] = &[
+    BAD_MODEL,
+    BAD_PRECEDENCE,
+    BAD_BLOCKS,
+    Case {
         blocks: Some(TINY_BLOCKS),
-        begins: Begins::Schedule(b"0 2\n"),
-        scripts: &[BAD],
-        ..BARE
-    };
-    let fault = of_text(Input::Start, 1, Cause::Build(BuildError::PeriodRange));
-    assert_refused(&rt, rt.alloc(), given, fault);
-}
-
-/// Before the start's own breach.
-#[test]
-fn a_bad_script(rt: HostRuntime) {
-    let given = Given {
-        begins: Begins::Schedule(b"2 0\n"),
+        begins: Begins::Schedule("0 2\n"),
+        answer: Err("pit: start line 1: period out of range"),
+        ..BAD_BLOCKS
+    },
+    // A script's comes before the start's own breach.
+    Case {
         scripts: &[b"", b"begin\nbench 0 0\ncommit\n", BAD],
-        ..BARE
-    };
-    let error = ScriptError {
-        line: 2,
-        cause: ScriptCause::NoBench,
-    };
-    let fault = CliFault::Script { number: 2, error };
-    assert_refused(&rt, rt.alloc(), given, fault);
-}
+        answer: Err("pit: script 2 line 2: no such bench"),
+        ..EARLY
+    },
+];
+
+const BAD_MODEL: Case<'static> = Case {
+    model: BAD,
+    precedence: BAD,
+    blocks: Some(BAD),
+    begins: Begins::Schedule("no model\n"),
+    scripts: &[BAD],
+    answer: Err("pit: model line 2: missing TYPE"),
+    ..BASE
+};
+
+const BAD_PRECEDENCE: Case<'static> = Case {
+    model: TINY_MODEL,
+    answer: Err("pit: precedence line 1: bad number"),
+    ..BAD_MODEL
+};
+
+const BAD_BLOCKS: Case<'static> = Case {
+    precedence: TINY_PRECEDENCE,
+    answer: Err("pit: blocks line 1: field count"),
+    ..BAD_PRECEDENCE
+};
+
+/// A start that breaks a precedence.
+const EARLY: Case<'static> = Case {
+    begins: Begins::Schedule("2 0\n"),
+    answer: Err("pit: start: precedence 2 0"),
+    ..BASE
+};
+
+/// A start that is too heavy for its limit, whatever a history has revised.
+const HEAVY: Case<'static> = Case {
+    begins: Begins::Schedule("0 0\n1 0\n3 0\n"),
+    answer: Err("pit: start: over 0 0 5.000000 4.000000"),
+    ..BASE
+};
 
 #[test]
-fn an_early_start(rt: HostRuntime) {
-    let given = Given {
-        begins: Begins::Schedule(b"2 0\n"),
-        ..BARE
-    };
-    let breach = Breach::Precedence {
-        block: 2,
-        before: 0,
-    };
-    assert_refused(&rt, rt.alloc(), given, CliFault::Start(BreachLine(breach)));
-}
-
-#[test]
-fn a_heavy_start(rt: HostRuntime) {
-    let given = Given {
-        begins: Begins::Schedule(b"0 0\n1 0\n3 0\n"),
-        ..BARE
-    };
-    let breach = Breach::Over {
-        resource: 0,
-        period: 0,
-        load: 5_000_000,
-        limit: 4_000_000,
-    };
-    assert_refused(&rt, rt.alloc(), given, CliFault::Start(BreachLine(breach)));
+fn of_texts(rt: HostRuntime) {
+    assert_each(&rt, rt.alloc(), TEXTS);
 }
 
 /// A pit of the small one's size, of which one limit is below zero.
@@ -124,19 +82,29 @@ RESOURCE_CONSTRAINT_LIMITS:
 0 1 L -1
 ";
 
-/// Before the start's breach, and the number of planners.
-#[test]
-fn a_limit_below_zero(rt: HostRuntime) {
-    let given = Given {
+/// What is refused behind the texts. That no script is there is the last fault.
+const STARTS: &[Case<'static>] = &[
+    EARLY,
+    HEAVY,
+    Case {
+        scripts: &[b""],
+        ..HEAVY
+    },
+    // Before the start's breach.
+    Case {
         model: BELOW_ZERO,
-        begins: Begins::Schedule(b"2 0\n"),
-        ..BARE
-    };
-    let fault = CliFault::LimitBelowZero {
-        resource: 0,
-        period: 1,
-    };
-    assert_refused(&rt, rt.alloc(), given, fault);
+        answer: Err("pit: model: upper limit below zero 0 1"),
+        ..EARLY
+    },
+    Case {
+        answer: Err("pit: planner count"),
+        ..BASE
+    },
+];
+
+#[test]
+fn of_starts(rt: HostRuntime) {
+    assert_each(&rt, rt.alloc(), STARTS);
 }
 
 /// Fault lines with numbers, of which no two are the same.
@@ -193,13 +161,9 @@ const LINES: &[(CliFault, &str)] = &[
 #[test]
 fn lines_with_numbers(rt: HostRuntime) {
     for (fault, line) in LINES {
-        let shown = format!(in rt.alloc(); "{}", fault).expect(&rt, "memory");
-        assert!(rt; shown.as_str() == *line);
-        assert!(rt; fault.status() == 2);
+        assert!(rt;
+            has_line(rt.alloc(), *fault, line) && fault.status() == 2,
+            "{line}"
+        );
     }
-}
-
-#[test]
-fn no_script(rt: HostRuntime) {
-    assert_refused(&rt, rt.alloc(), BARE, CliFault::PlannerCount);
 }

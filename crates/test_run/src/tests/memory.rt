@@ -1,18 +1,17 @@
 //! Each request of a run refused in turn.
-ghost use Rattle.std.specs.Prelude.{◌≡◌, length};
-
-use super::{Heap, assert_legal, counted, empty_desk};
+use super::turns::taken;
+use super::{Heap, assert_legal, counted, empty_desk, stopped};
 use pit_desk::{EntryReply, Refusal};
 use pit_job::{Open, Outcome, RunEnd};
 use pit_refuse::{Count, Refusing};
-use pit_run::{PlannerRun, Report};
+use pit_run::{InTurnError, PlannerRun, Report};
 use std::alloc::{Allocator, Global};
 use std::process::Abort;
 use std::sync::Wait;
 use std::thread::Threads;
 
 /// Jobs of each kind, past the first doublings of outcomes, logs and history.
-pub(super) const SCRIPT: &[u8] = b"begin
+const SCRIPT: &[u8] = b"begin
 put 0 0
 put 1 0
 commit
@@ -41,50 +40,83 @@ commit
 /// How many jobs those are.
 const JOBS: u32 = 6;
 
+/// How planners run.
+#[derive(Clone, Copy)]
+enum Way {
+    AtOnce,
+    InTurn,
+}
+
 #[test]
 fn of_one_planner(rt: HostRuntime) {
-    refuse_each(&rt, rt.alloc(), &[SCRIPT], 1);
+    refuse_each(&rt, rt.alloc(), Way::AtOnce, &[SCRIPT]);
 }
 
 #[test]
 fn of_two_planners(rt: HostRuntime) {
-    refuse_each(&rt, rt.alloc(), &[SCRIPT, SCRIPT], 2);
+    refuse_each(&rt, rt.alloc(), Way::AtOnce, &[SCRIPT, SCRIPT]);
 }
 
-/// Refuses each request that a run makes, from its first one on, of so many planners.
-fn refuse_each<R: Threads + Wait + Abort + Sync>(
-    rt: &R,
-    alloc: Global,
-    texts: &[&[u8]],
-    planners: u32,
-)
-    requires { length texts.now ≡ planners }
-{
-    let none = Refusing::new(alloc, 0);
-    let before = played(rt, alloc, &none, texts, planners);
-    let after = none.count();
-    assert!(rt; before.asked.wrapping_add(30) < after.asked);
-    for number in before.asked..after.asked {
-        let heap = Refusing::new(alloc, number.wrapping_add(1));
-        let again = played(rt, alloc, &heap, texts, planners);
-        assert!(rt; again.asked == before.asked);
+#[test]
+fn of_two_planners_in_turn(rt: HostRuntime) {
+    refuse_each(&rt, rt.alloc(), Way::InTurn, &[SCRIPT, SCRIPT]);
+}
+
+/// Refuses each request that a run makes, from its first one on.
+fn refuse_each<R: Threads + Wait + Abort + Sync>(rt: &R, alloc: Global, way: Way, texts: &[&[u8]]) {
+    let (before, after) = requests(rt, alloc, 0, way, texts);
+    assert!(rt; before.wrapping_add(30) < after);
+    for number in before..after {
+        let (again, _) = requests(rt, alloc, number.wrapping_add(1), way, texts);
+        assert!(rt; again == before);
     }
 }
 
+/// How many requests there are before a run and behind it, where the one with this number is refused.
+fn requests<R: Threads + Wait + Abort + Sync>(
+    rt: &R,
+    alloc: Global,
+    number: u64,
+    way: Way,
+    texts: &[&[u8]],
+) -> (u64, u64) {
+    let heap = Refusing::new(alloc, number);
+    let before = match way {
+        Way::AtOnce => at_once(rt, alloc, &heap, texts),
+        Way::InTurn => in_turn(rt, alloc, &heap, texts),
+    };
+    let after = heap.count();
+    drop(heap);
+    (before.asked, after.asked)
+}
+
 /// The count of requests before the run.
-fn played<R: Threads + Wait + Abort + Sync>(
+fn at_once<R: Threads + Wait + Abort + Sync>(
     rt: &R,
     alloc: Global,
     heap: &Heap,
     texts: &[&[u8]],
-    planners: u32,
-) -> Count
-    requires { length texts.now ≡ planners }
-{
+) -> Count {
     let desk = empty_desk(rt, heap, 1_000);
-    let (before, report) = counted(rt, heap, heap, desk, texts, planners, 3, &Open);
+    let (before, report) = counted(rt, heap, heap, desk, texts, 3, &Open);
     assert_report(rt, alloc, heap, &report);
     drop(report);
+    before
+}
+
+/// The same of planners who take turns.
+fn in_turn<R: Wait + Abort>(rt: &R, alloc: Global, heap: &Heap, texts: &[&[u8]]) -> Count {
+    let desk = empty_desk(rt, heap, 1_000);
+    let (before, answer) = taken(rt, heap, heap, desk, texts);
+    let has_refused = heap.count().has_refused_since(before);
+    match answer {
+        Ok(report) => {
+            assert!(rt; stopped(report.runs.as_slice()) == u32::from(has_refused));
+            assert_report(rt, alloc, heap, &report);
+            drop(report);
+        }
+        Err(error) => assert!(rt; has_refused && error == InTurnError::NoMemory),
+    }
     before
 }
 
@@ -97,21 +129,17 @@ fn assert_report<A: Allocator + Copy + Drop>(
 ) {
     assert_legal(rt, alloc, report);
     assert_told(rt, report);
-    let mut stopped: u32 = 0;
+    assert!(rt; stopped(report.runs.as_slice()) <= u32::from(heap.count().has_refused()));
     for run in report.runs.as_slice() {
-        if !is_whole(run) {
-            assert!(rt; is_stopped(run));
-            stopped = stopped.wrapping_add(1);
-        }
+        assert!(rt; is_ended(run));
     }
-    assert!(rt; stopped == 0 || stopped == 1 && heap.count().has_refused());
 }
 
 /// As many entries as outcomes aren't Moved, so no ending is lost.
 fn assert_told<A: Allocator + Copy + Drop>(rt: &impl Abort, report: &Report<A>) {
     let mut left: u32 = 0;
     for entry in report.closed.desk().history() {
-        if !is_moved(&entry.reply) {
+        if !matches!(entry.reply, EntryReply::Refused(Refusal::Moved { .. })) {
             left = left.wrapping_add(1);
         }
     }
@@ -125,10 +153,6 @@ fn assert_told<A: Allocator + Copy + Drop>(rt: &impl Abort, report: &Report<A>) 
     assert!(rt; left == 0);
 }
 
-fn is_moved(reply: &EntryReply) -> bool {
-    matches!(*reply, EntryReply::Refused(Refusal::Moved { .. }))
-}
-
 fn is_given_up(outcome: &Outcome) -> bool {
     match *outcome {
         Outcome::Refused { refusal, .. } => matches!(refusal, Refusal::Moved { .. }),
@@ -136,13 +160,10 @@ fn is_given_up(outcome: &Outcome) -> bool {
     }
 }
 
-fn is_whole<A: Allocator + Copy + Drop>(run: &PlannerRun<A>) -> bool {
-    run.ended() == RunEnd::Whole && run.jobs().len() == JOBS as usize
-}
-
-/// Whether each job before the one without memory has its outcome.
-fn is_stopped<A: Allocator + Copy + Drop>(run: &PlannerRun<A>) -> bool {
+/// Whether each job has its outcome, or each before the one without memory.
+fn is_ended<A: Allocator + Copy + Drop>(run: &PlannerRun<A>) -> bool {
     match run.ended() {
+        RunEnd::Whole => run.jobs().len() == JOBS as usize,
         RunEnd::NoMemory { job } => run.jobs().len() == job.wrapping_sub(1) as usize,
         _ => false,
     }

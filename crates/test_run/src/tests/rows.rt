@@ -1,11 +1,10 @@
-//! Worked runs: what becomes of each job, and the entries.
-ghost use Rattle.std.specs.Prelude.{◌≤◌};
-ghost use Rattle.pit_job.specs.declared.planner_run.TheConstants.{RETRIES_MAX};
-
-use super::{assert_legal, assert_run, empty_desk, report_of, started_desk};
-use pit_desk::{Act, Desk, Entry, EntryReply, Refusal};
-use pit_job::{Gate, Open, Outcome, RunEnd};
+//! Worked runs of planners at once: what becomes of each job, and the entries.
+use super::{EMPTY, NOTHING, Row, THREE, assert_row, desk_of, is_told, report_of, written};
+use pit_job::{Gate, Open};
+use pit_refuse::Refusing;
 use pit_run::Report;
+use pit_sample::{LOADING, MEETING, REVISING};
+use pit_step::CliFault;
 use std::alloc::Global;
 use std::process::Abort;
 use std::sync::Wait;
@@ -13,42 +12,14 @@ use std::sync::atomic::{AtomicU64, Ordering};
 use std::thread;
 use std::thread::Threads;
 
-/// Blocks with their periods.
-pub(super) type Pairs = &'static [(u32, Option<u32>)];
-
-/// What is expected of an entry.
-pub(super) struct Line {
-    pub(super) planner: u32,
-    pub(super) job: u32,
-    pub(super) start: u32,
-    pub(super) reads: Pairs,
-    pub(super) writes: Pairs,
-    pub(super) act: Act,
-    pub(super) reply: EntryReply,
-}
-
-/// Whether it is the entry, which revises nothing.
-fn is_line(entry: &Entry<Global>, line: &Line) -> bool {
-    entry.planner == line.planner
-        && entry.job == line.job
-        && entry.start == line.start
-        && entry.act == line.act
-        && entry.reply == line.reply
-        && has_pairs(entry, line)
-}
-
-fn has_pairs(entry: &Entry<Global>, line: &Line) -> bool {
-    entry.reads.items() == line.reads
-        && entry.writes.items() == line.writes
-        && entry.revises.items().is_empty()
-}
-
-pub(super) fn assert_history(rt: &impl Abort, report: &Report<Global>, lines: &[Line]) {
-    let history = report.closed.desk().history();
-    assert!(rt; history.len() == lines.len());
-    for (entry, line) in history.iter().zip(lines.iter()) {
-        assert!(rt; is_line(entry, line), "{}", line.job);
-    }
+fn at_once<R: Threads + Wait + Abort + Sync, G: Gate>(
+    rt: &R,
+    alloc: Global,
+    row: &Row,
+    retries: u32,
+    gate: &G,
+) -> Report<Global> {
+    report_of(rt, alloc, desk_of(rt, alloc, row), row.texts, retries, gate)
 }
 
 /// How many times a gate looks before it lets go.
@@ -60,16 +31,6 @@ struct Between {
     first_came: AtomicU64,
     second_went: AtomicU64,
     failed: AtomicU64,
-}
-
-impl Between {
-    fn new() -> Between {
-        Between {
-            first_came: AtomicU64::new(0),
-            second_went: AtomicU64::new(0),
-            failed: AtomicU64::new(0),
-        }
-    }
 }
 
 fn hold(until: &AtomicU64, failed: &AtomicU64) {
@@ -99,195 +60,203 @@ impl Gate for Between {
     }
 }
 
-pub(super) const FIRST: &[u8] = b"begin\nshift 3 -1\ncommit\n";
+/// Two scripts that meet at block 3.
+pub(super) const TWO: &[&[u8]] = &[b"begin\nshift 3 -1\ncommit\n", b"begin\nclear 3\ncommit\n"];
 
-pub(super) const SECOND: &[u8] = b"begin\nclear 3\ncommit\n";
-
-/// The entries of those two scripts, up to the one that was moved.
-const MOVED: &[Line] = &[
-    Line {
-        planner: 0,
-        job: 0,
-        start: 0,
-        reads: &[],
-        writes: &[(3, Some(1))],
-        act: Act::Commit,
-        reply: EntryReply::Committed { number: 1 },
-    },
-    Line {
-        planner: 2,
-        job: 1,
-        start: 1,
-        reads: &[],
-        writes: &[(3, None)],
-        act: Act::Commit,
-        reply: EntryReply::Committed { number: 2 },
-    },
-    Line {
-        planner: 1,
-        job: 1,
-        start: 1,
-        reads: &[(3, Some(1))],
-        writes: &[(3, Some(0))],
-        act: Act::Commit,
-        reply: EntryReply::Refused(Refusal::Moved {
-            block: 3,
-            version: 2,
-        }),
-    },
-];
-
-const MOVED_3: Refusal = Refusal::Moved {
-    block: 3,
-    version: 2,
+const TRIED_AGAIN: &Row = &Row {
+    is_started: true,
+    texts: TWO,
+    lines: "\
+planner 1 job 1 withdrawn tries 2
+planner 2 job 1 committed 2 tries 1
+value 0.000000000000000000
+short 0 1 0.000000 1.000000
+",
+    entries: 4,
+    history: MEETING,
+    ..EMPTY
 };
 
-/// The one behind them.
-const WITHDRAWN: Line = Line {
-    planner: 1,
-    job: 1,
-    start: 2,
-    reads: &[(3, None)],
-    writes: &[],
-    act: Act::Withdraw,
-    reply: EntryReply::Withdrawn,
+/// The same without retries, and so without the last entry.
+const GIVEN_UP: &Row = &Row {
+    is_started: true,
+    texts: TWO,
+    lines: "\
+planner 1 job 1 refused moved 3 2 tries 1
+planner 2 job 1 committed 2 tries 1
+value 0.000000000000000000
+short 0 1 0.000000 1.000000
+",
+    entries: 3,
+    history: MEETING,
+    ..EMPTY
 };
 
-#[test]
-fn a_moved_job_is_tried_again(rt: HostRuntime) {
-    let report = met(&rt, rt.alloc(), 3);
-    assert_run(&rt, &report, 0, &[TWICE], RunEnd::Whole);
-    assert_again(&rt, report.closed.desk().history());
+/// The two scripts meet at the gate, which never lets go.
+fn assert_met<R: Threads + Wait + Abort + Sync>(rt: &R, alloc: Global, row: &Row, retries: u32) {
+    let gate = Between {
+        first_came: AtomicU64::new(0),
+        second_went: AtomicU64::new(0),
+        failed: AtomicU64::new(0),
+    };
+    let report = at_once(rt, alloc, row, retries, &gate);
+    assert!(rt; gate.failed.load(Ordering::SeqCst) == 0);
+    assert_row(rt, alloc, row, &report);
     drop(report);
 }
 
-const TWICE: Outcome = Outcome::Withdrawn { tries: 2 };
-
-fn assert_again(rt: &impl Abort, history: &[Entry<Global>]) {
-    assert!(rt; history.len() == 4);
-    for (entry, line) in history.iter().zip(MOVED.iter()) {
-        assert!(rt; is_line(entry, line));
-    }
-    assert!(rt;
-        history
-            .last()
-            .is_some_and(|entry| is_line(entry, &WITHDRAWN))
-    );
+#[test]
+fn a_moved_job_is_tried_again(rt: HostRuntime) {
+    assert_met(&rt, rt.alloc(), TRIED_AGAIN, 3);
 }
 
 #[test]
 fn a_moved_job_is_given_up(rt: HostRuntime) {
-    let report = met(&rt, rt.alloc(), 0);
-    assert_run(&rt, &report, 0, &[GIVEN_UP], RunEnd::Whole);
-    assert_history(&rt, &report, MOVED);
-    drop(report);
+    assert_met(&rt, rt.alloc(), GIVEN_UP, 0);
 }
 
-const GIVEN_UP: Outcome = Outcome::Refused {
-    refusal: MOVED_3,
-    tries: 1,
+/// Blocks 0 and 3 are at height 2; block 1 has no period to be shifted from. A job that gives up tells what it would have written.
+const BENCH: Row = Row {
+    texts: &[
+        b"begin\nbench 2 0\ncommit\nbegin\nread 0\nclear 3\nabort\nbegin\nshift 1 1\ncommit\n",
+    ],
+    lines: "\
+planner 1 job 1 committed 1 tries 1
+planner 1 job 2 withdrawn tries 1
+planner 1 job 3 withdrawn tries 1
+value -5.000000000000000000
+short 0 1 0.000000 1.000000
+",
+    entries: 3,
+    history: r#"{"format":1}
+{"act":"commit","job":1,"planner":1,"reads":[],"reply":{"committed":1},"start":0,"writes":[[0,0],[3,0]]}
+{"act":"withdraw","job":2,"planner":1,"reads":[[0,0]],"reply":"withdrawn","start":1,"writes":[[3,null]]}
+{"act":"withdraw","job":3,"planner":1,"reads":[[1,null]],"reply":"withdrawn","start":1,"writes":[]}
+"#,
+    periods: (Some(0), None, None, Some(0)),
+    load: 3_000_000,
+    ..EMPTY
 };
 
-/// The two scripts meet at the gate, which never lets go.
-fn met<R: Threads + Wait + Abort + Sync>(rt: &R, alloc: Global, retries: u32) -> Report<Global>
-    requires { retries ≤ RETRIES_MAX }
-{
-    let gate = Between::new();
-    let desk = started_desk(rt, alloc);
-    let report = report_of(rt, alloc, desk, &[FIRST, SECOND], 2, retries, &gate);
-    assert!(rt; gate.failed.load(Ordering::SeqCst) == 0);
-    assert_run(rt, &report, 1, &[SECOND_ONCE], RunEnd::Whole);
-    assert_legal(rt, alloc, &report);
-    report
-}
-
-/// What one planner's script comes to on an empty desk.
-fn alone<R: Threads + Wait + Abort + Sync>(rt: &R, alloc: Global, row: &Row) -> Report<Global> {
-    let desk: Desk<Global> = empty_desk(rt, alloc, row.max_entries);
-    let report = report_of(rt, alloc, desk, &[row.text], 1, 3, &Open);
-    assert_legal(rt, alloc, &report);
-    assert_run(rt, &report, 0, row.jobs, row.ended);
-    report
-}
-
-/// A planner's script on a desk that may have so many entries, and how it ends.
-struct Row {
-    text: &'static [u8],
-    max_entries: u32,
-    jobs: &'static [Outcome],
-    ended: RunEnd,
-}
-
-const FIRST_ONCE: Outcome = Outcome::Committed {
-    number: 1,
-    tries: 1,
-};
-
-const SECOND_ONCE: Outcome = Outcome::Committed {
-    number: 2,
-    tries: 1,
-};
-
-const WITHDRAWN_ONCE: Outcome = Outcome::Withdrawn { tries: 1 };
-
-const OVER: Outcome = Outcome::Refused {
-    refusal: Refusal::Over {
-        resource: 0,
-        period: 0,
-        load: 5_000_000,
-        limit: 4_000_000,
-    },
-    tries: 1,
-};
-
-pub(super) const THREE: &[u8] =
-    b"begin\nput 0 0\nput 1 0\ncommit\nbegin\nput 3 0\ncommit\nbegin\nput 3 1\ncommit\n";
-
-const REFUSED: &Row = &Row {
-    text: THREE,
-    max_entries: 100,
-    jobs: &[FIRST_ONCE, OVER, SECOND_ONCE],
-    ended: RunEnd::Whole,
-};
-
-#[test]
-fn a_job_is_refused_for_a_limit(rt: HostRuntime) {
-    assert_entries(&rt, rt.alloc(), REFUSED, 3);
-}
-
-/// The script, which makes 3 entries, on desks that may have 0, 1, 2 and 3.
-const FULL: &[Row] = &[
+/// A planner alone.
+const ROWS: &[Row] = &[
+    // The history is full, or just not.
     Row {
-        text: THREE,
         max_entries: 0,
-        jobs: &[],
-        ended: RunEnd::Full { job: 1 },
+        lines: "\
+planner 1 stopped at job 1: full
+value 0.000000000000000000
+short 0 1 0.000000 1.000000
+",
+        entries: 0,
+        periods: (None, None, None, None),
+        load: 0,
+        ..THREE
     },
     Row {
-        text: THREE,
         max_entries: 1,
-        jobs: &[FIRST_ONCE],
-        ended: RunEnd::Full { job: 2 },
+        lines: "\
+planner 1 job 1 committed 1 tries 1
+planner 1 stopped at job 2: full
+value 10.500000000000000000
+short 0 1 0.000000 1.000000
+",
+        entries: 1,
+        periods: (Some(0), Some(0), None, None),
+        ..THREE
     },
     Row {
-        text: THREE,
         max_entries: 2,
-        jobs: &[FIRST_ONCE, OVER],
-        ended: RunEnd::Full { job: 3 },
+        lines: "\
+planner 1 job 1 committed 1 tries 1
+planner 1 job 2 refused over 0 0 5.000000 4.000000 tries 1
+planner 1 stopped at job 3: full
+value 10.500000000000000000
+short 0 1 0.000000 1.000000
+",
+        entries: 2,
+        periods: (Some(0), Some(0), None, None),
+        ..THREE
     },
     Row {
-        text: THREE,
         max_entries: 3,
-        jobs: &[FIRST_ONCE, OVER, SECOND_ONCE],
-        ended: RunEnd::Whole,
+        ..THREE
     },
+    THREE,
+    // No jobs.
+    Row {
+        max_entries: 0,
+        ..EMPTY
+    },
+    // A limit is revised.
+    Row {
+        texts: &[
+            b"begin\nput 0 0\nput 1 0\ncommit\nbegin\nput 3 0\nrevise 0 0 5\ncommit\nbegin\nrevise 0 0 4\ncommit\n",
+        ],
+        lines: "\
+planner 1 job 1 committed 1 tries 1
+planner 1 job 2 committed 2 tries 1
+planner 1 job 3 refused over 0 0 5.000000 4.000000 tries 1
+value 15.500000000000000000
+short 0 1 0.000000 1.000000
+",
+        entries: 3,
+        history: REVISING,
+        periods: (Some(0), Some(0), None, Some(0)),
+        load: 5_000_000,
+        ..EMPTY
+    },
+    BENCH,
 ];
 
 #[test]
-fn the_history_is_full(rt: HostRuntime) {
-    for row in FULL {
-        assert_entries(&rt, rt.alloc(), row, row.max_entries as usize);
+fn one_planner(rt: HostRuntime) {
+    for row in ROWS {
+        assert_alone(&rt, rt.alloc(), row);
     }
+}
+
+fn assert_alone<R: Threads + Wait + Abort + Sync>(rt: &R, alloc: Global, row: &Row) {
+    let report = at_once(rt, alloc, row, 3, &Open);
+    assert_row(rt, alloc, row, &report);
+    for number in 1..20 {
+        assert!(rt; is_without_memory(alloc, number, &report), "{number}");
+    }
+    drop(report);
+}
+
+/// Whether memory for a report is wanted only where the request with this number was refused, and then nothing is written.
+fn is_without_memory(alloc: Global, number: u64, report: &Report<Global>) -> bool {
+    let heap = Refusing::new(alloc, number);
+    let (answer, text) = written(&heap, alloc, report);
+    let has_refused = heap.count().has_refused();
+    let is_empty = text.is_empty();
+    drop(text);
+    drop(heap);
+    match has_refused {
+        true => answer == Err(CliFault::NoMemory) && is_empty,
+        false => answer == Ok(()),
+    }
+}
+
+/// A planner who reads, and one who writes.
+const BOTH: &Row = &Row {
+    is_started: true,
+    texts: &[b"begin\nread 3\nabort\n", b"begin\nput 1 0\ncommit\n"],
+    lines: "\
+planner 1 job 1 withdrawn tries 1
+planner 2 job 1 refused precedence 1 0 tries 1
+value 4.545454545455000000
+",
+    ..EMPTY
+};
+
+/// The planners are told in their order, whoever was done first.
+#[test]
+fn two_planners(rt: HostRuntime) {
+    let report = at_once(&rt, rt.alloc(), BOTH, 3, &Open);
+    assert!(rt; is_told(rt.alloc(), &report, BOTH.lines));
+    drop(report);
 }
 
 /// Counts what it is told.
@@ -310,93 +279,17 @@ impl Gate for Counting {
 /// Of an abort, and of a job that gives up, a gate isn't told.
 #[test]
 fn a_gate_is_told_of_commits_alone(rt: HostRuntime) {
-    assert_counts(&rt, rt.alloc(), THREE, 3);
-    assert_counts(&rt, rt.alloc(), BENCH.text, 1);
+    for (row, commits) in [(&THREE, 3), (&BENCH, 1)] {
+        assert_counts(&rt, rt.alloc(), row, commits);
+    }
 }
 
-fn assert_counts<R: Threads + Wait + Abort + Sync>(
-    rt: &R,
-    alloc: Global,
-    text: &[u8],
-    commits: u64,
-) {
+fn assert_counts<R: Threads + Wait + Abort + Sync>(rt: &R, alloc: Global, row: &Row, commits: u64) {
     let gate = Counting {
         before: AtomicU64::new(0),
         after: AtomicU64::new(0),
     };
-    let desk = empty_desk(rt, alloc, 100);
-    let report = report_of(rt, alloc, desk, &[text], 1, 3, &gate);
+    drop(at_once(rt, alloc, row, 3, &gate));
     assert!(rt; gate.before.load(Ordering::SeqCst) == commits);
     assert!(rt; gate.after.load(Ordering::SeqCst) == commits);
-    drop(report);
 }
-
-const EMPTY: &Row = &Row {
-    text: b"\n",
-    max_entries: 0,
-    jobs: &[],
-    ended: RunEnd::Whole,
-};
-
-#[test]
-fn no_jobs(rt: HostRuntime) {
-    assert_entries(&rt, rt.alloc(), EMPTY, 0);
-}
-
-fn assert_entries<R: Threads + Wait + Abort + Sync>(
-    rt: &R,
-    alloc: Global,
-    row: &Row,
-    entries: usize,
-) {
-    let report = alone(rt, alloc, row);
-    assert!(rt; report.closed.desk().history().len() == entries);
-    drop(report);
-}
-
-pub(super) const REVISED: &[u8] =
-    b"begin\nput 0 0\nput 1 0\ncommit\nbegin\nput 3 0\nrevise 0 0 5\ncommit\nbegin\nrevise 0 0 4\ncommit\n";
-
-const REVISING: &Row = &Row {
-    text: REVISED,
-    max_entries: 100,
-    jobs: &[FIRST_ONCE, SECOND_ONCE, OVER],
-    ended: RunEnd::Whole,
-};
-
-#[test]
-fn a_limit_is_revised(rt: HostRuntime) {
-    let report = alone(&rt, rt.alloc(), REVISING);
-    let second = report.closed.desk().history().get(1);
-    assert!(rt; second.is_some_and(|entry| entry.revises.items() == REVISES));
-    drop(report);
-}
-
-const REVISES: &[(u32, u32, Option<i64>)] = &[(0, 0, Some(5_000_000))];
-
-/// Blocks 0 and 3 are at height 2; block 1 has no period to be shifted from.
-const BENCH: &Row = &Row {
-    text: b"begin\nbench 2 0\ncommit\nbegin\nread 0\nclear 3\nabort\nbegin\nshift 1 1\ncommit\n",
-    max_entries: 100,
-    jobs: &[FIRST_ONCE, WITHDRAWN_ONCE, WITHDRAWN_ONCE],
-    ended: RunEnd::Whole,
-};
-
-#[test]
-fn a_bench_is_put(rt: HostRuntime) {
-    let report = alone(&rt, rt.alloc(), BENCH);
-    let first = report.closed.desk().history().first();
-    assert!(rt; first.is_some_and(|entry| entry.writes.items() == BENCH_WRITES));
-    assert_load(&rt, &report, 3_000_000);
-    drop(report);
-}
-
-/// The load of the first period, in millionths.
-fn assert_load(rt: &impl Abort, report: &Report<Global>, load: i128) {
-    let plan = report.closed.desk().plan();
-    assert!(rt; plan.instance().resources() > 0);
-    assert!(rt; plan.instance().periods() > 0);
-    assert!(rt; plan.load(0, 0) == load);
-}
-
-const BENCH_WRITES: Pairs = &[(0, Some(0)), (3, Some(0))];
