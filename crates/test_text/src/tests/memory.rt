@@ -1,302 +1,128 @@
-//! Each allocation refused in turn, and what is freed after a fault.
-use super::{BLOCK_RANGE, Kind, REPEATED, fault};
-use linked_list_allocator::LocalHeap;
-use pit_model::{Builder, Instance};
+//! Each request for memory refused in turn, what is freed after a fault, and what takes none: what a number of a text announces, before it has come.
+use super::histories::is_written;
+use super::numbers::is_factor;
+use super::reading::{Kind, Look, read};
+use super::told::{Facts, is_told};
+use super::{Answer, BLOCK_RANGE, Fault, REPEATED, Why};
+use Case::{Factor, Read, Told, Written};
+use Cause::{BadHeader, CountWrong, FieldCount, MissingHeader, NotCpit};
+use Kind::{Blocks, History, Model, Precedence, Script, Solution};
+use Why::{InHistory, InPit, InScript};
+use pit_desk::Entry;
+use pit_lines::LinesCause;
+use pit_num::NoMemory;
 use pit_refuse::Refusing;
-use pit_sample::Size;
-use pit_text::{Cause, TextError, read_blocks, read_model, read_precedence, read_solution};
-use std::alloc::{Allocator, Global};
-use std::fmt::Write;
+use pit_sample::{Ending, Heap, TINY_BLOCKS, TINY_SIZE, Trial, line_feeds, refuse_each};
+use pit_script::ScriptCause;
+use pit_text::{Cause, Key, read_model};
+use std::alloc::Global;
 use std::process::Abort;
 
-/// An allocator that refuses one request.
-type Heap<'a> = &'a Refusing<LocalHeap>;
+/// What takes memory, and what comes of it.
+#[derive(Clone, Copy)]
+pub(super) enum Case<'a> {
+    /// A rate, a period, and its factor.
+    Factor(u32, u32, i64),
+    /// A pit of facts.
+    Told(Facts<'a>),
+    /// A text, and what it is read as.
+    Read(Kind<'a>, &'a [u8], Answer),
+    /// A history, and its text.
+    Written(&'a [Entry<Global>], &'a [u8]),
+}
 
-/// The bytes of a heap, of which no reader takes half.
-const BYTES: usize = 2_097_152;
+/// The bytes of a heap, of which no call takes half.
+pub(super) const BYTES: usize = 4_194_304;
 
-/// The number of lines of each long text, which has more than 8,192 bytes.
-const LINES: u32 = 1_500;
-
-const SIZE: Size = Size {
-    blocks: LINES,
-    periods: 2,
-    resources: 3,
-};
-
-/// The header of a model of that size, and the line of a section.
-const HEADER: &str = "TYPE: CPIT
-NBLOCKS: 1500
-NPERIODS: 2
-NRESOURCE_SIDE_CONSTRAINTS: 3
-DISCOUNT_RATE: 0.1
-RESOURCE_CONSTRAINT_COEFFICIENTS:
-";
-
-/// Want of memory for what a text is read into.
-const WANT: TextError = TextError {
-    line: 1,
-    cause: Cause::NoMemory,
-};
-
-fn empty<A: Allocator + Copy + Drop>(alloc: A) -> Result<Builder<A>, TextError> {
-    match SIZE.builder(alloc) {
-        Ok(builder) => Ok(builder),
-        Err(_) => Err(WANT),
+/// Whether memory is wanted for a line of the text, and of a history for one of its entries.
+fn is_want(fault: Fault, text: &[u8]) -> bool {
+    let (line, why) = fault;
+    match why {
+        InPit(cause) => cause == Cause::NoMemory,
+        InScript(cause) => cause == ScriptCause::NoMemory,
+        InHistory(cause) => cause == LinesCause::NoMemory && line >= 2 && line <= lines(text),
     }
 }
 
-fn pit_of<A: Allocator + Copy + Drop>(builder: Builder<A>) -> Result<Instance<A>, TextError> {
-    match builder.build() {
-        Ok(pit) => Ok(pit),
-        Err(_) => Err(WANT),
-    }
+fn lines(text: &[u8]) -> u64 {
+    let ends = line_feeds(text) as u64;
+    ends.wrapping_add(u64::from(!text.ends_with(b"\n")))
 }
 
-/// The three coefficients of the last block of a long model.
-const COEFS: &[(u32, i64)] = &[(0, 1_000_000), (1, 1_000_000), (2, 1_000_000)];
-
-fn model_read<A: Allocator + Copy + Drop>(alloc: A, text: &[u8]) -> Result<bool, TextError> {
-    let pit = pit_of(read_model(alloc, text)?)?;
-    let is = 499 < pit.blocks() && pit.coefs(499) == COEFS;
-    drop(pit);
-    Ok(is)
-}
-
-fn precedence_read<A: Allocator + Copy + Drop>(alloc: A, text: &[u8]) -> Result<bool, TextError> {
-    let pit = pit_of(read_precedence(alloc, text, empty(alloc)?)?)?;
-    let is = 239 < pit.blocks() && is_hundred(pit.preds(239));
-    drop(pit);
-    Ok(is)
-}
-
-/// Whether these are the first hundred blocks.
-fn is_hundred(blocks: &[u32]) -> bool {
-    for (b, block) in (0..100u32).zip(blocks.iter()) {
-        if b != *block {
-            return false;
-        }
-    }
-    blocks.len() == 100
-}
-
-fn blocks_read<A: Allocator + Copy + Drop>(alloc: A, text: &[u8]) -> Result<bool, TextError> {
-    let pit = pit_of(read_blocks(text, empty(alloc)?)?)?;
-    let is = 1_499 < pit.blocks() && pit.place(1_499) == Some((1_000_000, 2_000_000, 3_000_000));
-    drop(pit);
-    Ok(is)
-}
-
-fn solution_read<A: Allocator + Copy + Drop>(alloc: A, text: &[u8]) -> Result<bool, TextError> {
-    let pit = pit_of(empty(alloc)?)?;
-    let answer = is_solution_read(alloc, &pit, text);
-    drop(pit);
-    answer
-}
-
-fn is_solution_read<A: Allocator + Copy + Drop>(
-    alloc: A,
-    pit: &Instance<A>,
+fn is_read(
+    heap: Heap<'_>,
+    json: Global,
+    kind: Kind<'_>,
     text: &[u8],
-) -> Result<bool, TextError> {
-    let solution = read_solution(alloc, text, pit)?;
-    let is = is_whole(&solution);
-    drop(solution);
-    Ok(is)
-}
-
-/// Whether each block is in period 1.
-fn is_whole(solution: &[(u32, u32)]) -> bool {
-    for (b, pair) in (0..LINES).zip(solution.iter()) {
-        if *pair != (b, 1) {
-            return false;
-        }
-    }
-    solution.len() == 1_500
-}
-
-/// Whether a text is read as it has to be.
-fn read<A: Allocator + Copy + Drop>(alloc: A, kind: Kind, text: &[u8]) -> Result<bool, TextError> {
-    match kind {
-        Kind::Model => model_read(alloc, text),
-        Kind::Precedence => precedence_read(alloc, text),
-        Kind::Blocks => blocks_read(alloc, text),
-        Kind::Solution => solution_read(alloc, text),
-    }
-}
-
-/// Whether a text is read before the refused request. Else want of memory is answered.
-fn is_read(rt: &impl Abort, heap: Heap<'_>, kind: Kind, text: &[u8]) -> bool {
-    let answer = read(heap, kind, text);
-    assert!(rt; heap.used() == 0);
-    if heap.count().has_refused() {
-        assert!(rt; is_want(answer));
-        return false;
-    }
-    assert!(rt; answer == Ok(true));
-    true
-}
-
-fn is_want(answer: Result<bool, TextError>) -> bool {
+    wanted: Answer,
+) -> Result<bool, NoMemory> {
+    let answer = read(heap, json, kind, text);
     match answer {
-        Ok(_) => false,
-        Err(error) => error.cause == Cause::NoMemory,
+        Err(fault) if is_want(fault, text) => Err(NoMemory),
+        _ => Ok(answer == wanted),
     }
 }
 
-/// Whether no request had the number, and there were so many.
-fn is_read_whole(
-    rt: &impl Abort,
-    alloc: Global,
-    number: u64,
-    kind: Kind,
-    text: &str,
-    requests: u64,
-) -> bool {
-    let heap = Refusing::over_heap(alloc, BYTES, number).expect(rt, "a heap");
-    let is_read = is_read(rt, &heap, kind, text.as_bytes());
-    assert!(rt; !is_read || heap.count().asked == requests);
-    drop(heap);
-    is_read
+/// Whether that comes of it, or want of memory.
+fn is_so(heap: Heap<'_>, plain: Global, case: Case<'_>) -> Result<bool, NoMemory> {
+    match case {
+        Factor(rate, period, wanted) => is_factor(heap, rate, period, wanted),
+        Told(facts) => is_told(heap, facts),
+        Read(kind, text, wanted) => is_read(heap, plain, kind, text, wanted),
+        Written(history, text) => is_written(heap, history, text),
+    }
 }
 
-/// Refuses each request in turn, of which there are so many.
-fn refuse_each(rt: &impl Abort, alloc: Global, kind: Kind, text: &str, requests: u64) {
-    assert!(rt; text.len() > 8_192);
-    for number in 1..200 {
-        if is_read_whole(rt, alloc, number, kind, text, requests) {
-            return;
+impl<'a> Trial for Case<'a> {
+    fn ending(&self, heap: Heap<'_>, plain: Global) -> Ending {
+        let answer = is_so(heap, plain, *self);
+        if heap.used() != 0 {
+            return Ending::Wrong("memory that was not given back");
+        }
+        match answer {
+            Ok(true) => Ending::Whole,
+            Ok(false) => Ending::Wrong("another answer"),
+            Err(NoMemory) => Ending::NoMemory,
         }
     }
-    panic!(rt; "never whole");
+}
+
+/// Each request is refused in turn, and there are so many at least.
+pub(super) fn assert_refusals(rt: &impl Abort, alloc: Global, case: Case<'_>, least: u64) {
+    if let Err(why) = refuse_each(alloc, &case, least) {
+        panic!(rt; "{why}");
+    }
+}
+
+/// How many requests there are where none is refused.
+pub(super) fn requests_of(rt: &impl Abort, alloc: Global, case: Case<'_>) -> u64 {
+    let heap = Refusing::over_heap(alloc, BYTES, 0).expect(rt, "a heap");
+    let ending = case.ending(&heap, alloc);
+    let asked = heap.count().asked;
+    drop(heap);
+    assert!(rt; ending == Ending::Whole, "{ending:?}");
+    asked
+}
+
+/// Each request is refused in turn, and there are just so many.
+pub(super) fn assert_each(rt: &impl Abort, alloc: Global, case: Case<'_>, requests: u64) {
+    assert_refusals(rt, alloc, case, requests);
+    assert!(rt; requests_of(rt, alloc, case) == requests);
 }
 
 /// The requests of a builder: for profits, for a bit of each, and for bounds.
-const BUILDER: u64 = 3;
+pub(super) const BUILDER: u64 = 3;
 
-/// Coefficients that are listed resource by resource, so that the list of each block grows after those of others. Their rows are a request.
-/// The cells are 500, then 1,500, then 3,000, since a list of one moves to room for two and one of two to room for three: they have room for 4
-/// and are doubled to 4,096, which is 11 requests. The factors and what a pit shares are the last two.
-#[test]
-fn of_read_model(rt: HostRuntime) {
-    let mut text = String::from_str(rt.alloc(), HEADER).expect(&rt, "memory");
-    for r in 0..3u32 {
-        for b in 0..500u32 {
-            assert!(rt; writeln!(text, "{b} {r} 1").is_ok());
-        }
-    }
-    refuse_each(&rt, rt.alloc(), Kind::Model, text.as_str(), BUILDER + 14);
-    drop(text);
-}
+/// The requests of a pit in which nothing is set: also for factors, and for what is shared.
+pub(super) const PIT: u64 = BUILDER + 2;
 
-fn push_preds(rt: &impl Abort, text: &mut String, b: u32) {
-    assert!(rt; write!(text, "{b} 100").is_ok());
-    for a in 0..100u32 {
-        assert!(rt; write!(text, " {a}").is_ok());
-    }
-    assert!(rt; writeln!(text).is_ok());
-}
+/// The requests of a pit with places, which are one request.
+pub(super) const PLACED: u64 = PIT + 1;
 
-/// A hundred predecessors of each of 40 blocks. The list of a line has room for 4 and is doubled to 128, which is 6 requests. The bits and the rows
-/// are one each, and the cells have room for 100 and are doubled to 6,400, which is 7. Factors, ends, successors and what a pit shares are the last
-/// four.
-#[test]
-fn of_read_precedence(rt: HostRuntime) {
-    let mut text = String::new(rt.alloc());
-    for b in 200..240u32 {
-        push_preds(&rt, &mut text, b);
-    }
-    refuse_each(
-        &rt,
-        rt.alloc(),
-        Kind::Precedence,
-        text.as_str(),
-        BUILDER + 19,
-    );
-    drop(text);
-}
-
-/// All places are one request, the factors another, and what a pit shares a third.
-#[test]
-fn of_read_blocks(rt: HostRuntime) {
-    let mut text = String::new(rt.alloc());
-    for b in 0..LINES {
-        assert!(rt; writeln!(text, "{b} 1 2 3").is_ok());
-    }
-    refuse_each(&rt, rt.alloc(), Kind::Blocks, text.as_str(), BUILDER + 3);
-    drop(text);
-}
-
-/// The pit's factors, what it shares, and the slots are one request each. The pairs have room for 4 and are doubled to 2,048, which is 10.
-#[test]
-fn of_read_solution(rt: HostRuntime) {
-    let mut text = String::new(rt.alloc());
-    for b in 0..LINES {
-        assert!(rt; writeln!(text, "{b} 1").is_ok());
-    }
-    refuse_each(&rt, rt.alloc(), Kind::Solution, text.as_str(), BUILDER + 13);
-    drop(text);
-}
-
-/// Texts for which no reader takes memory, what is answered, and the requests of what they are read into: those of a builder, and for a
-/// pit the factors and what it shares. A header is judged first, and so is a line of places; a line that mines nothing needs no slot.
-const QUIET: &[(Kind, &[u8], Result<bool, TextError>, u64)] = &[
+/// Texts with a fault behind what takes memory, and how many requests there are at least.
+const FAULTY: &[(Kind<'static>, &[u8], Fault, u64)] = &[
     (
-        Kind::Model,
-        b"TYPE: PCPSP",
-        Err(TextError {
-            line: 1,
-            cause: Cause::NotCpit,
-        }),
-        0,
-    ),
-    (
-        Kind::Blocks,
-        b"0 1 2\n",
-        Err(TextError {
-            line: 1,
-            cause: Cause::FieldCount,
-        }),
-        BUILDER,
-    ),
-    (Kind::Solution, b"0 0 1 0\n", Ok(false), BUILDER + 2),
-    (
-        Kind::Solution,
-        b"0 0 1 0\n1500 0\n",
-        Err(TextError {
-            line: 2,
-            cause: BLOCK_RANGE,
-        }),
-        BUILDER + 2,
-    ),
-];
-
-#[test]
-fn is_not_asked_for_in_vain(rt: HostRuntime) {
-    for row in QUIET {
-        let (kind, text, wanted, requests) = *row;
-        assert_quiet(&rt, rt.alloc(), kind, text, wanted, requests);
-    }
-}
-
-fn assert_quiet(
-    rt: &impl Abort,
-    alloc: Global,
-    kind: Kind,
-    text: &[u8],
-    wanted: Result<bool, TextError>,
-    requests: u64,
-) {
-    let heap = Refusing::over_heap(alloc, BYTES, 0).expect(rt, "a heap");
-    assert!(rt; read(&heap, kind, text) == wanted);
-    assert!(rt; heap.count().asked == requests);
-    drop(heap);
-}
-
-/// Texts with a fault behind what takes memory, and the line of it.
-const FAULTY: &[(Kind, &[u8], u64)] = &[
-    (
-        Kind::Model,
+        Model(Look::Sum),
         b"TYPE: CPIT
 NBLOCKS: 4
 NPERIODS: 2
@@ -306,25 +132,176 @@ RESOURCE_CONSTRAINT_COEFFICIENTS:
 0 0 1
 0 0 1
 ",
-        8,
+        (8, InPit(REPEATED)),
+        BUILDER + 1,
     ),
-    (Kind::Precedence, b"2 2 0 1\n1 1 0\n2 0\n", 3),
-    (Kind::Blocks, b"0 1 2 3\n0 1 2 3\n", 2),
-    (Kind::Solution, b"0 1\n1 1\n0 1\n", 3),
+    (
+        Precedence(TINY_SIZE, Look::Sum),
+        b"2 2 0 1\n1 1 0\n2 0\n",
+        (3, InPit(REPEATED)),
+        BUILDER + 1,
+    ),
+    (
+        Blocks(TINY_SIZE, Look::Sum),
+        b"0 1 2 3\n0 1 2 3\n",
+        (2, InPit(REPEATED)),
+        BUILDER + 1,
+    ),
+    (
+        Solution(TINY_SIZE, &[]),
+        b"0 1\n1 1\n0 1\n",
+        (3, InPit(REPEATED)),
+        PIT + 1,
+    ),
+    (
+        Script(TINY_SIZE, TINY_BLOCKS),
+        b"begin\nread 0\ncommit\nbegin\n",
+        (5, InScript(ScriptCause::Unended)),
+        PLACED + 1,
+    ),
+    // A history whose last line is none, as it is written and by another hand.
+    (
+        History(&[]),
+        b"{\"format\":1}
+{\"act\":\"commit\",\"job\":1,\"planner\":1,\"reads\":[[1,1]],\"reply\":{\"committed\":1},\"start\":0,\"writes\":[[0,0],[1,0]]}
+{\"act\":\"commit\",\"job\":1,\"planner\":1,\"reads\":[[1,1]],\"reply\":{\"committed\":1},\"start\":0,\"writes\":[[0,0],[1]]}",
+        (3, InHistory(LinesCause::Shape)),
+        1,
+    ),
+    (
+        History(&[]),
+        b"{\"format\":2}
+{\"act\":\"commit\",\"job\":1,\"planner\":1,\"reads\":[[1,1]],\"reply\":{\"committed\":1},\"revises\":[[0,0,null]],\"start\":0, \"writes\":[[0,0],[1,0]]}
+{\"act\":\"commit\",\"job\":1,\"planner\":1,\"reads\":[[1,1]],\"reply\":{\"committed\":1},\"revises\":[[0,0,null]],\"start\":0, \"writes\":[[0,0],[1]]}",
+        (3, InHistory(LinesCause::Shape)),
+        1,
+    ),
 ];
 
 /// Nothing that was taken is lost.
 #[test]
 fn is_freed_after_a_fault(rt: HostRuntime) {
-    for (kind, text, line) in FAULTY {
-        assert_freed(&rt, rt.alloc(), *kind, text, fault(*line, REPEATED));
+    for (kind, text, fault, least) in FAULTY {
+        let case = Read(*kind, *text, Err(*fault));
+        assert_refusals(&rt, rt.alloc(), case, *least);
     }
 }
 
-fn assert_freed(rt: &impl Abort, alloc: Global, kind: Kind, text: &[u8], error: TextError) {
-    let heap = Refusing::over_heap(alloc, BYTES, 0).expect(rt, "a heap");
-    assert!(rt; read(&heap, kind, text) == Err(error));
-    assert!(rt; heap.count().asked > 0);
-    assert!(rt; heap.used() == 0);
+/// A text, and what it is read as.
+type Text = (&'static [u8], Answer);
+
+/// A header is judged before what is kept of it. One that ends behind its number of blocks, or has a number past its limit, takes no memory.
+const HEADERS: &[Text] = &[
+    (b"TYPE: PCPSP", Err((1, InPit(NotCpit)))),
+    (
+        b"TYPE: CPIT\nNBLOCKS: 4\n",
+        Err((3, InPit(MissingHeader(Key::Periods)))),
+    ),
+    (
+        b"TYPE: CPIT\nNBLOCKS: 4000000\n",
+        Err((3, InPit(MissingHeader(Key::Periods)))),
+    ),
+    (
+        b"TYPE: CPIT
+NBLOCKS: 4194305
+NPERIODS: 2
+NRESOURCE_SIDE_CONSTRAINTS: 1
+DISCOUNT_RATE: 0.1
+",
+        Err((2, InPit(BadHeader(Key::Blocks)))),
+    ),
+    (
+        b"TYPE: CPIT
+NBLOCKS: 4000000
+NPERIODS: 4000000000
+NRESOURCE_SIDE_CONSTRAINTS: 1
+DISCOUNT_RATE: 0.1
+",
+        Err((3, InPit(BadHeader(Key::Periods)))),
+    ),
+];
+
+/// A number of predecessors that isn't that of the line takes no memory.
+const COUNTS: &[Text] = &[
+    (b"3 3\n", Err((1, InPit(CountWrong)))),
+    (b"3 3 0 1\n", Err((1, InPit(CountWrong)))),
+    (b"3 4000000000\n", Err((1, InPit(CountWrong)))),
+    (b"3 4000000000 0 1 2\n", Err((1, InPit(CountWrong)))),
+    (b"3 4294967295 0 1 2\n", Err((1, InPit(CountWrong)))),
+];
+
+/// Texts for which no reader takes memory, and the requests of what they are read into. A line of places is judged first; a line that mines nothing
+/// needs no slot.
+const QUIET: &[(Kind<'static>, u64, &[Text])] = &[
+    (Model(Look::Sum), 0, HEADERS),
+    (Precedence(TINY_SIZE, Look::Sum), BUILDER, COUNTS),
+    (
+        Blocks(TINY_SIZE, Look::Sum),
+        BUILDER,
+        &[(b"0 1 2\n", Err((1, InPit(FieldCount))))],
+    ),
+    (
+        Solution(TINY_SIZE, &[]),
+        PIT,
+        &[
+            (b"0 0 1 0\n", Ok(0)),
+            (b"0 0 1 0\n1500 0\n", Err((2, InPit(BLOCK_RANGE)))),
+        ],
+    ),
+];
+
+fn assert_quiet(rt: &impl Abort, alloc: Global, kind: Kind<'_>, requests: u64, rows: &[Text]) {
+    for (text, answer) in rows {
+        let found = requests_of(rt, alloc, Read(kind, *text, *answer));
+        assert!(rt; found == requests, "{found} for {requests} of {text:?}");
+    }
+}
+
+#[test]
+fn is_not_asked_for_in_vain(rt: HostRuntime) {
+    for (kind, requests, rows) in QUIET {
+        assert_quiet(&rt, rt.alloc(), *kind, *requests, rows);
+    }
+}
+
+/// Whole headers, their numbers of blocks, and the bytes of a heap in which there is room for what they are read into. A profit takes 8 bytes, and a
+/// bit tells that it is set.
+const ALONE: &[(&[u8], u32, usize)] = &[
+    (
+        b"TYPE: CPIT
+NBLOCKS: 4
+NPERIODS: 2
+NRESOURCE_SIDE_CONSTRAINTS: 1
+DISCOUNT_RATE: 0.1
+",
+        4,
+        1_000,
+    ),
+    (
+        b"TYPE: CPIT
+NBLOCKS: 4000000
+NPERIODS: 2
+NRESOURCE_SIDE_CONSTRAINTS: 1
+DISCOUNT_RATE: 0.1
+",
+        4_000_000,
+        32_501_000,
+    ),
+];
+
+/// A header with nothing behind it makes the requests of a builder, however many blocks it announces.
+#[test]
+fn of_a_header_alone(rt: HostRuntime) {
+    for (text, blocks, bytes) in ALONE {
+        assert_alone(&rt, rt.alloc(), text, *blocks, *bytes);
+    }
+}
+
+fn assert_alone(rt: &impl Abort, alloc: Global, text: &[u8], blocks: u32, bytes: usize) {
+    let heap = Refusing::over_heap(alloc, bytes, 0).expect(rt, "a heap");
+    let builder = read_model(&heap, text).ok().expect(rt, "a pit");
+    assert!(rt; builder.blocks() == blocks);
+    assert!(rt; heap.count().asked == BUILDER);
+    drop(builder);
     drop(heap);
 }

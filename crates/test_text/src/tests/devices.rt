@@ -1,18 +1,31 @@
 //! The adapters for readers and writers.
 use pit_num::{Failed, In, Out, Sink, Source, WriteFault, write_text};
 use std::io::{self, Read, Write};
+use std::process::Abort;
+
+/// How many bytes are asked for, the answer, and the bytes that came.
+type Take = (usize, Result<usize, Failed>, &'static [u8]);
+
+fn assert_takes<R: Read + Drop>(rt: &impl Abort, input: &mut In<R>, takes: &[Take]) {
+    for (count, answer, bytes) in takes {
+        let mut buffer = [0u8; 3];
+        let room = buffer.get_mut(..*count).expect(rt, "room");
+        assert!(rt; input.take(room) == *answer);
+        assert!(rt; buffer.as_slice().starts_with(bytes));
+    }
+}
 
 #[test]
 fn in_reads_a_slice(rt: HostRuntime) {
+    let takes: &[Take] = &[
+        (0, Ok(0), b""),
+        (3, Ok(3), b"abc"),
+        (3, Ok(2), b"de"),
+        (3, Ok(0), b""),
+    ];
     let text: &[u8] = b"abcde";
     let mut input = In::new(text);
-    let mut buffer = [0u8; 3];
-    assert!(rt; input.take(&mut []) == Ok(0));
-    assert!(rt; input.take(&mut buffer) == Ok(3));
-    assert!(rt; buffer.as_slice() == b"abc".as_slice());
-    assert!(rt; input.take(&mut buffer) == Ok(2));
-    assert!(rt; &buffer[..2] == b"de".as_slice());
-    assert!(rt; input.take(&mut buffer) == Ok(0));
+    assert_takes(&rt, &mut input, takes);
     assert!(rt; input.into_inner().len() == 0);
 }
 
@@ -38,21 +51,24 @@ impl Read for Torn {
 
 #[test]
 fn in_fails_for_good(rt: HostRuntime) {
+    let takes: &[Take] = &[
+        (3, Ok(1), b"a"),
+        (3, Err(Failed), b""),
+        (3, Err(Failed), b""),
+        (0, Err(Failed), b""),
+    ];
     let mut input = In::new(Torn { calls: 0 });
-    let mut buffer = [0u8; 3];
-    assert!(rt; input.take(&mut buffer) == Ok(1));
-    assert!(rt; input.take(&mut buffer) == Err(Failed));
-    assert!(rt; input.take(&mut buffer) == Err(Failed));
-    assert!(rt; input.take(&mut []) == Err(Failed));
+    assert_takes(&rt, &mut input, takes);
     assert!(rt; input.into_inner().calls == 2);
 }
 
 #[test]
 fn out_writes_to_a_vector(rt: HostRuntime) {
     let mut out = Out::new(Vec::new(rt.alloc()));
-    assert!(rt; out.give(b"one ") == Ok(4));
-    assert!(rt; out.give(b"") == Ok(0));
-    assert!(rt; out.give(b"two") == Ok(3));
+    let gifts: &[(&[u8], usize)] = &[(b"one ", 4), (b"", 0), (b"two", 3)];
+    for (text, count) in gifts {
+        assert!(rt; out.give(text) == Ok(*count));
+    }
     assert!(rt; out.into_inner().as_slice() == b"one two".as_slice());
 }
 
@@ -78,14 +94,18 @@ impl Write for Closed {
 }
 
 // To take no byte is to fail, and a writer that failed isn't asked again.
+fn fails_for_good(out: &mut Out<Closed>) -> bool {
+    let none = write_text(out, b"");
+    let one = write_text(out, b"x");
+    let answers = (out.give(b"y"), out.give(b""));
+    none == Ok(()) && one == Err(WriteFault) && answers == (Err(Failed), Err(Failed))
+}
+
 #[test]
 fn out_fails_for_good(rt: HostRuntime) {
     for is_error in [false, true] {
         let mut out = Out::new(Closed { is_error, calls: 0 });
-        assert!(rt; write_text(&mut out, b"") == Ok(()));
-        assert!(rt; write_text(&mut out, b"x") == Err(WriteFault));
-        assert!(rt; out.give(b"y") == Err(Failed));
-        assert!(rt; out.give(b"") == Err(Failed));
+        assert!(rt; fails_for_good(&mut out));
         assert!(rt; out.into_inner().calls == 1);
     }
 }
