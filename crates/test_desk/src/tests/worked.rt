@@ -1,19 +1,17 @@
 //! Calls on the tiny pit, with replies that were found by hand.
 use super::calls::Call::{Commit, Withdraw};
 use super::calls::Row;
-use super::{Start, assert_passes, desk_over, follow_all, load};
+use super::stories::{Story, TINY_STORY};
+use super::{Run, is_whole};
 use pit_desk::EntryReply::{Committed, Refused, Withdrawn};
-use pit_desk::{Desk, Refusal, one_thread};
+use pit_desk::Refusal;
 use pit_plan_sample::Reading;
-use pit_sample::{OFFSET, OFFSET_SIZE, TINY, TINY_SIZE};
+use pit_sample::{OFFSET, OFFSET_SIZE};
 use std::alloc::Global;
 use std::process::Abort;
 
 /// A start, calls with their replies, and what is read of the plan after them.
-pub(super) type Worked = (Start, &'static [Row<'static>], Reading);
-
-/// The limits of the small pit.
-const GIVEN: (Option<i64>, Option<i64>) = (Some(4_000_000), Some(4_000_000));
+pub(super) type Worked = (&'static [(u32, u32)], &'static [Row<'static>], Reading);
 
 /// What is read of an empty plan.
 pub(super) const NOTHING: Reading = Reading {
@@ -21,7 +19,7 @@ pub(super) const NOTHING: Reading = Reading {
     periods: (None, None, None, None),
     versions: [0, 0, 0, 0],
     loads: (0, 0),
-    limits: GIVEN,
+    limits: (Some(4_000_000), Some(4_000_000)),
     value: 0,
 };
 
@@ -36,8 +34,8 @@ pub(super) const AFTER_TWO_BLOCKS: Reading = Reading {
     periods: (Some(0), Some(0), None, None),
     versions: [1, 1, 0, 0],
     loads: (4_000_000, 0),
-    limits: GIVEN,
     value: 10_500_000_000_000_000_000,
+    ..NOTHING
 };
 
 /// Block 3 in period 0 too, whose load is 1 above the limit of the pit.
@@ -51,26 +49,27 @@ pub(super) const THIRD_BLOCK: Row<'static> = (
     }),
 );
 
+/// Blocks 0 and 1, block 3 that is too heavy, and block 3 one period later.
+pub(super) const THREE_BLOCKS: &[Row<'static>] = &[
+    TWO_BLOCKS,
+    THIRD_BLOCK,
+    (Commit(1, &[], &[(3, Some(1))]), Committed { number: 2 }),
+];
+
+/// In period 1 block 3 adds 5 times the factor there, 0.909090909091.
+pub(super) const AFTER_THREE_BLOCKS: Reading = Reading {
+    commits: 2,
+    periods: (Some(0), Some(0), None, Some(1)),
+    versions: [1, 1, 0, 2],
+    loads: (4_000_000, 1_000_000),
+    value: 15_045_454_545_455_000_000,
+    ..NOTHING
+};
+
 const WORKED: &[Worked] = &[
     (&[], &[], NOTHING),
     (&[], &[TWO_BLOCKS], AFTER_TWO_BLOCKS),
-    // in period 1 block 3 adds 5 times the factor there, 0.909090909091
-    (
-        &[],
-        &[
-            TWO_BLOCKS,
-            THIRD_BLOCK,
-            (Commit(1, &[], &[(3, Some(1))]), Committed { number: 2 }),
-        ],
-        Reading {
-            commits: 2,
-            periods: (Some(0), Some(0), None, Some(1)),
-            versions: [1, 1, 0, 2],
-            loads: (4_000_000, 1_000_000),
-            limits: GIVEN,
-            value: 15_045_454_545_455_000_000,
-        },
-    ),
+    (&[], THREE_BLOCKS, AFTER_THREE_BLOCKS),
     // block 1, which is not written, would lose its predecessor
     (
         &[],
@@ -105,8 +104,8 @@ const WORKED: &[Worked] = &[
             periods: (None, None, None, Some(1)),
             versions: [0, 0, 0, 3],
             loads: (0, 1_000_000),
-            limits: GIVEN,
             value: 4_545_454_545_455_000_000,
+            ..NOTHING
         },
     ),
     // what a refused commit wrote is not there for the next
@@ -187,11 +186,8 @@ const WORKED: &[Worked] = &[
         ],
         Reading {
             commits: 3,
-            periods: (None, None, None, None),
             versions: [3, 0, 2, 3],
-            loads: (0, 0),
-            limits: GIVEN,
-            value: 0,
+            ..NOTHING
         },
     ),
 ];
@@ -202,55 +198,45 @@ fn answers_as_by_hand(rt: HostRuntime) {
     play_all(&rt, rt.alloc(), WORKED);
 }
 
-pub(super) fn play_all(rt: &impl Abort, alloc: Global, rows: &[Worked]) {
-    for worked in rows {
-        play(rt, alloc, worked);
+pub(super) fn story_of(worked: Worked) -> Story<'static> {
+    let (start, rows, left) = worked;
+    Story {
+        start,
+        rows,
+        left: Some(left),
+        sums: (left.loads.0, left.value),
+        ..TINY_STORY
     }
 }
 
-fn play(rt: &impl Abort, alloc: Global, worked: &Worked) {
-    let (start, rows, wanted) = worked;
-    let mut desk = desk_over(rt, alloc, TINY_SIZE, TINY, start);
-    play_on(rt, alloc, &mut desk, rows, wanted);
-    drop(desk);
+pub(super) fn play_all(rt: &impl Abort, alloc: Global, rows: &[Worked]) {
+    for worked in rows {
+        assert!(rt; is_whole(rt, alloc, 0, Run::Story(story_of(*worked))));
+    }
 }
-
-fn play_on(
-    rt: &impl Abort,
-    alloc: Global,
-    desk: &mut Desk<Global>,
-    rows: &[Row<'_>],
-    wanted: &Reading,
-) {
-    let opening = desk.history().len();
-    follow_all(rt, alloc, desk, TINY_SIZE, rows);
-    assert!(rt; desk.history().len() == opening.wrapping_add(rows.len()));
-    assert!(rt; Reading::of(desk.plan()) == Some(*wanted));
-    assert!(rt; one_thread(desk) == wanted.value);
-    assert_passes(rt, alloc, TINY_SIZE, TINY, desk);
-}
-
-const REMOVED: &[Row<'static>] = &[
-    (
-        Commit(0, &[], &[(0, Some(0)), (1, Some(0))]),
-        Committed { number: 1 },
-    ),
-    (
-        Commit(1, &[], &[(1, None)]),
-        Refused(Refusal::Over {
-            resource: 0,
-            period: 0,
-            load: 3_000_000,
-            limit: 1_000_000,
-        }),
-    ),
-];
 
 /// A limit that is broken by a removal.
+const REMOVED: Story<'static> = Story {
+    size: OFFSET_SIZE,
+    facts: OFFSET,
+    rows: &[
+        TWO_BLOCKS,
+        (
+            Commit(1, &[], &[(1, None)]),
+            Refused(Refusal::Over {
+                resource: 0,
+                period: 0,
+                load: 3_000_000,
+                limit: 1_000_000,
+            }),
+        ),
+    ],
+    left: None,
+    sums: (1_000_000, 0),
+    ..TINY_STORY
+};
+
 #[test]
 fn refuses_a_removal(rt: HostRuntime) {
-    let mut desk = desk_over(&rt, rt.alloc(), OFFSET_SIZE, OFFSET, &[]);
-    follow_all(&rt, rt.alloc(), &mut desk, OFFSET_SIZE, REMOVED);
-    assert!(rt; load(&rt, desk.plan(), 0, 0) == 1_000_000);
-    drop(desk);
+    assert!(rt; is_whole(&rt, rt.alloc(), 0, Run::Story(REMOVED)));
 }
