@@ -53,7 +53,7 @@ enum Run<'a> {
     Sets(u32),
 }
 
-/// Whether a run came to its end. Where it did not, memory was refused.
+/// Whether a run comes to its end, which it doesn't where memory is refused for what it begins with or leaves.
 fn is_done<A: Allocator + Copy + Drop>(
     rt: &impl Abort,
     heap: Heap<'_>,
@@ -62,19 +62,26 @@ fn is_done<A: Allocator + Copy + Drop>(
     run: Run<'_>,
 ) -> bool {
     match run {
-        Run::Story(story) => stories::play(rt, heap, alloc, story),
-        Run::Steps => steps::take_steps(rt, heap, alloc),
-        Run::Plan(asked) => large::ask_all(rt, heap, alloc, plain, asked),
-        Run::Sets(kind) => sets::change_all(rt, heap, alloc, kind),
+        Run::Story(story) => stories::is_played(rt, heap, alloc, story),
+        Run::Steps => steps::are_taken(rt, heap, alloc),
+        Run::Plan(asked) => large::is_asked(rt, heap, alloc, plain, asked),
+        Run::Sets(kind) => sets::are_changed(rt, heap, alloc, kind),
     }
 }
 
-/// Whether no request had the number. What did not come to its end does so when it is done again, and all memory is given back.
+/// What doesn't come to its end was refused memory, gives back what it took, and comes to its end when it is done again.
+fn assert_done(rt: &impl Abort, heap: Heap<'_>, plain: Global, run: Run<'_>) {
+    if !is_done(rt, heap, heap, plain, run) {
+        assert!(rt; heap.count().has_refused());
+        assert!(rt; heap.used() == 0);
+        assert!(rt; is_done(rt, heap, heap, plain, run));
+    }
+}
+
+/// Whether no request had the number. All memory is given back in the end.
 fn is_whole(rt: &impl Abort, alloc: Global, number: u64, run: Run<'_>) -> bool {
     let heap = Refusing::over_heap(alloc, BYTES, number).expect(rt, "a heap");
-    let is_done_once = is_done(rt, &heap, &heap, alloc, run);
-    assert!(rt; heap.used() == 0);
-    assert!(rt; is_done_once || is_done(rt, &heap, &heap, alloc, run));
+    assert_done(rt, &heap, alloc, run);
     assert!(rt; heap.used() == 0);
     !heap.count().has_refused()
 }
@@ -95,25 +102,6 @@ fn refuse_each(rt: &impl Abort, alloc: Global, between: (u64, u64), run: Run<'_>
 fn assert_refused(rt: &impl Abort, heap: Heap<'_>, before: Count, is_no_memory: bool) {
     assert!(rt; is_no_memory);
     assert!(rt; heap.count().has_refused_since(before));
-}
-
-/// What a call answers, which is made again where memory was refused.
-fn twice<T, E: Copy + PartialEq, F: Fn() -> Result<T, E>>(
-    rt: &impl Abort,
-    heap: Heap<'_>,
-    no_memory: E,
-    call: F,
-) -> T
-    requires { F.IsAlwaysCallable call }
-{
-    let before = heap.count();
-    match call() {
-        Ok(answer) => answer,
-        Err(fault) => {
-            assert_refused(rt, heap, before, fault == no_memory);
-            call().ok().expect(rt, "no memory twice")
-        }
-    }
 }
 
 fn is_rising(start: &[(u32, u32)]) -> bool
@@ -175,11 +163,11 @@ fn desk_over<A: Allocator + Copy + Drop>(
 }
 
 /// The plan that a history leaves of a pit.
-fn audited<A: Allocator + Copy + Drop, B: Allocator + Drop>(
+fn audited<A: Allocator + Copy + Drop>(
     rt: &impl Abort,
     alloc: A,
     pit: Instance<A>,
-    history: &[Entry<B>],
+    history: &[Entry<A>],
 ) -> Result<Plan<A>, AuditFault> {
     let None = pit.unmeetable() else {
         panic!(rt; "unmeetable");
@@ -202,14 +190,23 @@ fn resume<A: Allocator + Copy + Drop>(
     Desk::resume(alloc, pit, history, max_entries)
 }
 
-/// The load of a resource in a period, and the limit on it.
-fn load_and_limit<A: Allocator + Copy + Drop>(
+fn size_of<A: Allocator + Copy + Drop>(pit: &Instance<A>) -> Size {
+    Size {
+        blocks: pit.blocks(),
+        periods: pit.periods(),
+        resources: pit.resources(),
+    }
+}
+
+/// The load of a resource in a period, the limit on it, and the upper limit of the pit.
+fn load_and_limits<A: Allocator + Copy + Drop>(
     rt: &impl Abort,
     plan: &Plan<A>,
     r: u32,
     t: u32,
-) -> (i128, Option<i64>) {
+) -> (i128, Option<i64>, Option<i64>) {
     assert!(rt; r < plan.instance().resources());
     assert!(rt; t < plan.instance().periods());
-    (plan.load(r, t), plan.limit(r, t))
+    let upper = plan.instance().upper(r, t);
+    (plan.load(r, t), plan.limit(r, t), upper)
 }

@@ -1,8 +1,10 @@
 //! How transactions end, and the works and entries of them.
 use super::{Pair, Revision};
-use pit_desk::{Act, Desk, Entry, EntryReply, Stop, entry_reply_of};
+use EntryReply::Refused;
+use pit_desk::{Act, Desk, Entry, EntryReply, Refusal, Stop, entry_reply_of};
 use pit_model::{BLOCKS_MAX, RESOURCES_MAX};
 use pit_num::PERIODS_MAX;
+use pit_plan::Breach;
 use pit_sample::Size;
 use pit_tx::{Work, WorkError};
 use std::alloc::Allocator;
@@ -17,8 +19,56 @@ pub(super) enum Call<'a> {
     Revise(Act, u32, &'a [Pair], &'a [Revision]),
 }
 
-/// A call, and the reply that is due to it.
-pub(super) type Row<'a> = (Call<'a>, EntryReply);
+/// What is due to a call.
+#[derive(Clone, Copy)]
+pub(super) enum Due {
+    /// The number of the commit.
+    Committed(u32),
+    Withdrawn,
+    /// The start, and how many commits there are.
+    Ahead(u32, u32),
+    /// A block, and its version.
+    Moved(u32, u32),
+    Misread(u32),
+    /// A block, and its predecessor that has no period or a later one.
+    Late(u32, u32),
+    /// A resource, a period, the load of it there, and the limit on that.
+    Over(u32, u32, i128, i64),
+}
+
+/// A call, and what is due to it.
+pub(super) type Row<'a> = (Call<'a>, Due);
+
+pub(super) fn reply_of(due: Due) -> EntryReply {
+    match due {
+        Due::Committed(number) => EntryReply::Committed { number },
+        Due::Withdrawn => EntryReply::Withdrawn,
+        Due::Ahead(start, commits) => Refused(Refusal::Ahead { start, commits }),
+        Due::Moved(block, version) => Refused(Refusal::Moved { block, version }),
+        Due::Misread(block) => Refused(Refusal::Misread { block }),
+        Due::Late(block, before) => Refused(Refusal::Precedence { block, before }),
+        Due::Over(resource, period, load, limit) => Refused(Refusal::Over {
+            resource,
+            period,
+            load,
+            limit,
+        }),
+    }
+}
+
+/// The breach that a refusal tells, if it tells one.
+pub(super) fn breach_of(due: Option<Due>) -> Option<Breach> {
+    match due {
+        Some(Due::Late(block, before)) => Some(Breach::Precedence { block, before }),
+        Some(Due::Over(resource, period, load, limit)) => Some(Breach::Over {
+            resource,
+            period,
+            load,
+            limit,
+        }),
+        _ => None,
+    }
+}
 
 /// How the call ends, the number of commits, what was noted, what was written, and what was revised.
 pub(super) fn parts<'a>(call: Call<'a>) -> (Act, u32, &'a [Pair], &'a [Pair], &'a [Revision]) {
@@ -140,10 +190,9 @@ pub(super) fn is_work<A: Allocator + Copy + Drop>(work: &Work<A>, call: Call<'_>
 
 /// Whether the entry says what was called and answered, with the pairs and the revisions in the order of first use.
 pub(super) fn is_entry<A: Allocator + Drop>(entry: &Entry<A>, row: Row<'_>) -> bool {
-    let (call, reply) = row;
-    let (act, start, reads, writes, revises) = parts(call);
+    let (act, start, reads, writes, revises) = parts(row.0);
     (entry.planner, entry.job, entry.start) == (2, 7, start)
-        && (entry.act, entry.reply) == (act, reply)
+        && (entry.act, entry.reply) == (act, reply_of(row.1))
         && entry.reads.items() == reads
         && entry.writes.items() == writes
         && entry.revises.items() == revises
@@ -182,8 +231,14 @@ pub(super) fn end<A: Allocator + Copy + Drop>(
 ) -> Answer<A> {
     assert!(rt; desk.fits(&work));
     match act {
-        Act::Commit => desk.commit(work).map(entry_reply_of),
-        Act::Withdraw => desk.withdraw(work).map(|_| EntryReply::Withdrawn),
+        Act::Commit => match desk.commit(work) {
+            Ok(reply) => Ok(entry_reply_of(reply)),
+            Err(stopped) => Err(stopped),
+        },
+        Act::Withdraw => match desk.withdraw(work) {
+            Ok(()) => Ok(EntryReply::Withdrawn),
+            Err(stopped) => Err(stopped),
+        },
     }
 }
 

@@ -1,11 +1,11 @@
 //! Want of memory at desks: each request of a story is refused in turn.
 use super::calls::Call::{Commit, Revise, Withdraw};
+use super::calls::Due::{Committed, Late, Over, Withdrawn};
 use super::calls::Row;
 use super::stories::{Story, TINY_STORY};
 use super::worked::NOTHING;
 use super::{Pair, Revision, Run, refuse_each};
-use pit_desk::EntryReply::{Committed, Refused, Withdrawn};
-use pit_desk::{Act, Refusal};
+use pit_desk::Act;
 use pit_plan_sample::Reading;
 use pit_sample::{LARGE_SIZE, large_facts, large_schedule};
 use std::alloc::Global;
@@ -15,7 +15,7 @@ use std::process::Abort;
 const ROWS: &[Row<'static>] = &[
     (
         Commit(1, &[(3, Some(1)), (1, None)], &[(0, Some(0)), (1, Some(0))]),
-        Committed { number: 2 },
+        Committed(2),
     ),
     (
         Withdraw(1, &[(3, Some(1)), (0, None)], &[(3, None), (0, None)]),
@@ -23,14 +23,11 @@ const ROWS: &[Row<'static>] = &[
     ),
     (
         Commit(2, &[(0, Some(0)), (1, Some(0))], &[(0, None), (3, None)]),
-        Refused(Refusal::Precedence {
-            block: 1,
-            before: 0,
-        }),
+        Late(1, 0),
     ),
     (
         Commit(2, &[(0, Some(0)), (1, Some(0))], &[(1, None), (0, None)]),
-        Committed { number: 3 },
+        Committed(3),
     ),
     (
         Revise(
@@ -48,12 +45,7 @@ const ROWS: &[Row<'static>] = &[
             &[(0, Some(1))],
             &[(0, 0, Some(1)), (0, 1, Some(2_999_999))],
         ),
-        Refused(Refusal::Over {
-            resource: 0,
-            period: 1,
-            load: 3_000_000,
-            limit: 2_999_999,
-        }),
+        Over(0, 1, 3_000_000, 2_999_999),
     ),
     (
         Revise(
@@ -62,7 +54,7 @@ const ROWS: &[Row<'static>] = &[
             &[(0, None)],
             &[(0, 1, Some(1_000_000)), (0, 0, None)],
         ),
-        Committed { number: 4 },
+        Committed(4),
     ),
 ];
 
@@ -129,22 +121,19 @@ fn is_unchanged_where_memory_for_many_is_refused(rt: HostRuntime) {
     refuse_many(&rt, rt.alloc(), &pairs, &later, &revises);
 }
 
-fn refuse_many(
+fn refuse_many<'a>(
     rt: &impl Abort,
     alloc: Global,
-    reads: &[Pair],
-    writes: &[Pair],
-    revises: &[Revision],
+    reads: &'a [Pair],
+    writes: &'a [Pair],
+    revises: &'a [Revision],
 ) {
     let facts = large_facts(alloc).expect(rt, "facts");
     let start = large_schedule(alloc).expect(rt, "a schedule");
     let rows: [Row<'_>; 4] = [
-        (Commit(1, reads, writes), Committed { number: 2 }),
+        (Commit(1, reads, writes), Committed(2)),
         (Withdraw(2, writes, reads), Withdrawn),
-        (
-            Revise(Act::Commit, 2, &[], revises),
-            Committed { number: 3 },
-        ),
+        (Revise(Act::Commit, 2, &[], revises), Committed(3)),
         (Revise(Act::Withdraw, 3, &[], revises), Withdrawn),
     ];
     let story = Story {

@@ -1,10 +1,10 @@
 //! How desks are opened, which works fit them, and where they are full.
 use super::calls::Call::{Commit, Revise, Withdraw};
+use super::calls::Due::Committed;
 use super::calls::new_work;
 use super::stories::{Story, TINY_STORY, Then};
 use super::worked::NOTHING;
 use super::{Run, desk_over, is_whole, open};
-use pit_desk::EntryReply::Committed;
 use pit_desk::{Act, Desk, DeskError};
 use pit_plan::Breach;
 use pit_plan_sample::Reading;
@@ -116,7 +116,7 @@ fn is_fitting(
 /// 0.909090909091.
 const FULL: Story<'static> = Story {
     max_entries: 1,
-    rows: &[(Commit(0, &[], &[(3, Some(1))]), Committed { number: 1 })],
+    rows: &[(Commit(0, &[], &[(3, Some(1))]), Committed(1))],
     stopped: &[
         Commit(1, &[], &[(3, Some(0))]),
         Withdraw(0, &[(3, Some(0))], &[]),

@@ -4,9 +4,10 @@ ghost use Rattle.pit_desk.specs.Calls.{WorkFits};
 ghost use Rattle.pit_desk.specs.History.{CallFits};
 ghost use Rattle.pit_plan.specs.Breaches.{IsGoodNow};
 
-use super::calls::{Call, work_of};
+use super::calls::Due::{self, Late, Over};
+use super::calls::{Call, breach_of, work_of};
 use super::worked::{AFTER_TWO_BLOCKS, NOTHING};
-use super::{Pair, Revision};
+use super::{Pair, Revision, size_of};
 use pit_desk::{Act, Pending, unanswered};
 use pit_model::Instance;
 use pit_num::NoMemory;
@@ -45,15 +46,12 @@ fn call_of<A: Allocator + Copy + Drop>(
 ) -> Pending<Global>
     ensures { CallFits pit.now result }
 {
-    let size = Size {
-        blocks: pit.blocks(),
-        periods: pit.periods(),
-        resources: pit.resources(),
-    };
     let call = Call::Revise(Act::Commit, 0, command.0, command.1);
-    let work = work_of(plain, size, call).expect(rt, "a work");
+    let work = work_of(plain, size_of(pit), call).expect(rt, "a work");
     assert!(rt; is_over(pit, &work));
-    unanswered(plain, &work, Act::Commit).expect(rt, "memory")
+    let call = unanswered(plain, &work, Act::Commit);
+    drop(work);
+    call.expect(rt, "memory")
 }
 
 fn assert_good<A: Allocator + Copy + Drop>(rt: &impl Abort, plan: &Plan<A>)
@@ -69,10 +67,11 @@ pub(super) fn apply<A: Allocator + Copy + Drop>(
     plan: &mut Plan<A>,
     command: Command<'_>,
 ) {
-    let call = call_of(rt, plain, plan.instance(), command);
     assert!(rt; plan.commits() < 9);
-    assert!(rt; plan.apply(call.writes(), call.revises()).is_ok());
+    let call = call_of(rt, plain, plan.instance(), command);
+    let answer = plan.apply(call.writes(), call.revises());
     drop(call);
+    assert!(rt; answer.is_ok());
 }
 
 /// The first breach that a plan without one would have after a commit.
@@ -82,46 +81,24 @@ pub(super) fn judge<A: Allocator + Copy + Drop>(
     plan: &Plan<A>,
     command: Command<'_>,
 ) -> Result<Option<Breach>, NoMemory> {
-    let call = call_of(rt, plain, plan.instance(), command);
     assert_good(rt, plan);
+    let call = call_of(rt, plain, plan.instance(), command);
     let answer = plan.judge(call.writes(), call.revises());
     drop(call);
     answer
 }
 
-pub(super) fn assert_shortfalls(rt: &impl Abort, plan: &Plan<Global>, wanted: &[Short]) {
-    let shorts = plan.shortfalls().expect(rt, "shortfalls");
-    assert!(rt; shorts.as_slice() == wanted);
-    drop(shorts);
-}
-
-/// The first breach of a plan, if it has one.
-#[derive(Clone, Copy)]
-enum Found {
-    Good,
-    /// A block, and its predecessor that has no period or a later one.
-    Late(u32, u32),
-    /// A resource, a period, the load of it there, and the limit on that.
-    Over(u32, u32, i128, i64),
-}
-
-use Found::{Good, Late, Over};
-
-fn breach_of(found: Found) -> Option<Breach> {
-    match found {
-        Good => None,
-        Late(block, before) => Some(Breach::Precedence { block, before }),
-        Over(resource, period, load, limit) => Some(Breach::Over {
-            resource,
-            period,
-            load,
-            limit,
-        }),
-    }
+/// Whether a plan has these shortfalls.
+pub(super) fn lists<A: Allocator + Copy + Drop>(
+    plan: &Plan<A>,
+    shorts: &[Short],
+) -> Result<bool, NoMemory> {
+    let found = plan.shortfalls()?;
+    Ok(found.as_slice() == shorts)
 }
 
 /// What is read of a plan, its first breach, its shortfalls, and the commit that comes then.
-type Stage = (Reading, Found, &'static [Short], Step);
+type Stage = (Reading, Option<Due>, &'static [Short], Step);
 
 /// A commit of nothing.
 const NONE: Step = (&[], &[]);
@@ -139,10 +116,10 @@ const FULL: Step = (&[(0, Some(0)), (1, Some(0))], &[]);
 
 /// The value of the first commit is -10 + 20.5, in units of 10^-18, and that of the second is 30 times the factor of period 1, 0.909090909091, more.
 const COMMITS: &[Stage] = &[
-    (NOTHING, Good, &[IDLE], FULL),
+    (NOTHING, None, &[IDLE], FULL),
     (
         AFTER_TWO_BLOCKS,
-        Good,
+        None,
         &[IDLE],
         (&[(2, Some(1))], &[(0, 1, Some(3_000_000))]),
     ),
@@ -155,7 +132,7 @@ const COMMITS: &[Stage] = &[
             limits: (Some(4_000_000), Some(3_000_000)),
             value: 37_772_727_272_730_000_000,
         },
-        Good,
+        None,
         &[],
         (
             &[(2, None), (3, None)],
@@ -169,7 +146,7 @@ const COMMITS: &[Stage] = &[
             limits: (None, Some(5_000_000)),
             ..AFTER_TWO_BLOCKS
         },
-        Good,
+        None,
         &[IDLE],
         (&[], &[(0, 0, Some(2_000_000))]),
     ),
@@ -180,7 +157,7 @@ const COMMITS: &[Stage] = &[
             limits: (Some(2_000_000), Some(5_000_000)),
             ..AFTER_TWO_BLOCKS
         },
-        Over(0, 0, 4_000_000, 2_000_000),
+        Some(Over(0, 0, 4_000_000, 2_000_000)),
         &[IDLE],
         NONE,
     ),
@@ -211,7 +188,7 @@ const BOUNDS: &[Stage] = &[
             limits: (Some(4_000_000), None),
             ..NOTHING
         },
-        Good,
+        None,
         UNLOADED,
         (&[(0, Some(1))], &[(0, 1, Some(2_000_000))]),
     ),
@@ -223,7 +200,7 @@ const BOUNDS: &[Stage] = &[
             limits: (Some(4_000_000), Some(2_000_000)),
             ..NOTHING
         },
-        Good,
+        None,
         UNLOADED,
         (&[], &[(0, 0, Some(9_000_000))]),
     ),
@@ -235,7 +212,7 @@ const BOUNDS: &[Stage] = &[
             limits: (Some(9_000_000), Some(2_000_000)),
             ..NOTHING
         },
-        Good,
+        None,
         UNLOADED,
         NONE,
     ),
@@ -248,7 +225,7 @@ fn begins_with_the_least_bounds(rt: HostRuntime) {
 
 /// Block 2 without its predecessors, and then with them.
 const MENDED: &[Stage] = &[
-    (NOTHING, Good, &[IDLE], (&[(2, Some(0))], &[])),
+    (NOTHING, None, &[IDLE], (&[(2, Some(0))], &[])),
     (
         Reading {
             commits: 1,
@@ -258,7 +235,7 @@ const MENDED: &[Stage] = &[
             value: 30_000_000_000_000_000_000,
             ..NOTHING
         },
-        Late(2, 0),
+        Some(Late(2, 0)),
         &[IDLE],
         (&[(0, Some(0)), (1, Some(0)), (2, Some(1))], &[]),
     ),
@@ -271,7 +248,7 @@ const MENDED: &[Stage] = &[
             value: 37_772_727_272_730_000_000,
             ..NOTHING
         },
-        Good,
+        None,
         &[],
         NONE,
     ),
@@ -293,15 +270,15 @@ fn assert_stages(rt: &impl Abort, alloc: Global, facts: &[Fact], stages: &[Stage
 
 /// A plan is read, and gets one more commit.
 fn assert_stage(rt: &impl Abort, alloc: Global, plan: &mut Plan<Global>, stage: &Stage) {
-    let (reading, breach, shorts, step) = stage;
+    let (reading, due, shorts, step) = stage;
     assert!(rt; Reading::of(plan) == Some(*reading));
-    assert!(rt; plan.check() == breach_of(*breach));
-    assert_shortfalls(rt, plan, shorts);
+    assert!(rt; plan.check() == breach_of(*due));
+    assert!(rt; lists(plan, shorts) == Ok(true));
     apply(rt, alloc, plan, *step);
 }
 
 /// The commits of a plan, one more, and the first breach that it makes.
-type Judged = (&'static [Step], Step, Found);
+type Judged = (&'static [Step], Step, Option<Due>);
 
 /// Blocks 0 and 1 a period apart, where they load 2 each.
 const APART: Step = (&[(0, Some(0)), (1, Some(1))], &[]);
@@ -310,48 +287,48 @@ const APART: Step = (&[(0, Some(0)), (1, Some(1))], &[]);
 const RAISED: Step = (&[(3, Some(0))], &[(0, 0, Some(5_000_000))]);
 
 const JUDGED: &[Judged] = &[
-    (&[], FULL, Good),
+    (&[], FULL, None),
     // a successor that is not written
-    (&[FULL], (&[(0, None)], &[]), Late(1, 0)),
+    (&[FULL], (&[(0, None)], &[]), Some(Late(1, 0))),
     (
         &[FULL],
         (&[(3, Some(0))], &[]),
-        Over(0, 0, 5_000_000, 4_000_000),
+        Some(Over(0, 0, 5_000_000, 4_000_000)),
     ),
-    (&[], (&[(0, Some(1)), (2, Some(1))], &[]), Late(2, 1)),
+    (&[], (&[(0, Some(1)), (2, Some(1))], &[]), Some(Late(2, 1))),
     (
         &[],
         (&[(2, Some(1)), (1, Some(1)), (0, Some(1))], &[]),
-        Over(0, 1, 7_000_000, 4_000_000),
+        Some(Over(0, 1, 7_000_000, 4_000_000)),
     ),
     // a revision alone, to less than the load and to as much
     (
         &[FULL],
         (&[], &[(0, 0, Some(3_999_999))]),
-        Over(0, 0, 4_000_000, 3_999_999),
+        Some(Over(0, 0, 4_000_000, 3_999_999)),
     ),
-    (&[FULL], (&[], &[(0, 0, Some(4_000_000))]), Good),
+    (&[FULL], (&[], &[(0, 0, Some(4_000_000))]), None),
     // the load of no block
-    (&[], (&[], &[(0, 1, Some(-1))]), Over(0, 1, 0, -1)),
+    (&[], (&[], &[(0, 1, Some(-1))]), Some(Over(0, 1, 0, -1))),
     // a block that does not fit without the revision, and one that is taken out for it
-    (&[FULL], RAISED, Good),
-    (&[FULL], (&[(1, None)], &[(0, 0, Some(2_000_000))]), Good),
+    (&[FULL], RAISED, None),
+    (&[FULL], (&[(1, None)], &[(0, 0, Some(2_000_000))]), None),
     // no limit on 2 + 2 + 3 + 1, given with the writes and before them
     (
         &[FULL],
         (&[(2, Some(0)), (3, Some(0))], &[(0, 0, None)]),
-        Good,
+        None,
     ),
     (
         &[FULL, (&[], &[(0, 0, None)])],
         (&[(2, Some(0)), (3, Some(0))], &[]),
-        Good,
+        None,
     ),
     // back to the limit of the pit
     (
         &[FULL, RAISED],
         (&[], &[(0, 0, Some(4_000_000))]),
-        Over(0, 0, 5_000_000, 4_000_000),
+        Some(Over(0, 0, 5_000_000, 4_000_000)),
     ),
     // the last of three revisions, which is the tightest, and one that is neither that nor the widest
     (
@@ -361,7 +338,7 @@ const JUDGED: &[Judged] = &[
             (&[], &[(0, 0, Some(1_000_000))]),
         ],
         (&[(0, Some(0))], &[]),
-        Over(0, 0, 2_000_000, 1_000_000),
+        Some(Over(0, 0, 2_000_000, 1_000_000)),
     ),
     (
         &[
@@ -370,21 +347,25 @@ const JUDGED: &[Judged] = &[
             (&[], &[(0, 0, Some(2_000_000))]),
         ],
         (&[(0, Some(0))], &[]),
-        Good,
+        None,
     ),
     // a period that no write touches, behind one that is written and before one
     (
         &[APART],
         (&[(3, Some(0))], &[(0, 1, Some(1_000_000))]),
-        Over(0, 1, 2_000_000, 1_000_000),
+        Some(Over(0, 1, 2_000_000, 1_000_000)),
     ),
     (
         &[APART],
         (&[(2, Some(1))], &[(0, 0, Some(1_000_000))]),
-        Over(0, 0, 2_000_000, 1_000_000),
+        Some(Over(0, 0, 2_000_000, 1_000_000)),
     ),
     // blocks come before loads
-    (&[FULL], (&[(0, None)], &[(0, 0, Some(0))]), Late(1, 0)),
+    (
+        &[FULL],
+        (&[(0, None)], &[(0, 0, Some(0))]),
+        Some(Late(1, 0)),
+    ),
 ];
 
 /// A pit of two blocks and two resources, with no limit.
@@ -409,17 +390,17 @@ const PAIRS: &[Judged] = &[
             &[],
             &[(1, 1, Some(0)), (0, 1, Some(0)), (1, 0, Some(2_000_000))],
         ),
-        Over(1, 0, 3_000_000, 2_000_000),
+        Some(Over(1, 0, 3_000_000, 2_000_000)),
     ),
     (
         &[APART],
         (&[], &[(1, 1, Some(0)), (0, 1, Some(0))]),
-        Over(0, 1, 1_000_000, 0),
+        Some(Over(0, 1, 1_000_000, 0)),
     ),
     (
         &[APART],
         (&[], &[(1, 0, Some(3_000_000)), (0, 1, Some(1_000_000))]),
-        Good,
+        None,
     ),
 ];
 
@@ -427,7 +408,7 @@ const PAIRS: &[Judged] = &[
 const REMOVED: &[Judged] = &[(
     &[FULL],
     (&[(1, None)], &[]),
-    Over(0, 0, 3_000_000, 1_000_000),
+    Some(Over(0, 0, 3_000_000, 1_000_000)),
 )];
 
 /// A commit is judged by what the plan would be after it.
@@ -448,11 +429,15 @@ fn assert_rows(rt: &impl Abort, alloc: Global, size: Size, facts: &[Fact], rows:
 
 /// Judges the last commit and adds it, and compares the first breach of both.
 fn judge_and_add(rt: &impl Abort, alloc: Global, plan: &mut Plan<Global>, row: &Judged) {
-    let (before, last, found) = row;
-    for step in *before {
+    let (before, last, due) = row;
+    apply_all(rt, alloc, plan, before);
+    assert!(rt; judge(rt, alloc, plan, *last) == Ok(breach_of(*due)));
+    apply(rt, alloc, plan, *last);
+    assert!(rt; plan.check() == breach_of(*due));
+}
+
+fn apply_all(rt: &impl Abort, alloc: Global, plan: &mut Plan<Global>, steps: &[Step]) {
+    for step in steps {
         apply(rt, alloc, plan, *step);
     }
-    assert!(rt; judge(rt, alloc, plan, *last) == Ok(breach_of(*found)));
-    apply(rt, alloc, plan, *last);
-    assert!(rt; plan.check() == breach_of(*found));
 }

@@ -1,13 +1,13 @@
 //! Desks that go on from a history, and histories from which none does.
 use super::calls::Call::Commit;
+use super::calls::Due::{Committed, Moved};
 use super::calls::Row;
 use super::revised::{RAISED, RAISING};
 use super::stories::{Story, Then};
 use super::worked::{AFTER_THREE_BLOCKS, NOTHING, THREE_BLOCKS, Worked, story_of};
 use super::{Run, is_whole};
 use Then::{Fault, GoesOn};
-use pit_desk::EntryReply::{Committed, Refused};
-use pit_desk::{Refusal, ResumeFault};
+use pit_desk::ResumeFault;
 
 const BEFORE: Worked = (&[], THREE_BLOCKS, AFTER_THREE_BLOCKS);
 
@@ -19,20 +19,14 @@ const RESUMED: &[(Worked, Then, &[Row<'static>])] = &[
         GoesOn(4),
         &[(
             Commit(2, &[(3, Some(1))], &[(2, Some(1)), (3, None)]),
-            Committed { number: 3 },
+            Committed(3),
         )],
     ),
     // block 3, which was read before it was there
     (
         BEFORE,
         GoesOn(4),
-        &[(
-            Commit(1, &[(3, None)], &[]),
-            Refused(Refusal::Moved {
-                block: 3,
-                version: 2,
-            }),
-        )],
+        &[(Commit(1, &[(3, None)], &[]), Moved(3, 2))],
     ),
     // a limit is still revised
     ((&[], RAISING, RAISED), GoesOn(3), &[]),

@@ -1,6 +1,6 @@
 //! The three sets of a transaction against lists that were written down by hand.
 use super::calls::new_work;
-use super::{BYTES, Pair, Run, assert_refused, refuse_each, twice};
+use super::{BYTES, Pair, Run, assert_refused, refuse_each};
 use pit_model::{BLOCKS_MAX, RESOURCES_MAX};
 use pit_num::PERIODS_MAX;
 use pit_refuse::Refusing;
@@ -76,37 +76,52 @@ const LOWERED: &[Revision] = &[((0, 1), Some(-4)), ((0, 0), None)];
 
 const LIFTED: &[Revision] = &[((0, 1), None), ((0, 0), None)];
 
-/// On 4 blocks, 2 periods and 1 resource: each change, its answer, and the read set, the write set and the revisions after it.
+/// What is known of block 3, when it was noted and when it was cleared.
+const NOTED: Option<Option<u32>> = Some(Some(1));
+
+const GONE: Option<Option<u32>> = Some(None);
+
+/// On 4 blocks, 2 periods and 1 resource: each change, its answer, what is known of block 3 after it, the read set, the write set and the revisions.
 type Step = (
     Change,
     Result<(), WorkError>,
+    Option<Option<u32>>,
     &'static [Pair],
     &'static [Pair],
     &'static [Revision],
 );
 
+/// The own write of a block is known, else what was noted of it.
 const STEPS: &[Step] = &[
-    (Note(3, Some(1)), Ok(()), READ, &[], &[]),
-    (Note(3, None), Ok(()), READ, &[], &[]),
-    (Put(2, 0), Ok(()), READ, &[(2, Some(0))], &[]),
-    (Put(0, 0), Ok(()), READ, &[(2, Some(0)), (0, Some(0))], &[]),
-    (Put(2, 1), Ok(()), READ, PUT_TWICE, &[]),
-    (Put(4, 2), NO_BLOCK, READ, PUT_TWICE, &[]),
-    (Note(3, Some(2)), NO_PERIOD, READ, PUT_TWICE, &[]),
-    (Clear(3), Ok(()), READ, CLEARED, &[]),
-    (Clear(4), NO_BLOCK, READ, CLEARED, &[]),
-    (Revise(1, 2, None), NO_RESOURCE, READ, CLEARED, &[]),
-    (Revise(0, 2, None), NO_PERIOD, READ, CLEARED, &[]),
+    (Note(3, Some(1)), Ok(()), NOTED, READ, &[], &[]),
+    (Note(3, None), Ok(()), NOTED, READ, &[], &[]),
+    (Put(2, 0), Ok(()), NOTED, READ, &[(2, Some(0))], &[]),
+    (
+        Put(0, 0),
+        Ok(()),
+        NOTED,
+        READ,
+        &[(2, Some(0)), (0, Some(0))],
+        &[],
+    ),
+    (Put(2, 1), Ok(()), NOTED, READ, PUT_TWICE, &[]),
+    (Put(4, 2), NO_BLOCK, NOTED, READ, PUT_TWICE, &[]),
+    (Note(3, Some(2)), NO_PERIOD, NOTED, READ, PUT_TWICE, &[]),
+    (Clear(3), Ok(()), GONE, READ, CLEARED, &[]),
+    (Clear(4), NO_BLOCK, GONE, READ, CLEARED, &[]),
+    (Revise(1, 2, None), NO_RESOURCE, GONE, READ, CLEARED, &[]),
+    (Revise(0, 2, None), NO_PERIOD, GONE, READ, CLEARED, &[]),
     (
         Revise(0, 1, Some(5)),
         Ok(()),
+        GONE,
         READ,
         CLEARED,
         &[((0, 1), Some(5))],
     ),
-    (Revise(0, 0, None), Ok(()), READ, CLEARED, REVISED),
-    (Revise(0, 1, Some(-4)), Ok(()), READ, CLEARED, LOWERED),
-    (Revise(0, 1, None), Ok(()), READ, CLEARED, LIFTED),
+    (Revise(0, 0, None), Ok(()), GONE, READ, CLEARED, REVISED),
+    (Revise(0, 1, Some(-4)), Ok(()), GONE, READ, CLEARED, LOWERED),
+    (Revise(0, 1, None), Ok(()), GONE, READ, CLEARED, LIFTED),
 ];
 
 #[test]
@@ -116,26 +131,29 @@ fn keeps_first_reads_and_last_writes_and_revisions(rt: HostRuntime) {
     drop(work);
 }
 
+/// Whether a set has these pairs, in this order.
+pub(super) fn has_pairs<T: Eq>(set: &[T], pairs: &[T]) -> bool {
+    set == pairs
+}
+
 /// Makes a change, and tells whether it is answered so and leaves these sets.
 fn is_step(work: &mut Work<Global>, step: &Step) -> bool {
-    let (change, answer, reads, writes, revises) = step;
+    let (change, answer, known, reads, writes, revises) = step;
     if answer_of(work, *change) != *answer {
         return false;
     }
-    work.reads() == *reads && work.writes() == *writes && work.revises() == *revises
+    work.known(3) == *known
+        && has_pairs(work.reads(), reads)
+        && has_pairs(work.writes(), writes)
+        && has_pairs(work.revises(), revises)
 }
 
-/// The own write of a block is known, else what was noted of it.
 fn assert_steps(rt: &impl Abort, work: &mut Work<Global>) {
-    for (at, step) in STEPS.iter().enumerate() {
+    for step in STEPS {
         assert!(rt; is_step(work, step));
-        if at == 0 {
-            assert!(rt; work.known(3) == Some(Some(1)));
-        }
     }
     assert!(rt; of(work) == (2, 7, 3));
     assert!(rt; (work.known(1), work.known(2)) == (None, Some(Some(1))));
-    assert!(rt; work.known(3) == Some(None));
 }
 
 /// Who plans, the job, and how many commits the transaction has seen.
@@ -316,15 +334,15 @@ fn fill_again<A: Allocator + Copy + Drop>(
     drop(work);
 }
 
-pub(super) fn change_all<A: Allocator + Copy + Drop>(
+pub(super) fn are_changed<A: Allocator + Copy + Drop>(
     rt: &impl Abort,
     heap: Heap<'_>,
     alloc: A,
     kind: u32,
 ) -> bool {
-    let mut work = twice(rt, heap, WorkError::NoMemory, || {
-        new_work(alloc, PLANNER, SIZE)
-    });
+    let Ok(mut work) = new_work(alloc, PLANNER, SIZE) else {
+        return false;
+    };
     fill(rt, heap, &mut work, kind);
     fill_again(rt, heap, work, kind);
     true

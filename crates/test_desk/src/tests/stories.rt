@@ -1,18 +1,20 @@
 //! What happens at a desk, and what comes of its history. A call that was refused memory is made again, and finds all as it was.
 use super::calls::Call::Withdraw;
-use super::calls::{Answer, Call, Row, answered, end, is_behind, is_next, is_work, parts, work_of};
+use super::calls::{
+    Answer, Call, Due, Row, answered, end, is_behind, is_next, is_work, parts, reply_of, work_of,
+};
 use super::steps::enter_twice;
 use super::worked::NOTHING;
-use super::{assert_refused, audited, load_and_limit, open, resume, twice};
-use pit_desk::EntryReply::{Committed, Withdrawn};
+use super::{assert_refused, audited, load_and_limits, open, resume, size_of};
+use pit_desk::EntryReply::Committed;
 use pit_desk::{
     Act, AuditFault, Desk, DeskError, Entry, EntryReply, ResumeFault, Stop, one_thread,
 };
-use pit_model::{BuildError, Instance};
+use pit_model::Instance;
 use pit_plan::Plan;
 use pit_plan_sample::Reading;
 use pit_sample::{Fact, Heap, OFFSET, OFFSET_SIZE, Size, TINY, TINY_SIZE, built};
-use pit_tx::{Work, WorkError};
+use pit_tx::Work;
 use std::alloc::Allocator;
 use std::process::Abort;
 
@@ -69,21 +71,25 @@ pub(super) const TINY_STORY: Story<'static> = Story {
 };
 
 /// A call by which the history grows alone.
-const IDLE: Row<'static> = (Withdraw(3, &[], &[]), Withdrawn);
+const IDLE: Row<'static> = (Withdraw(3, &[], &[]), Due::Withdrawn);
 
-/// Plays a story, and tells whether it came to its end. Where memory was refused, no desk went on, and all is freed.
-pub(super) fn play<A: Allocator + Copy + Drop>(
+/// Plays a story, and tells whether it came to its end.
+pub(super) fn is_played<A: Allocator + Copy + Drop>(
     rt: &impl Abort,
     heap: Heap<'_>,
     alloc: A,
     story: Story<'_>,
 ) -> bool {
-    let mut desk = opened_twice(rt, heap, alloc, story);
-    follow_all(rt, heap, alloc, &mut desk, story, story.rows);
+    let Ok(pit) = built(alloc, story.size, story.facts) else {
+        return false;
+    };
+    let mut desk = opened_twice(rt, heap, alloc, pit, story);
+    follow_all(rt, heap, alloc, &mut desk, story.in_steps, story.rows);
     stay(rt, heap, alloc, &mut desk, story);
     assert_read(rt, heap, &desk, story, story.max_entries);
-    assert_passes(rt, heap, alloc, &desk, story);
-    come_of(rt, heap, alloc, desk, story)
+    let is_audited = is_audited(rt, heap, alloc, &desk, story);
+    let is_there = comes_of(rt, heap, alloc, desk, story);
+    is_audited && is_there
 }
 
 /// Opens a desk, and opens it again over the pit that was handed back where memory was refused.
@@ -91,29 +97,18 @@ fn opened_twice<A: Allocator + Copy + Drop>(
     rt: &impl Abort,
     heap: Heap<'_>,
     alloc: A,
+    pit: Instance<A>,
     story: Story<'_>,
 ) -> Desk<A> {
-    let pit = twice(rt, heap, BuildError::NoMemory, || {
-        built(alloc, story.size, story.facts)
-    });
     let before = heap.count();
     match open(rt, alloc, pit, story.start, story.max_entries) {
         Ok(desk) => desk,
         Err((pit, error)) => {
             assert_refused(rt, heap, before, error == DeskError::NoMemory);
-            opened_again(rt, alloc, pit, story)
+            let answer = open(rt, alloc, pit, story.start, story.max_entries);
+            answer.ok().expect(rt, "no memory twice")
         }
     }
-}
-
-fn opened_again<A: Allocator + Copy + Drop>(
-    rt: &impl Abort,
-    alloc: A,
-    pit: Instance<A>,
-    story: Story<'_>,
-) -> Desk<A> {
-    let answer = open(rt, alloc, pit, story.start, story.max_entries);
-    answer.ok().expect(rt, "no memory twice")
 }
 
 pub(super) fn follow_all<A: Allocator + Copy + Drop>(
@@ -121,11 +116,11 @@ pub(super) fn follow_all<A: Allocator + Copy + Drop>(
     heap: Heap<'_>,
     alloc: A,
     desk: &mut Desk<A>,
-    story: Story<'_>,
+    in_steps: bool,
     rows: &[Row<'_>],
 ) {
     for row in rows {
-        follow(rt, heap, alloc, desk, story, *row);
+        follow(rt, heap, alloc, desk, in_steps, *row);
     }
 }
 
@@ -138,7 +133,7 @@ fn stay<A: Allocator + Copy + Drop>(
     story: Story<'_>,
 ) {
     for _ in 0..story.idle {
-        follow(rt, heap, alloc, desk, story, IDLE);
+        follow(rt, heap, alloc, desk, story.in_steps, IDLE);
     }
     for call in story.stopped {
         assert_stopped(rt, heap, alloc, desk, *call);
@@ -151,33 +146,35 @@ pub(super) fn follow<A: Allocator + Copy + Drop>(
     heap: Heap<'_>,
     alloc: A,
     desk: &mut Desk<A>,
-    story: Story<'_>,
+    in_steps: bool,
     row: Row<'_>,
 ) {
     let entries = desk.history().len();
-    let work = twice(rt, heap, WorkError::NoMemory, || {
-        work_of(alloc, story.size, row.0)
-    });
-    assert!(rt; end_by(rt, heap, alloc, desk, story.in_steps, work, row) == row.1);
+    let work = made_twice(rt, heap, alloc, size_of(desk.plan().instance()), row.0);
+    let (act, ..) = parts(row.0);
+    let reply = match (in_steps, act) {
+        (true, Act::Commit) => enter_twice(rt, heap, alloc, desk, work, row),
+        _ => end_twice(rt, heap, desk, work, row.0),
+    };
+    assert!(rt; reply == reply_of(row.1));
     assert!(rt; is_next(desk.history(), entries, row));
     assert!(rt; has_due_limits(rt, desk.plan(), desk.history()));
 }
 
-/// Ends a transaction, in two steps where that is asked and it is to commit.
-fn end_by<A: Allocator + Copy + Drop>(
+/// A work, which is made anew where memory was refused.
+fn made_twice<A: Allocator + Copy + Drop>(
     rt: &impl Abort,
     heap: Heap<'_>,
     alloc: A,
-    desk: &mut Desk<A>,
-    in_steps: bool,
-    work: Work<A>,
-    row: Row<'_>,
-) -> EntryReply {
-    let (act, ..) = parts(row.0);
-    match (in_steps, act) {
-        (true, Act::Commit) => enter_twice(rt, heap, alloc, desk, work, row),
-        _ => end_twice(rt, heap, desk, work, row.0),
+    size: Size,
+    call: Call<'_>,
+) -> Work<A> {
+    let before = heap.count();
+    if let Ok(work) = work_of(alloc, size, call) {
+        return work;
     }
+    assert!(rt; heap.count().has_refused_since(before));
+    work_of(alloc, size, call).expect(rt, "no memory twice")
 }
 
 /// Ends a transaction, and ends it again by the work that was handed back where memory was refused.
@@ -272,41 +269,45 @@ fn are_told_apart<A: Allocator + Drop>(history: &[Entry<A>]) -> bool {
     let [first, second, ..] = history else {
         return true;
     };
+    let told = (first.is_same(first), first.is_same(second));
     let are_same = first.reads.items() == second.reads.items();
-    first.is_same(first)
-        && !first.is_same(second)
-        && first.writes.is_same(&first.writes)
-        && first.reads.is_same(&second.reads) == are_same
+    let lists = first.reads.is_same(&second.reads) == are_same;
+    told == (true, false) && lists && first.writes.is_same(&first.writes)
 }
 
 /// Whether the plan is what the story leaves.
 fn is_left<A: Allocator + Copy + Drop>(rt: &impl Abort, desk: &Desk<A>, story: Story<'_>) -> bool {
     Reading::of(desk.plan()) == story.left
-        && (load_and_limit(rt, desk.plan(), 0, 0).0, one_thread(desk)) == story.sums
+        && (load_and_limits(rt, desk.plan(), 0, 0).0, one_thread(desk)) == story.sums
         && has_due_limits(rt, desk.plan(), desk.history())
 }
 
-/// The history passes the audit, which leaves the same plan.
-pub(super) fn assert_passes<A: Allocator + Copy + Drop>(
+/// The history passes the audit over a pit of its own, which leaves the same plan. Whether memory sufficed for that.
+fn is_audited<A: Allocator + Copy + Drop>(
     rt: &impl Abort,
     heap: Heap<'_>,
     alloc: A,
     desk: &Desk<A>,
     story: Story<'_>,
-) {
-    let plan = twice(rt, heap, AuditFault::NoMemory, || {
-        audited_over(rt, alloc, story, desk.history())
-    });
-    assert!(rt; is_same(rt, &plan, desk));
-    drop(plan);
+) -> bool {
+    let before = heap.count();
+    match audited_anew(rt, alloc, desk.history(), story) {
+        Ok(plan) => {
+            assert!(rt; is_same(rt, &plan, desk));
+            true
+        }
+        Err(fault) => {
+            assert_refused(rt, heap, before, fault == AuditFault::NoMemory);
+            false
+        }
+    }
 }
 
-/// The plan that a history leaves of a pit of its own.
-fn audited_over<A: Allocator + Copy + Drop>(
+fn audited_anew<A: Allocator + Copy + Drop>(
     rt: &impl Abort,
     alloc: A,
-    story: Story<'_>,
     history: &[Entry<A>],
+    story: Story<'_>,
 ) -> Result<Plan<A>, AuditFault> {
     match built(alloc, story.size, story.facts) {
         Ok(pit) => audited(rt, alloc, pit, history),
@@ -323,7 +324,7 @@ fn is_same<A: Allocator + Copy + Drop>(rt: &impl Abort, plan: &Plan<A>, desk: &D
 }
 
 /// Takes a desk apart, which asks for no memory, and tells whether that comes of its history which has to.
-fn come_of<A: Allocator + Copy + Drop>(
+fn comes_of<A: Allocator + Copy + Drop>(
     rt: &impl Abort,
     heap: Heap<'_>,
     alloc: A,
@@ -336,7 +337,7 @@ fn come_of<A: Allocator + Copy + Drop>(
     assert!(rt; heap.count() == before);
     assert!(rt; (pit.blocks(), history.len()) == (story.size.blocks, entries));
     match story.then {
-        Then::GoesOn(max_entries) => go_on(rt, heap, alloc, pit, history, max_entries, story),
+        Then::GoesOn(max_entries) => goes_on(rt, heap, alloc, pit, history, max_entries, story),
         Then::Fault(max_entries, number, fault) => {
             let history = renumbered(rt, history, number);
             resume(rt, alloc, pit, history, max_entries).err() == Some(fault)
@@ -348,8 +349,8 @@ fn come_of<A: Allocator + Copy + Drop>(
     }
 }
 
-/// A desk goes on from a history, reads as the one before it, and is called further. Where memory was refused, pit and history are freed.
-fn go_on<A: Allocator + Copy + Drop>(
+/// A desk goes on, reads as the one before it, and is called further. Whether memory sufficed for it.
+fn goes_on<A: Allocator + Copy + Drop>(
     rt: &impl Abort,
     heap: Heap<'_>,
     alloc: A,
@@ -360,8 +361,9 @@ fn go_on<A: Allocator + Copy + Drop>(
 ) -> bool {
     let before = heap.count();
     match resume(rt, alloc, pit, history, max_entries) {
-        Ok(desk) => {
-            go_further(rt, heap, alloc, desk, max_entries, story);
+        Ok(mut desk) => {
+            assert_read(rt, heap, &desk, story, max_entries);
+            follow_all(rt, heap, alloc, &mut desk, story.in_steps, story.behind);
             true
         }
         Err(fault) => {
@@ -371,30 +373,14 @@ fn go_on<A: Allocator + Copy + Drop>(
     }
 }
 
-fn go_further<A: Allocator + Copy + Drop>(
-    rt: &impl Abort,
-    heap: Heap<'_>,
-    alloc: A,
-    mut desk: Desk<A>,
-    max_entries: u32,
-    story: Story<'_>,
-) {
-    assert_read(rt, heap, &desk, story, max_entries);
-    follow_all(rt, heap, alloc, &mut desk, story, story.behind);
-    drop(desk);
-}
-
 /// The history, but that its last entry, which is a commit, has this number.
 fn renumbered<A: Allocator + Copy + Drop>(
     rt: &impl Abort,
     mut history: Vec<Entry<A>, A>,
     number: u32,
 ) -> Vec<Entry<A>, A> {
-    let mut last = history.pop().expect(rt, "an entry");
+    let last = history.last_mut().expect(rt, "an entry");
     last.reply = Committed { number };
-    let Ok(()) = history.push(last) else {
-        panic!(rt; "memory");
-    };
     history
 }
 
@@ -410,31 +396,15 @@ fn is_wrong<A: Allocator + Copy + Drop>(
     fault == Some(AuditFault::Place { place: 2 })
 }
 
-/// Whether each limit in force is what the last commit that revised it gave, or else the pit's.
-pub(super) fn has_due_limits<A: Allocator + Copy + Drop, B: Allocator + Drop>(
+/// Whether each limit in force on the first resource is what the last commit that revised it gave, or else the pit's.
+fn has_due_limits<A: Allocator + Copy + Drop>(
     rt: &impl Abort,
     plan: &Plan<A>,
-    history: &[Entry<B>],
+    history: &[Entry<A>],
 ) -> bool {
     for t in 0..plan.instance().periods() {
-        if !has_due_limits_in(rt, plan, history, t) {
-            return false;
-        }
-    }
-    true
-}
-
-fn has_due_limits_in<A: Allocator + Copy + Drop, B: Allocator + Drop>(
-    rt: &impl Abort,
-    plan: &Plan<A>,
-    history: &[Entry<B>],
-    t: u32,
-) -> bool {
-    let pit = plan.instance();
-    assert!(rt; t < pit.periods());
-    for r in 0..pit.resources() {
-        let due = revised_in(history, r, t).unwrap_or(pit.upper(r, t));
-        if plan.limit(r, t) != due {
+        let (_, limit, upper) = load_and_limits(rt, plan, 0, t);
+        if limit != revised_in(history, t).unwrap_or(upper) {
             return false;
         }
     }
@@ -442,21 +412,21 @@ fn has_due_limits_in<A: Allocator + Copy + Drop, B: Allocator + Drop>(
 }
 
 /// What the last commit that revised the limit gave, if one did.
-fn revised_in<A: Allocator + Drop>(history: &[Entry<A>], r: u32, t: u32) -> Option<Option<i64>> {
+fn revised_in<A: Allocator + Drop>(history: &[Entry<A>], t: u32) -> Option<Option<i64>> {
     let mut last: Option<Option<i64>> = None;
     for entry in history {
-        last = given_by(entry, r, t).or(last);
+        last = given_by(entry, t).or(last);
     }
     last
 }
 
 /// What an entry gives the limit, if it is a commit that revises it.
-fn given_by<A: Allocator + Drop>(entry: &Entry<A>, r: u32, t: u32) -> Option<Option<i64>> {
+fn given_by<A: Allocator + Drop>(entry: &Entry<A>, t: u32) -> Option<Option<i64>> {
     let Committed { .. } = entry.reply else {
         return None;
     };
     for (resource, period, upper) in entry.revises.items() {
-        if *resource == r && *period == t {
+        if *resource == 0 && *period == t {
             return Some(*upper);
         }
     }

@@ -1,10 +1,10 @@
 //! Histories that are due over one pit and not over another.
 use super::calls::Call::{Commit, Revise, Withdraw};
+use super::calls::Due::{Committed, Withdrawn};
 use super::stories::{Story, TINY_STORY, Then};
 use super::worked::NOTHING;
 use super::{Run, is_whole};
 use pit_desk::Act;
-use pit_desk::EntryReply::{Committed, Withdrawn};
 use pit_plan_sample::Reading;
 use pit_sample::{Size, TINY_SIZE};
 
@@ -12,7 +12,7 @@ use pit_sample::{Size, TINY_SIZE};
 const WRONG: &[Story<'static>] = &[
     Story {
         rows: &[
-            (Commit(0, &[], &[]), Committed { number: 1 }),
+            (Commit(0, &[], &[]), Committed(1)),
             (Withdraw(1, &[(2, None)], &[]), Withdrawn),
         ],
         left: Some(Reading {
@@ -24,10 +24,7 @@ const WRONG: &[Story<'static>] = &[
     },
     Story {
         rows: &[
-            (
-                Revise(Act::Commit, 0, &[], &[(0, 0, None)]),
-                Committed { number: 1 },
-            ),
+            (Revise(Act::Commit, 0, &[], &[(0, 0, None)]), Committed(1)),
             (
                 Revise(Act::Withdraw, 1, &[], &[(0, 0, Some(0)), (0, 1, Some(0))]),
                 Withdrawn,
@@ -47,13 +44,10 @@ const WRONG: &[Story<'static>] = &[
             ..TINY_SIZE
         },
         rows: &[
-            (
-                Revise(Act::Commit, 0, &[], &[(0, 0, None)]),
-                Committed { number: 1 },
-            ),
+            (Revise(Act::Commit, 0, &[], &[(0, 0, None)]), Committed(1)),
             (
                 Revise(Act::Commit, 1, &[], &[(0, 0, Some(0)), (1, 0, Some(0))]),
-                Committed { number: 2 },
+                Committed(2),
             ),
         ],
         left: Some(Reading {
