@@ -1,38 +1,108 @@
-//! Desks over pits that were written down by hand, or drawn.
+//! The sets of transactions, plans, and desks, over pits that were written down by hand, or drawn.
+//!
+//! One harness serves all. `calls` makes works of what transactions do, and compares entries with that. A story is what a desk is called, and what
+//! comes of its history; `stories` plays it, and `worked`, `revised`, `resumed` and `wrong` have those that were worked by hand. `opened` is about
+//! desks that are opened or full, and `steps` about the two steps of a commit. `plans` has plans that were worked by hand, and `drawn` lists of
+//! commits that look random. `sets` is about the sets of a transaction. In `memory`, `large` and `sets` each request for memory is refused in turn.
 ghost use Rattle.std.specs.Prelude.{◌≡◌, ◌<◌, true, All, map};
 ghost use Rattle.std.specs.List.Sorted.{IsStrictlyIncreasing};
 ghost use Rattle.pit_model.specs.Fitting.{IsSchedule};
 
 mod calls;
-mod limits;
+mod drawn;
+mod large;
 mod memory;
 mod opened;
+mod plans;
 mod resumed;
 mod revised;
+mod sets;
 mod steps;
-mod twice;
+mod stories;
 mod worked;
 mod wrong;
 
-use calls::{Call, Row, is_entry, parts, work_of};
-use linked_list_allocator::LocalHeap;
-use pit_desk::{
-    Act, AuditFault, Desk, DeskError, Entry, EntryReply, Reply, ResumeFault, Stop, audit,
-};
+use large::Asked;
+use pit_desk::{AuditFault, Desk, DeskError, Entry, ResumeFault, audit};
 use pit_model::Instance;
 use pit_plan::Plan;
-use pit_plan_sample::Reading;
-use pit_refuse::Refusing;
-use pit_sample::{Fact, Size, built};
-use pit_tx::Work;
+use pit_refuse::{Count, Refusing};
+use pit_sample::{Fact, Heap, Size, built};
 use std::alloc::{Allocator, Global};
 use std::process::Abort;
+use stories::Story;
 
-/// An allocator that counts requests, and refuses one or none.
-type Heap<'a> = &'a Refusing<LocalHeap>;
+/// A block, with a period or none.
+type Pair = (u32, Option<u32>);
 
-/// A start of a desk.
-type Start = &'static [(u32, u32)];
+/// A resource and a period, with an upper limit or none.
+type Revision = (u32, u32, Option<i64>);
+
+/// The bytes of a heap, of which no run takes half.
+const BYTES: usize = 4_194_304;
+
+/// What is done over a heap.
+#[derive(Clone, Copy)]
+enum Run<'a> {
+    Story(Story<'a>),
+    /// Commits are made ready, and taken back or entered.
+    Steps,
+    /// A plan of the large pit is asked all that takes memory.
+    Plan(&'a Asked),
+    /// Changes of a kind are made to the sets of a transaction.
+    Sets(u32),
+}
+
+/// Whether a run comes to its end, which it doesn't where memory is refused for what it begins with or leaves.
+fn is_done<A: Allocator + Copy + Drop>(
+    rt: &impl Abort,
+    heap: Heap<'_>,
+    alloc: A,
+    plain: Global,
+    run: Run<'_>,
+) -> bool {
+    match run {
+        Run::Story(story) => stories::is_played(rt, heap, alloc, story),
+        Run::Steps => steps::are_taken(rt, heap, alloc),
+        Run::Plan(asked) => large::is_asked(rt, heap, alloc, plain, asked),
+        Run::Sets(kind) => sets::are_changed(rt, heap, alloc, kind),
+    }
+}
+
+/// What doesn't come to its end was refused memory, gives back what it took, and comes to its end when it is done again.
+fn assert_done(rt: &impl Abort, heap: Heap<'_>, plain: Global, run: Run<'_>) {
+    if !is_done(rt, heap, heap, plain, run) {
+        assert!(rt; heap.count().has_refused());
+        assert!(rt; heap.used() == 0);
+        assert!(rt; is_done(rt, heap, heap, plain, run));
+    }
+}
+
+/// Whether no request had the number. All memory is given back in the end.
+fn is_whole(rt: &impl Abort, alloc: Global, number: u64, run: Run<'_>) -> bool {
+    let heap = Refusing::over_heap(alloc, BYTES, number).expect(rt, "a heap");
+    assert_done(rt, &heap, alloc, run);
+    assert!(rt; heap.used() == 0);
+    !heap.count().has_refused()
+}
+
+/// Refuses each request in turn, up to the one behind the last, whose number is between these.
+fn refuse_each(rt: &impl Abort, alloc: Global, between: (u64, u64), run: Run<'_>) {
+    let (least, most) = between;
+    for number in 1..most {
+        if is_whole(rt, alloc, number, run) {
+            assert!(rt; number > least, "a request of each growth at least");
+            return;
+        }
+    }
+    panic!(rt; "never whole");
+}
+
+/// The fault is want of memory, which was refused.
+fn assert_refused(rt: &impl Abort, heap: Heap<'_>, before: Count, is_no_memory: bool) {
+    assert!(rt; is_no_memory);
+    assert!(rt; heap.count().has_refused_since(before));
+}
 
 fn is_rising(start: &[(u32, u32)]) -> bool
     ensures { result ≡ true → IsStrictlyIncreasing (map (λ pair. pair.0) start.now) }
@@ -81,146 +151,23 @@ fn open<A: Allocator + Copy + Drop>(
 }
 
 /// A desk over a pit of this size, of which these facts are told, with room for 100 entries.
-fn desk_over(
+fn desk_over<A: Allocator + Copy + Drop>(
     rt: &impl Abort,
-    alloc: Global,
+    alloc: A,
     size: Size,
     facts: &[Fact],
-    start: &[(u32, u32)],
-) -> Desk<Global> {
+) -> Desk<A> {
     let pit = built(alloc, size, facts).expect(rt, "a pit");
-    let answer = open(rt, alloc, pit, start, 100);
+    let answer = open(rt, alloc, pit, &[], 100);
     answer.ok().expect(rt, "a desk")
 }
 
-fn end<A: Allocator + Copy + Drop>(
-    rt: &impl Abort,
-    desk: &mut Desk<A>,
-    work: Work<A>,
-    act: Act,
-) -> Result<EntryReply, (Work<A>, Stop)> {
-    match act {
-        Act::Commit => commit(rt, desk, work),
-        Act::Withdraw => withdraw(rt, desk, work),
-    }
-}
-
-fn commit<A: Allocator + Copy + Drop>(
-    rt: &impl Abort,
-    desk: &mut Desk<A>,
-    work: Work<A>,
-) -> Result<EntryReply, (Work<A>, Stop)> {
-    assert!(rt; desk.fits(&work));
-    match desk.commit(work) {
-        Ok(reply) => Ok(entry_reply(reply)),
-        Err(stopped) => Err(stopped),
-    }
-}
-
-/// What the entry of a commit says that is answered so.
-fn entry_reply(reply: Reply) -> EntryReply {
-    match reply {
-        Reply::Committed { number } => EntryReply::Committed { number },
-        Reply::Refused(why) => EntryReply::Refused(why),
-    }
-}
-
-fn withdraw<A: Allocator + Copy + Drop>(
-    rt: &impl Abort,
-    desk: &mut Desk<A>,
-    work: Work<A>,
-) -> Result<EntryReply, (Work<A>, Stop)> {
-    assert!(rt; desk.fits(&work));
-    match desk.withdraw(work) {
-        Ok(()) => Ok(EntryReply::Withdrawn),
-        Err(stopped) => Err(stopped),
-    }
-}
-
-/// Ends a transaction, which is answered.
-fn answered<A: Allocator + Copy + Drop>(
-    rt: &impl Abort,
-    desk: &mut Desk<A>,
-    work: Work<A>,
-    act: Act,
-) -> EntryReply {
-    end(rt, desk, work, act).ok().expect(rt, "an answer")
-}
-
-/// Makes a call that is answered.
-fn answer<A: Allocator + Copy + Drop>(
-    rt: &impl Abort,
-    alloc: A,
-    desk: &mut Desk<A>,
-    size: Size,
-    call: Call<'_>,
-) -> EntryReply {
-    let work = work_of(alloc, size, call).expect(rt, "a work");
-    let (act, ..) = parts(call);
-    answered(rt, desk, work, act)
-}
-
-/// Whether it is the entry behind so many.
-fn is_behind<A: Allocator + Drop>(history: &[Entry<A>], entries: usize, row: Row<'_>) -> bool {
-    match history.get(entries) {
-        Some(entry) => is_entry(entry, row),
-        None => false,
-    }
-}
-
-/// Whether it is the last entry, behind so many.
-fn is_next<A: Allocator + Drop>(history: &[Entry<A>], entries: usize, row: Row<'_>) -> bool {
-    history.len() == entries.wrapping_add(1) && is_behind(history, entries, row)
-}
-
-/// Makes a call, which gets the reply that is due, and is the next entry.
-fn follow<A: Allocator + Copy + Drop>(
-    rt: &impl Abort,
-    alloc: A,
-    desk: &mut Desk<A>,
-    size: Size,
-    row: Row<'_>,
-) {
-    let entries = desk.history().len();
-    let (call, reply) = row;
-    assert!(rt; answer(rt, alloc, desk, size, call) == reply);
-    assert!(rt; is_next(desk.history(), entries, row));
-}
-
-fn follow_all<A: Allocator + Copy + Drop>(
-    rt: &impl Abort,
-    alloc: A,
-    desk: &mut Desk<A>,
-    size: Size,
-    rows: &[Row<'_>],
-) {
-    for row in rows {
-        follow(rt, alloc, desk, size, *row);
-    }
-}
-
-fn load(rt: &impl Abort, plan: &Plan<Global>, r: u32, t: u32) -> i128 {
-    assert!(rt; r < plan.instance().resources());
-    assert!(rt; t < plan.instance().periods());
-    plan.load(r, t)
-}
-
-fn limit<A: Allocator + Copy + Drop>(
-    rt: &impl Abort,
-    plan: &Plan<A>,
-    r: u32,
-    t: u32,
-) -> Option<i64> {
-    assert!(rt; r < plan.instance().resources());
-    assert!(rt; t < plan.instance().periods());
-    plan.limit(r, t)
-}
-
-fn audited<A: Allocator + Copy + Drop, B: Allocator + Drop>(
+/// The plan that a history leaves of a pit.
+fn audited<A: Allocator + Copy + Drop>(
     rt: &impl Abort,
     alloc: A,
     pit: Instance<A>,
-    history: &[Entry<B>],
+    history: &[Entry<A>],
 ) -> Result<Plan<A>, AuditFault> {
     let None = pit.unmeetable() else {
         panic!(rt; "unmeetable");
@@ -243,40 +190,23 @@ fn resume<A: Allocator + Copy + Drop>(
     Desk::resume(alloc, pit, history, max_entries)
 }
 
-/// The plan that a legal history leaves of a pit of this size, of which these facts are told.
-fn audited_anew(
+fn size_of<A: Allocator + Copy + Drop>(pit: &Instance<A>) -> Size {
+    Size {
+        blocks: pit.blocks(),
+        periods: pit.periods(),
+        resources: pit.resources(),
+    }
+}
+
+/// The load of a resource in a period, the limit on it, and the upper limit of the pit.
+fn load_and_limits<A: Allocator + Copy + Drop>(
     rt: &impl Abort,
-    alloc: Global,
-    size: Size,
-    facts: &[Fact],
-    history: &[Entry<Global>],
-) -> Plan<Global> {
-    let pit = built(alloc, size, facts).expect(rt, "a pit");
-    audited(rt, alloc, pit, history).expect(rt, "a legal history")
-}
-
-/// Whether the plans have the same limits in a period.
-fn are_limits_same(rt: &impl Abort, plan: &Plan<Global>, other: &Plan<Global>, t: u32) -> bool {
-    for r in 0..plan.instance().resources() {
-        if limit(rt, plan, r, t) != limit(rt, other, r, t) {
-            return false;
-        }
-    }
-    true
-}
-
-fn assert_same(rt: &impl Abort, plan: &Plan<Global>, other: &Plan<Global>) {
-    let reading = Reading::of(plan);
-    assert!(rt; reading.is_some());
-    assert!(rt; reading == Reading::of(other));
-    for t in 0..plan.instance().periods() {
-        assert!(rt; are_limits_same(rt, plan, other, t));
-    }
-}
-
-/// The history passes the audit, which leaves the same plan.
-fn assert_passes(rt: &impl Abort, alloc: Global, size: Size, facts: &[Fact], desk: &Desk<Global>) {
-    let plan = audited_anew(rt, alloc, size, facts, desk.history());
-    assert_same(rt, &plan, desk.plan());
-    drop(plan);
+    plan: &Plan<A>,
+    r: u32,
+    t: u32,
+) -> (i128, Option<i64>, Option<i64>) {
+    assert!(rt; r < plan.instance().resources());
+    assert!(rt; t < plan.instance().periods());
+    let upper = plan.instance().upper(r, t);
+    (plan.load(r, t), plan.limit(r, t), upper)
 }

@@ -1,15 +1,14 @@
 //! How transactions end, and the works and entries of them.
-use pit_desk::{Act, Entry, EntryReply, Pairs, Revisions};
+use super::{Pair, Revision};
+use EntryReply::Refused;
+use pit_desk::{Act, Desk, Entry, EntryReply, Refusal, Stop, entry_reply_of};
 use pit_model::{BLOCKS_MAX, RESOURCES_MAX};
 use pit_num::PERIODS_MAX;
+use pit_plan::Breach;
 use pit_sample::Size;
 use pit_tx::{Work, WorkError};
-use std::alloc::{AllocError, Allocator};
-
-pub(super) type Pair = (u32, Option<u32>);
-
-/// A resource and a period, with an upper limit or none.
-pub(super) type Revision = (u32, u32, Option<i64>);
+use std::alloc::Allocator;
+use std::process::Abort;
 
 /// How a transaction of planner 2 for its job 7 ends: the number of commits that it had seen, what it noted, and what it wrote.
 #[derive(Clone, Copy)]
@@ -20,8 +19,56 @@ pub(super) enum Call<'a> {
     Revise(Act, u32, &'a [Pair], &'a [Revision]),
 }
 
-/// A call, and the reply that is due to it.
-pub(super) type Row<'a> = (Call<'a>, EntryReply);
+/// What is due to a call.
+#[derive(Clone, Copy)]
+pub(super) enum Due {
+    /// The number of the commit.
+    Committed(u32),
+    Withdrawn,
+    /// The start, and how many commits there are.
+    Ahead(u32, u32),
+    /// A block, and its version.
+    Moved(u32, u32),
+    Misread(u32),
+    /// A block, and its predecessor that has no period or a later one.
+    Late(u32, u32),
+    /// A resource, a period, the load of it there, and the limit on that.
+    Over(u32, u32, i128, i64),
+}
+
+/// A call, and what is due to it.
+pub(super) type Row<'a> = (Call<'a>, Due);
+
+pub(super) fn reply_of(due: Due) -> EntryReply {
+    match due {
+        Due::Committed(number) => EntryReply::Committed { number },
+        Due::Withdrawn => EntryReply::Withdrawn,
+        Due::Ahead(start, commits) => Refused(Refusal::Ahead { start, commits }),
+        Due::Moved(block, version) => Refused(Refusal::Moved { block, version }),
+        Due::Misread(block) => Refused(Refusal::Misread { block }),
+        Due::Late(block, before) => Refused(Refusal::Precedence { block, before }),
+        Due::Over(resource, period, load, limit) => Refused(Refusal::Over {
+            resource,
+            period,
+            load,
+            limit,
+        }),
+    }
+}
+
+/// The breach that a refusal tells, if it tells one.
+pub(super) fn breach_of(due: Option<Due>) -> Option<Breach> {
+    match due {
+        Some(Due::Late(block, before)) => Some(Breach::Precedence { block, before }),
+        Some(Due::Over(resource, period, load, limit)) => Some(Breach::Over {
+            resource,
+            period,
+            load,
+            limit,
+        }),
+        _ => None,
+    }
+}
 
 /// How the call ends, the number of commits, what was noted, what was written, and what was revised.
 pub(super) fn parts<'a>(call: Call<'a>) -> (Act, u32, &'a [Pair], &'a [Pair], &'a [Revision]) {
@@ -65,30 +112,23 @@ pub(super) fn revise_all<A: Allocator + Copy + Drop>(
     Ok(())
 }
 
-/// A work of planner 2 for its job 7.
+/// A work of a planner, for one of its jobs, after so many commits.
 pub(super) fn new_work<A: Allocator + Copy + Drop>(
     alloc: A,
+    of: (u32, u32, u32),
     size: Size,
-    start: u32,
 ) -> Result<Work<A>, WorkError> {
-    if size.blocks == 0 || size.blocks > BLOCKS_MAX {
+    let (blocks, periods, resources) = (size.blocks, size.periods, size.resources);
+    if blocks == 0 || blocks > BLOCKS_MAX {
         return Err(WorkError::NoBlock);
     }
-    if size.periods == 0 || size.periods > PERIODS_MAX {
+    if periods == 0 || periods > PERIODS_MAX {
         return Err(WorkError::NoPeriod);
     }
-    if size.resources > RESOURCES_MAX {
+    if resources > RESOURCES_MAX {
         return Err(WorkError::NoResource);
     }
-    match Work::new(
-        alloc,
-        2,
-        7,
-        start,
-        size.blocks,
-        size.periods,
-        size.resources,
-    ) {
+    match Work::new(alloc, of.0, of.1, of.2, blocks, periods, resources) {
         Ok(work) => Ok(work),
         Err(_) => Err(WorkError::NoMemory),
     }
@@ -114,21 +154,17 @@ fn filled_work<A: Allocator + Copy + Drop>(
     }
 }
 
+/// A work of planner 2 for its job 7.
 pub(super) fn work_of<A: Allocator + Copy + Drop>(
     alloc: A,
     size: Size,
     call: Call<'_>,
 ) -> Result<Work<A>, WorkError> {
     let (_, start, ..) = parts(call);
-    match new_work(alloc, size, start) {
+    match new_work(alloc, (2, 7, start), size) {
         Ok(work) => filled_work(work, call),
         Err(error) => Err(error),
     }
-}
-
-/// Whether a set has these pairs, in this order.
-fn has_pairs(set: &[Pair], pairs: &[Pair]) -> bool {
-    set == pairs
 }
 
 /// Whether a set has these revisions, in this order.
@@ -147,53 +183,71 @@ fn has_revisions(set: &[((u32, u32), Option<i64>)], revises: &[Revision]) -> boo
 pub(super) fn is_work<A: Allocator + Copy + Drop>(work: &Work<A>, call: Call<'_>) -> bool {
     let (_, start, reads, writes, revises) = parts(call);
     (work.planner(), work.job(), work.start()) == (2, 7, start)
-        && has_pairs(work.reads(), reads)
-        && has_pairs(work.writes(), writes)
+        && work.reads() == reads
+        && work.writes() == writes
         && has_revisions(work.revises(), revises)
 }
 
 /// Whether the entry says what was called and answered, with the pairs and the revisions in the order of first use.
 pub(super) fn is_entry<A: Allocator + Drop>(entry: &Entry<A>, row: Row<'_>) -> bool {
-    let (call, reply) = row;
-    let (act, start, reads, writes, revises) = parts(call);
+    let (act, start, reads, writes, revises) = parts(row.0);
     (entry.planner, entry.job, entry.start) == (2, 7, start)
-        && entry.act == act
-        && entry.reply == reply
+        && (entry.act, entry.reply) == (act, reply_of(row.1))
         && entry.reads.items() == reads
         && entry.writes.items() == writes
         && entry.revises.items() == revises
 }
 
-/// The same entries once more.
-pub(super) fn copied<A: Allocator + Copy + Drop>(
-    alloc: A,
+/// Whether it is the entry behind so many.
+pub(super) fn is_behind<A: Allocator + Drop>(
     history: &[Entry<A>],
-) -> Result<Vec<Entry<A>, A>, AllocError> {
-    let mut entries = Vec::with_capacity(alloc, history.len())?;
-    for entry in history {
-        let copy = copied_entry(alloc, entry)?;
-        let Ok(()) = entries.push(copy) else {
-            return Err(AllocError);
-        };
+    entries: usize,
+    row: Row<'_>,
+) -> bool {
+    match history.get(entries) {
+        Some(entry) => is_entry(entry, row),
+        None => false,
     }
-    Ok(entries)
 }
 
-fn copied_entry<A: Allocator + Copy + Drop>(
-    alloc: A,
-    entry: &Entry<A>,
-) -> Result<Entry<A>, AllocError> {
-    let reads = Vec::from_slice(alloc, entry.reads.items())?;
-    let writes = Vec::from_slice(alloc, entry.writes.items())?;
-    let revises = Vec::from_slice(alloc, entry.revises.items())?;
-    Ok(Entry {
-        planner: entry.planner,
-        job: entry.job,
-        start: entry.start,
-        reads: Pairs::new(reads),
-        writes: Pairs::new(writes),
-        revises: Revisions::new(revises),
-        act: entry.act,
-        reply: entry.reply,
-    })
+/// Whether it is the last entry, behind so many.
+pub(super) fn is_next<A: Allocator + Drop>(
+    history: &[Entry<A>],
+    entries: usize,
+    row: Row<'_>,
+) -> bool {
+    history.len() == entries.wrapping_add(1) && is_behind(history, entries, row)
+}
+
+/// What the end of a transaction is answered.
+pub(super) type Answer<A> = Result<EntryReply, (Work<A>, Stop)>;
+
+/// Ends a transaction.
+pub(super) fn end<A: Allocator + Copy + Drop>(
+    rt: &impl Abort,
+    desk: &mut Desk<A>,
+    work: Work<A>,
+    act: Act,
+) -> Answer<A> {
+    assert!(rt; desk.fits(&work));
+    match act {
+        Act::Commit => match desk.commit(work) {
+            Ok(reply) => Ok(entry_reply_of(reply)),
+            Err(stopped) => Err(stopped),
+        },
+        Act::Withdraw => match desk.withdraw(work) {
+            Ok(()) => Ok(EntryReply::Withdrawn),
+            Err(stopped) => Err(stopped),
+        },
+    }
+}
+
+/// Ends a transaction, which is answered.
+pub(super) fn answered<A: Allocator + Copy + Drop>(
+    rt: &impl Abort,
+    desk: &mut Desk<A>,
+    work: Work<A>,
+    act: Act,
+) -> EntryReply {
+    end(rt, desk, work, act).ok().expect(rt, "an answer")
 }

@@ -1,9 +1,9 @@
 //! Calls on the tiny pit that revise its limits, with replies that were found by hand.
 use super::calls::Call::{Commit, Revise};
+use super::calls::Due::{Committed, Late, Over, Withdrawn};
 use super::calls::Row;
 use super::worked::{AFTER_TWO_BLOCKS, NOTHING, THIRD_BLOCK, TWO_BLOCKS, Worked, play_all};
-use pit_desk::EntryReply::{Committed, Refused, Withdrawn};
-use pit_desk::{Act, Refusal};
+use pit_desk::Act;
 use pit_plan_sample::Reading;
 
 /// Block 3 under a limit that is raised for it, which can't be lowered then.
@@ -11,16 +11,11 @@ pub(super) const RAISING: &[Row<'static>] = &[
     TWO_BLOCKS,
     (
         Revise(Act::Commit, 1, &[(3, Some(0))], &[(0, 0, Some(5_000_000))]),
-        Committed { number: 2 },
+        Committed(2),
     ),
     (
         Revise(Act::Commit, 2, &[], &[(0, 0, Some(4_000_000))]),
-        Refused(Refusal::Over {
-            resource: 0,
-            period: 0,
-            load: 5_000_000,
-            limit: 4_000_000,
-        }),
+        Over(0, 0, 5_000_000, 4_000_000),
     ),
 ];
 
@@ -61,10 +56,7 @@ const REVISED: &[Worked] = &[
             TWO_BLOCKS,
             (
                 Revise(Act::Commit, 1, &[(0, None)], &[(0, 0, Some(5_000_000))]),
-                Refused(Refusal::Precedence {
-                    block: 1,
-                    before: 0,
-                }),
+                Late(1, 0),
             ),
             THIRD_BLOCK,
         ],
@@ -82,21 +74,11 @@ const REVISED: &[Worked] = &[
                     &[],
                     &[(0, 1, Some(-1)), (0, 0, Some(3_999_999))],
                 ),
-                Refused(Refusal::Over {
-                    resource: 0,
-                    period: 0,
-                    load: 4_000_000,
-                    limit: 3_999_999,
-                }),
+                Over(0, 0, 4_000_000, 3_999_999),
             ),
             (
                 Revise(Act::Commit, 1, &[], &[(0, 1, Some(-1)), (0, 0, None)]),
-                Refused(Refusal::Over {
-                    resource: 0,
-                    period: 1,
-                    load: 0,
-                    limit: -1,
-                }),
+                Over(0, 1, 0, -1),
             ),
         ],
         AFTER_TWO_BLOCKS,
@@ -113,24 +95,19 @@ const REVISED: &[Worked] = &[
                     &[(0, Some(0)), (1, Some(0)), (2, Some(0)), (3, Some(0))],
                     &[(0, 0, None)],
                 ),
-                Committed { number: 1 },
+                Committed(1),
             ),
             (
                 Revise(Act::Commit, 1, &[], &[(0, 0, Some(7_999_999))]),
-                Refused(Refusal::Over {
-                    resource: 0,
-                    period: 0,
-                    load: 8_000_000,
-                    limit: 7_999_999,
-                }),
+                Over(0, 0, 8_000_000, 7_999_999),
             ),
             (
                 Revise(Act::Commit, 1, &[], &[(0, 0, Some(8_000_000))]),
-                Committed { number: 2 },
+                Committed(2),
             ),
             (
                 Revise(Act::Commit, 2, &[(3, Some(1))], &[(0, 0, Some(7_000_000))]),
-                Committed { number: 3 },
+                Committed(3),
             ),
         ],
         Reading {
@@ -153,7 +130,7 @@ const REVISED: &[Worked] = &[
                     &[],
                     &[(0, 1, Some(9_000_000)), (0, 0, Some(1_000_000))],
                 ),
-                Committed { number: 1 },
+                Committed(1),
             ),
             (
                 Revise(
@@ -162,16 +139,11 @@ const REVISED: &[Worked] = &[
                     &[],
                     &[(0, 0, Some(2_000_000)), (0, 1, None)],
                 ),
-                Committed { number: 2 },
+                Committed(2),
             ),
             (
                 Commit(0, &[(3, None)], &[(3, Some(0)), (0, Some(0))]),
-                Refused(Refusal::Over {
-                    resource: 0,
-                    period: 0,
-                    load: 3_000_000,
-                    limit: 2_000_000,
-                }),
+                Over(0, 0, 3_000_000, 2_000_000),
             ),
         ],
         Reading {

@@ -1,123 +1,111 @@
 //! The two steps of a commit.
+ghost use Rattle.std.specs.Prelude.{IfOk};
 ghost use Rattle.pit_desk.specs.Calls.{IsReady};
 
 use super::calls::Call::{self, Commit};
-use super::calls::{Row, is_entry, is_work, parts, work_of};
-use super::twice::{answer_twice, assert_refused, worked};
+use super::calls::Due::Committed;
+use super::calls::{Row, answered, is_entry, is_next, is_work, parts, reply_of, work_of};
+use super::stories::{follow, is_unchanged, read};
 use super::worked::{THIRD_BLOCK, TWO_BLOCKS};
-use super::{Heap, desk_over, entry_reply, follow, is_next};
-use pit_desk::EntryReply::Committed;
-use pit_desk::{Act, Desk, Pending, Ready, Stop, unanswered};
-use pit_plan_sample::Reading;
-use pit_sample::{Size, TINY, TINY_SIZE};
+use super::{Run, assert_refused, desk_over, is_whole};
+use pit_desk::{Act, Desk, EntryReply, Ready, Stop, entry_reply_of, unanswered};
+use pit_sample::{Heap, TINY, TINY_SIZE};
 use pit_tx::Work;
-use std::alloc::{Allocator, Global};
+use std::alloc::Allocator;
 use std::process::Abort;
 
-/// Ends a transaction, in two steps where it is to commit. What was refused memory is made again.
-pub(super) fn step_twice<A: Allocator + Copy + Drop>(
+/// Ends a transaction in two steps. What is ready is read and taken back; made ready again, it is entered.
+pub(super) fn enter_twice<A: Allocator + Copy + Drop>(
     rt: &impl Abort,
     heap: Heap<'_>,
     alloc: A,
     desk: &mut Desk<A>,
-    size: Size,
+    work: Work<A>,
     row: Row<'_>,
-) {
-    let (call, _) = row;
-    let (act, ..) = parts(call);
-    match act {
-        Act::Commit => enter_twice(rt, heap, alloc, desk, size, row),
-        Act::Withdraw => answer_twice(rt, heap, alloc, desk, size, row),
+) -> EntryReply {
+    let before = heap.count();
+    let is_first = is_answered(rt, heap, alloc, &work, row);
+    assert!(rt;
+        is_first
+            || heap.count().has_refused_since(before) && is_answered(rt, heap, alloc, &work, row)
+    );
+    let work = made_ready(rt, heap, desk, work, row);
+    match ready(rt, heap, desk, work, row.0) {
+        Ok(ready) => entered(rt, heap, desk, ready),
+        Err(work) => answered(rt, desk, work, Act::Commit),
     }
 }
 
-/// What is ready is read and taken back. Made ready again, it is entered, which asks for no memory.
-fn enter_twice<A: Allocator + Copy + Drop>(
-    rt: &impl Abort,
-    heap: Heap<'_>,
-    alloc: A,
-    desk: &mut Desk<A>,
-    size: Size,
-    row: Row<'_>,
-) {
-    let (call, reply) = row;
-    let work = worked(rt, heap, alloc, size, call);
-    assert_answered(rt, heap, pending_twice(rt, heap, alloc, &work), row);
-    let work = taken_back(rt, heap, ready_twice(rt, heap, desk, work, call), row);
-    let ready = ready_twice(rt, heap, desk, work, call);
-    let before = heap.count();
-    assert!(rt; entry_reply(desk.enter(ready)) == reply);
-    assert!(rt; heap.count() == before);
-}
-
-/// The call of a commit, which is made anew where memory was refused.
-fn pending_twice<A: Allocator + Copy + Drop>(
+/// The call of a commit gets its reply, which asks for no memory. Whether memory sufficed for the call.
+fn is_answered<A: Allocator + Copy + Drop>(
     rt: &impl Abort,
     heap: Heap<'_>,
     alloc: A,
     work: &Work<A>,
-) -> Pending<A> {
-    let before = heap.count();
-    if let Ok(pending) = unanswered(alloc, work, Act::Commit) {
-        return pending;
-    }
-    assert!(rt; heap.count().has_refused_since(before));
-    unanswered(alloc, work, Act::Commit).expect(rt, "no memory twice")
-}
-
-/// A call gets its reply, which asks for no memory.
-fn assert_answered<A: Allocator + Copy + Drop>(
-    rt: &impl Abort,
-    heap: Heap<'_>,
-    pending: Pending<A>,
     row: Row<'_>,
-) {
-    let (_, reply) = row;
+) -> bool {
+    let Ok(call) = unanswered(alloc, work, Act::Commit) else {
+        return false;
+    };
     let before = heap.count();
-    let entry = pending.answered(reply);
+    let entry = call.answered(reply_of(row.1));
     assert!(rt; heap.count() == before);
     assert!(rt; is_entry(&entry, row));
-    drop(entry);
+    true
 }
 
-/// Makes a commit ready, and makes it ready again by the work that was handed back where memory was refused, which changes nothing.
-fn ready_twice<A: Allocator + Copy + Drop>(
+/// Makes a commit ready. Where memory was refused, that changes nothing, and the work is handed back.
+fn ready<A: Allocator + Copy + Drop>(
     rt: &impl Abort,
     heap: Heap<'_>,
     desk: &mut Desk<A>,
     work: Work<A>,
     call: Call<'_>,
-) -> Ready<A>
-    ensures { IsReady desk.new result }
+) -> Result<Ready<A>, Work<A>>
+    ensures { IfOk result (IsReady desk.new) }
 {
     let (before, found) = (heap.count(), read(desk));
     assert!(rt; desk.fits(&work));
     match desk.ready(work) {
-        Ok(ready) => ready,
+        Ok(ready) => Ok(ready),
         Err((work, stop)) => {
             assert_refused(rt, heap, before, stop == Stop::NoMemory);
-            assert!(rt; is_unchanged(desk, found, &work, call));
-            made_ready(rt, desk, work)
+            assert!(rt; is_unchanged(rt, desk, found, &work, call));
+            Err(work)
         }
     }
 }
 
-/// Whether the desk is read as before, and the work is still that of the call.
-fn is_unchanged<A: Allocator + Copy + Drop>(
-    desk: &Desk<A>,
-    found: (usize, Option<Reading>),
-    work: &Work<A>,
-    call: Call<'_>,
-) -> bool {
-    is_work(work, call) && read(desk) == found
+/// The work of a commit, which was made ready if memory sufficed.
+fn made_ready<A: Allocator + Copy + Drop>(
+    rt: &impl Abort,
+    heap: Heap<'_>,
+    desk: &mut Desk<A>,
+    work: Work<A>,
+    row: Row<'_>,
+) -> Work<A> {
+    match ready(rt, heap, desk, work, row.0) {
+        Ok(ready) => taken_back(rt, heap, ready, row),
+        Err(work) => work,
+    }
 }
 
-/// What is read of a desk: the number of its entries, and of a small pit the plan.
-fn read<A: Allocator + Copy + Drop>(desk: &Desk<A>) -> (usize, Option<Reading>) {
-    (desk.history().len(), Reading::of(desk.plan()))
+/// Enters what is ready, which asks for no memory.
+fn entered<A: Allocator + Copy + Drop>(
+    rt: &impl Abort,
+    heap: Heap<'_>,
+    desk: &mut Desk<A>,
+    ready: Ready<A>,
+) -> EntryReply
+    requires { IsReady desk.old ready }
+{
+    let before = heap.count();
+    let reply = desk.enter(ready);
+    assert!(rt; heap.count() == before);
+    entry_reply_of(reply)
 }
 
-/// Reads what is ready, and takes it back, which asks for no memory.
+/// Reads what is ready, and takes its work back, which asks for no memory.
 fn taken_back<A: Allocator + Copy + Drop>(
     rt: &impl Abort,
     heap: Heap<'_>,
@@ -128,69 +116,48 @@ fn taken_back<A: Allocator + Copy + Drop>(
     assert!(rt; is_ready(&ready, row));
     let work = ready.back();
     assert!(rt; heap.count() == before);
+    assert!(rt; is_work(&work, row.0));
     work
 }
 
 /// Whether what is ready is that of the commit.
 fn is_ready<A: Allocator + Copy + Drop>(ready: &Ready<A>, row: Row<'_>) -> bool {
-    let (call, reply) = row;
-    let (_, _, _, writes, revises) = parts(call);
-    entry_reply(*ready.reply()) == reply && ready.writes() == writes && ready.revises() == revises
-}
-
-fn made_ready<A: Allocator + Copy + Drop>(
-    rt: &impl Abort,
-    desk: &mut Desk<A>,
-    work: Work<A>,
-) -> Ready<A>
-    ensures { IsReady desk.new result }
-{
-    assert!(rt; desk.fits(&work));
-    match desk.ready(work) {
-        Ok(ready) => ready,
-        Err(_) => panic!(rt; "no room"),
-    }
+    let (_, _, _, writes, revises) = parts(row.0);
+    entry_reply_of(*ready.reply()) == reply_of(row.1)
+        && ready.writes() == writes
+        && ready.revises() == revises
 }
 
 /// Block 3 in period 1, where there is room for it.
-const LATER: Row<'static> = (Commit(1, &[], &[(3, Some(1))]), Committed { number: 2 });
+const LATER: Row<'static> = (Commit(1, &[], &[(3, Some(1))]), Committed(2));
 
 /// A reply is known before there is an entry. What is refused is taken back, and the history stays; what is committed is entered.
 #[test]
 fn tells_the_reply_before_the_entry(rt: HostRuntime) {
-    let mut desk = desk_over(&rt, rt.alloc(), TINY_SIZE, TINY, &[]);
-    make_steps(&rt, rt.alloc(), &mut desk);
+    assert!(rt; is_whole(&rt, rt.alloc(), 0, Run::Steps));
+}
+
+pub(super) fn are_taken<A: Allocator + Copy + Drop>(
+    rt: &impl Abort,
+    heap: Heap<'_>,
+    alloc: A,
+) -> bool {
+    let mut desk = desk_over(rt, alloc, TINY_SIZE, TINY);
+    follow(rt, heap, alloc, &mut desk, false, TWO_BLOCKS);
+    take_back(rt, heap, alloc, &mut desk);
+    follow(rt, heap, alloc, &mut desk, true, LATER);
     drop(desk);
+    true
 }
 
-fn make_steps(rt: &impl Abort, alloc: Global, desk: &mut Desk<Global>) {
-    follow(rt, alloc, desk, TINY_SIZE, TWO_BLOCKS);
-    take_back(rt, alloc, desk, THIRD_BLOCK);
+/// What is made ready and taken back leaves the history as it was.
+fn take_back<A: Allocator + Copy + Drop>(
+    rt: &impl Abort,
+    heap: Heap<'_>,
+    alloc: A,
+    desk: &mut Desk<A>,
+) {
+    let work = work_of(alloc, TINY_SIZE, THIRD_BLOCK.0).expect(rt, "a work");
+    drop(made_ready(rt, heap, desk, work, THIRD_BLOCK));
     assert!(rt; is_next(desk.history(), 0, TWO_BLOCKS));
-    enter(rt, alloc, desk, LATER);
-    assert!(rt; is_next(desk.history(), 1, LATER));
-}
-
-/// Makes a commit ready, which has this reply.
-fn ready(rt: &impl Abort, alloc: Global, desk: &mut Desk<Global>, row: Row<'_>) -> Ready<Global>
-    ensures { IsReady desk.new result }
-{
-    let (call, reply) = row;
-    let work = work_of(alloc, TINY_SIZE, call).expect(rt, "a work");
-    let ready = made_ready(rt, desk, work);
-    assert!(rt; entry_reply(*ready.reply()) == reply);
-    ready
-}
-
-/// Takes back the work of what was made ready.
-fn take_back(rt: &impl Abort, alloc: Global, desk: &mut Desk<Global>, row: Row<'_>) {
-    let work = ready(rt, alloc, desk, row).back();
-    assert!(rt; is_work(&work, row.0));
-    drop(work);
-}
-
-/// Enters what was made ready.
-fn enter(rt: &impl Abort, alloc: Global, desk: &mut Desk<Global>, row: Row<'_>) {
-    let ready = ready(rt, alloc, desk, row);
-    assert!(rt; entry_reply(desk.enter(ready)) == row.1);
 }

@@ -1,19 +1,16 @@
 //! Calls on the tiny pit, with replies that were found by hand.
 use super::calls::Call::{Commit, Withdraw};
+use super::calls::Due::{Ahead, Committed, Late, Misread, Moved, Over, Withdrawn};
 use super::calls::Row;
-use super::{Start, assert_passes, desk_over, follow_all, load};
-use pit_desk::EntryReply::{Committed, Refused, Withdrawn};
-use pit_desk::{Desk, Refusal, one_thread};
+use super::stories::{Story, TINY_STORY};
+use super::{Run, is_whole};
 use pit_plan_sample::Reading;
-use pit_sample::{OFFSET, OFFSET_SIZE, TINY, TINY_SIZE};
+use pit_sample::{OFFSET, OFFSET_SIZE};
 use std::alloc::Global;
 use std::process::Abort;
 
 /// A start, calls with their replies, and what is read of the plan after them.
-pub(super) type Worked = (Start, &'static [Row<'static>], Reading);
-
-/// The limits of the small pit.
-const GIVEN: (Option<i64>, Option<i64>) = (Some(4_000_000), Some(4_000_000));
+pub(super) type Worked = (&'static [(u32, u32)], &'static [Row<'static>], Reading);
 
 /// What is read of an empty plan.
 pub(super) const NOTHING: Reading = Reading {
@@ -21,14 +18,14 @@ pub(super) const NOTHING: Reading = Reading {
     periods: (None, None, None, None),
     versions: [0, 0, 0, 0],
     loads: (0, 0),
-    limits: GIVEN,
+    limits: (Some(4_000_000), Some(4_000_000)),
     value: 0,
 };
 
 /// Blocks 0 and 1, put into period 0 by one commit, whose load is the limit. The value is -10 + 20.5, in units of 10^-18.
 pub(super) const TWO_BLOCKS: Row<'static> = (
     Commit(0, &[], &[(0, Some(0)), (1, Some(0))]),
-    Committed { number: 1 },
+    Committed(1),
 );
 
 pub(super) const AFTER_TWO_BLOCKS: Reading = Reading {
@@ -36,98 +33,68 @@ pub(super) const AFTER_TWO_BLOCKS: Reading = Reading {
     periods: (Some(0), Some(0), None, None),
     versions: [1, 1, 0, 0],
     loads: (4_000_000, 0),
-    limits: GIVEN,
     value: 10_500_000_000_000_000_000,
+    ..NOTHING
 };
 
 /// Block 3 in period 0 too, whose load is 1 above the limit of the pit.
 pub(super) const THIRD_BLOCK: Row<'static> = (
     Commit(1, &[], &[(3, Some(0))]),
-    Refused(Refusal::Over {
-        resource: 0,
-        period: 0,
-        load: 5_000_000,
-        limit: 4_000_000,
-    }),
+    Over(0, 0, 5_000_000, 4_000_000),
 );
+
+/// Blocks 0 and 1, block 3 that is too heavy, and block 3 one period later.
+pub(super) const THREE_BLOCKS: &[Row<'static>] = &[
+    TWO_BLOCKS,
+    THIRD_BLOCK,
+    (Commit(1, &[], &[(3, Some(1))]), Committed(2)),
+];
+
+/// In period 1 block 3 adds 5 times the factor there, 0.909090909091.
+pub(super) const AFTER_THREE_BLOCKS: Reading = Reading {
+    commits: 2,
+    periods: (Some(0), Some(0), None, Some(1)),
+    versions: [1, 1, 0, 2],
+    loads: (4_000_000, 1_000_000),
+    value: 15_045_454_545_455_000_000,
+    ..NOTHING
+};
 
 const WORKED: &[Worked] = &[
     (&[], &[], NOTHING),
     (&[], &[TWO_BLOCKS], AFTER_TWO_BLOCKS),
-    // in period 1 block 3 adds 5 times the factor there, 0.909090909091
-    (
-        &[],
-        &[
-            TWO_BLOCKS,
-            THIRD_BLOCK,
-            (Commit(1, &[], &[(3, Some(1))]), Committed { number: 2 }),
-        ],
-        Reading {
-            commits: 2,
-            periods: (Some(0), Some(0), None, Some(1)),
-            versions: [1, 1, 0, 2],
-            loads: (4_000_000, 1_000_000),
-            limits: GIVEN,
-            value: 15_045_454_545_455_000_000,
-        },
-    ),
+    (&[], THREE_BLOCKS, AFTER_THREE_BLOCKS),
     // block 1, which is not written, would lose its predecessor
     (
         &[],
-        &[
-            TWO_BLOCKS,
-            (
-                Commit(1, &[], &[(0, None)]),
-                Refused(Refusal::Precedence {
-                    block: 1,
-                    before: 0,
-                }),
-            ),
-        ],
+        &[TWO_BLOCKS, (Commit(1, &[], &[(0, None)]), Late(1, 0))],
         AFTER_TWO_BLOCKS,
     ),
     // block 3 was taken away and put back since it was read
     (
         &[(3, 1)],
         &[
-            (Commit(1, &[], &[(3, None)]), Committed { number: 2 }),
-            (Commit(2, &[], &[(3, Some(1))]), Committed { number: 3 }),
-            (
-                Commit(1, &[(3, Some(1))], &[(0, Some(0))]),
-                Refused(Refusal::Moved {
-                    block: 3,
-                    version: 3,
-                }),
-            ),
+            (Commit(1, &[], &[(3, None)]), Committed(2)),
+            (Commit(2, &[], &[(3, Some(1))]), Committed(3)),
+            (Commit(1, &[(3, Some(1))], &[(0, Some(0))]), Moved(3, 3)),
         ],
         Reading {
             commits: 3,
             periods: (None, None, None, Some(1)),
             versions: [0, 0, 0, 3],
             loads: (0, 1_000_000),
-            limits: GIVEN,
             value: 4_545_454_545_455_000_000,
+            ..NOTHING
         },
     ),
     // what a refused commit wrote is not there for the next
     (
         &[],
         &[
-            (
-                Commit(0, &[], &[(0, Some(1)), (2, Some(1))]),
-                Refused(Refusal::Precedence {
-                    block: 2,
-                    before: 1,
-                }),
-            ),
+            (Commit(0, &[], &[(0, Some(1)), (2, Some(1))]), Late(2, 1)),
             (
                 Commit(0, &[], &[(2, Some(1)), (1, Some(1)), (0, Some(1))]),
-                Refused(Refusal::Over {
-                    resource: 0,
-                    period: 1,
-                    load: 7_000_000,
-                    limit: 4_000_000,
-                }),
+                Over(0, 1, 7_000_000, 4_000_000),
             ),
         ],
         NOTHING,
@@ -141,17 +108,8 @@ const WORKED: &[Worked] = &[
         &[],
         &[
             TWO_BLOCKS,
-            (
-                Commit(3, &[], &[]),
-                Refused(Refusal::Ahead {
-                    start: 3,
-                    commits: 1,
-                }),
-            ),
-            (
-                Commit(1, &[(3, Some(0))], &[]),
-                Refused(Refusal::Misread { block: 3 }),
-            ),
+            (Commit(3, &[], &[]), Ahead(3, 1)),
+            (Commit(1, &[(3, Some(0))], &[]), Misread(3)),
         ],
         AFTER_TWO_BLOCKS,
     ),
@@ -159,14 +117,14 @@ const WORKED: &[Worked] = &[
     (
         &[],
         &[
-            (Commit(0, &[], &[]), Committed { number: 1 }),
+            (Commit(0, &[], &[]), Committed(1)),
             (
                 Commit(
                     1,
                     &[(3, None), (0, None), (2, None)],
                     &[(3, Some(1)), (0, Some(1)), (2, None)],
                 ),
-                Committed { number: 2 },
+                Committed(2),
             ),
             (
                 Withdraw(
@@ -182,75 +140,53 @@ const WORKED: &[Worked] = &[
                     &[(1, None), (3, Some(1)), (0, Some(1))],
                     &[(3, None), (0, None)],
                 ),
-                Committed { number: 3 },
+                Committed(3),
             ),
         ],
         Reading {
             commits: 3,
-            periods: (None, None, None, None),
             versions: [3, 0, 2, 3],
-            loads: (0, 0),
-            limits: GIVEN,
-            value: 0,
+            ..NOTHING
         },
     ),
 ];
+
+/// A limit that is broken by a removal.
+const REMOVED: Story<'static> = Story {
+    size: OFFSET_SIZE,
+    facts: OFFSET,
+    rows: &[
+        TWO_BLOCKS,
+        (
+            Commit(1, &[], &[(1, None)]),
+            Over(0, 0, 3_000_000, 1_000_000),
+        ),
+    ],
+    left: None,
+    sums: (1_000_000, 0),
+    ..TINY_STORY
+};
 
 /// Each call makes one entry, which has the call's pairs in their order, and the history leads to the plan.
 #[test]
 fn answers_as_by_hand(rt: HostRuntime) {
     play_all(&rt, rt.alloc(), WORKED);
+    assert!(rt; is_whole(&rt, rt.alloc(), 0, Run::Story(REMOVED)));
+}
+
+pub(super) fn story_of(worked: Worked) -> Story<'static> {
+    let (start, rows, left) = worked;
+    Story {
+        start,
+        rows,
+        left: Some(left),
+        sums: (left.loads.0, left.value),
+        ..TINY_STORY
+    }
 }
 
 pub(super) fn play_all(rt: &impl Abort, alloc: Global, rows: &[Worked]) {
     for worked in rows {
-        play(rt, alloc, worked);
+        assert!(rt; is_whole(rt, alloc, 0, Run::Story(story_of(*worked))));
     }
-}
-
-fn play(rt: &impl Abort, alloc: Global, worked: &Worked) {
-    let (start, rows, wanted) = worked;
-    let mut desk = desk_over(rt, alloc, TINY_SIZE, TINY, start);
-    play_on(rt, alloc, &mut desk, rows, wanted);
-    drop(desk);
-}
-
-fn play_on(
-    rt: &impl Abort,
-    alloc: Global,
-    desk: &mut Desk<Global>,
-    rows: &[Row<'_>],
-    wanted: &Reading,
-) {
-    let opening = desk.history().len();
-    follow_all(rt, alloc, desk, TINY_SIZE, rows);
-    assert!(rt; desk.history().len() == opening.wrapping_add(rows.len()));
-    assert!(rt; Reading::of(desk.plan()) == Some(*wanted));
-    assert!(rt; one_thread(desk) == wanted.value);
-    assert_passes(rt, alloc, TINY_SIZE, TINY, desk);
-}
-
-const REMOVED: &[Row<'static>] = &[
-    (
-        Commit(0, &[], &[(0, Some(0)), (1, Some(0))]),
-        Committed { number: 1 },
-    ),
-    (
-        Commit(1, &[], &[(1, None)]),
-        Refused(Refusal::Over {
-            resource: 0,
-            period: 0,
-            load: 3_000_000,
-            limit: 1_000_000,
-        }),
-    ),
-];
-
-/// A limit that is broken by a removal.
-#[test]
-fn refuses_a_removal(rt: HostRuntime) {
-    let mut desk = desk_over(&rt, rt.alloc(), OFFSET_SIZE, OFFSET, &[]);
-    follow_all(&rt, rt.alloc(), &mut desk, OFFSET_SIZE, REMOVED);
-    assert!(rt; load(&rt, desk.plan(), 0, 0) == 1_000_000);
-    drop(desk);
 }

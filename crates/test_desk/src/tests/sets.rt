@@ -1,15 +1,15 @@
-//! The three sets against lists that were written down by hand.
-use linked_list_allocator::LocalHeap;
+//! The three sets of a transaction against lists that were written down by hand.
+use super::calls::new_work;
+use super::{BYTES, Pair, Run, assert_refused, refuse_each};
 use pit_model::{BLOCKS_MAX, RESOURCES_MAX};
 use pit_num::PERIODS_MAX;
 use pit_refuse::Refusing;
+use pit_sample::{Heap, Size, TINY_SIZE};
 use pit_tx::{Work, WorkError};
 use std::alloc::{Allocator, Global};
 use std::process::Abort;
 
-type Pair = (u32, Option<u32>);
-
-/// A resource and a period, with an upper limit or none.
+/// A resource in a period, with an upper limit or none.
 type Revision = ((u32, u32), Option<i64>);
 
 /// A change that is asked of a `Work`.
@@ -58,11 +58,6 @@ fn note_if_unknown<A: Allocator + Copy + Drop>(
     }
 }
 
-/// Whether a set has these pairs, in this order.
-fn has_pairs<T: Eq>(set: &[T], pairs: &[T]) -> bool {
-    set == pairs
-}
-
 const NO_BLOCK: Result<(), WorkError> = Err(WorkError::NoBlock);
 
 const NO_RESOURCE: Result<(), WorkError> = Err(WorkError::NoResource);
@@ -81,93 +76,105 @@ const LOWERED: &[Revision] = &[((0, 1), Some(-4)), ((0, 0), None)];
 
 const LIFTED: &[Revision] = &[((0, 1), None), ((0, 0), None)];
 
-/// On 4 blocks, 2 periods and 1 resource: each change, its answer, and the read set, the write set and the revisions after it.
+/// What is known of block 3, when it was noted and when it was cleared.
+const NOTED: Option<Option<u32>> = Some(Some(1));
+
+const GONE: Option<Option<u32>> = Some(None);
+
+/// On 4 blocks, 2 periods and 1 resource: each change, its answer, what is known of block 3 after it, the read set, the write set and the revisions.
 type Step = (
     Change,
     Result<(), WorkError>,
+    Option<Option<u32>>,
     &'static [Pair],
     &'static [Pair],
     &'static [Revision],
 );
 
+/// The own write of a block is known, else what was noted of it.
 const STEPS: &[Step] = &[
-    (Note(3, Some(1)), Ok(()), READ, &[], &[]),
-    (Note(3, None), Ok(()), READ, &[], &[]),
-    (Put(2, 0), Ok(()), READ, &[(2, Some(0))], &[]),
-    (Put(0, 0), Ok(()), READ, &[(2, Some(0)), (0, Some(0))], &[]),
-    (Put(2, 1), Ok(()), READ, PUT_TWICE, &[]),
-    (Put(4, 2), NO_BLOCK, READ, PUT_TWICE, &[]),
-    (Note(3, Some(2)), NO_PERIOD, READ, PUT_TWICE, &[]),
-    (Clear(3), Ok(()), READ, CLEARED, &[]),
-    (Clear(4), NO_BLOCK, READ, CLEARED, &[]),
-    (Revise(1, 2, None), NO_RESOURCE, READ, CLEARED, &[]),
-    (Revise(0, 2, None), NO_PERIOD, READ, CLEARED, &[]),
+    (Note(3, Some(1)), Ok(()), NOTED, READ, &[], &[]),
+    (Note(3, None), Ok(()), NOTED, READ, &[], &[]),
+    (Put(2, 0), Ok(()), NOTED, READ, &[(2, Some(0))], &[]),
+    (
+        Put(0, 0),
+        Ok(()),
+        NOTED,
+        READ,
+        &[(2, Some(0)), (0, Some(0))],
+        &[],
+    ),
+    (Put(2, 1), Ok(()), NOTED, READ, PUT_TWICE, &[]),
+    (Put(4, 2), NO_BLOCK, NOTED, READ, PUT_TWICE, &[]),
+    (Note(3, Some(2)), NO_PERIOD, NOTED, READ, PUT_TWICE, &[]),
+    (Clear(3), Ok(()), GONE, READ, CLEARED, &[]),
+    (Clear(4), NO_BLOCK, GONE, READ, CLEARED, &[]),
+    (Revise(1, 2, None), NO_RESOURCE, GONE, READ, CLEARED, &[]),
+    (Revise(0, 2, None), NO_PERIOD, GONE, READ, CLEARED, &[]),
     (
         Revise(0, 1, Some(5)),
         Ok(()),
+        GONE,
         READ,
         CLEARED,
         &[((0, 1), Some(5))],
     ),
-    (Revise(0, 0, None), Ok(()), READ, CLEARED, REVISED),
-    (Revise(0, 1, Some(-4)), Ok(()), READ, CLEARED, LOWERED),
-    (Revise(0, 1, None), Ok(()), READ, CLEARED, LIFTED),
+    (Revise(0, 0, None), Ok(()), GONE, READ, CLEARED, REVISED),
+    (Revise(0, 1, Some(-4)), Ok(()), GONE, READ, CLEARED, LOWERED),
+    (Revise(0, 1, None), Ok(()), GONE, READ, CLEARED, LIFTED),
 ];
 
 #[test]
 fn keeps_first_reads_and_last_writes_and_revisions(rt: HostRuntime) {
-    let mut work = Work::new(rt.alloc(), 2, 7, 3, 4, 2, 1).expect(&rt, "memory");
+    let mut work = new_work(rt.alloc(), (2, 7, 3), TINY_SIZE).expect(&rt, "memory");
     assert_steps(&rt, &mut work);
     drop(work);
 }
 
+/// Whether a set has these pairs, in this order.
+pub(super) fn has_pairs<T: Eq>(set: &[T], pairs: &[T]) -> bool {
+    set == pairs
+}
+
 /// Makes a change, and tells whether it is answered so and leaves these sets.
 fn is_step(work: &mut Work<Global>, step: &Step) -> bool {
-    let (change, answer, reads, writes, revises) = step;
+    let (change, answer, known, reads, writes, revises) = step;
     if answer_of(work, *change) != *answer {
         return false;
     }
-    has_pairs(work.reads(), reads)
+    work.known(3) == *known
+        && has_pairs(work.reads(), reads)
         && has_pairs(work.writes(), writes)
         && has_pairs(work.revises(), revises)
 }
 
-/// The own write of a block is known, else what was noted of it.
 fn assert_steps(rt: &impl Abort, work: &mut Work<Global>) {
-    for (at, step) in STEPS.iter().enumerate() {
-        assert!(rt; is_step(work, step), "step {at}");
-        if at == 0 {
-            assert_known(rt, work, 3, Some(Some(1)));
-        }
+    for step in STEPS {
+        assert!(rt; is_step(work, step));
     }
-    assert!(rt; is_of(work, 2, 7, 3));
-    assert_known(rt, work, 1, None);
-    assert_known(rt, work, 2, Some(Some(1)));
-    assert_known(rt, work, 3, Some(None));
+    assert!(rt; of(work) == (2, 7, 3));
+    assert!(rt; (work.known(1), work.known(2)) == (None, Some(Some(1))));
 }
 
-fn is_of<A: Allocator + Copy + Drop>(work: &Work<A>, planner: u32, job: u32, start: u32) -> bool {
-    work.planner() == planner && work.job() == job && work.start() == start
+/// Who plans, the job, and how many commits the transaction has seen.
+fn of<A: Allocator + Copy + Drop>(work: &Work<A>) -> (u32, u32, u32) {
+    (work.planner(), work.job(), work.start())
 }
-
-fn assert_known(rt: &impl Abort, work: &Work<Global>, b: u32, known: Option<Option<u32>>) {
-    assert_eq!(rt; work.known(b), known);
-}
-
-/// An allocator that refuses one request.
-type Heap<'a> = &'a Refusing<LocalHeap>;
-
-/// The bytes of a heap, of which no sets take half.
-const BYTES: usize = 1_048_576;
 
 /// How many blocks there are, and changes of a kind.
 const COUNT: u32 = 1_000;
 
-/// The greatest number of a planner.
-const PLANNER: u32 = u32::MAX;
-
 /// Of two resources each may be revised so often.
 const PERIODS: u32 = 500;
+
+const SIZE: Size = Size {
+    blocks: COUNT,
+    periods: PERIODS,
+    resources: 2,
+};
+
+/// The greatest number of a planner, a job, and a number of commits.
+const PLANNER: (u32, u32, u32) = (u32::MAX, 7, 3);
 
 /// The kinds of change, of which all take memory.
 const KINDS: u32 = 5;
@@ -259,16 +266,11 @@ fn add_twice<A: Allocator + Copy + Drop>(
     let change = further(kind, b);
     let answer = answer_of(work, change);
     if answer != Ok(()) {
-        assert!(rt; answer == Err(WorkError::NoMemory));
-        assert!(rt; heap.count().has_refused_since(before));
-        add_again(rt, work, kind, b);
+        assert_refused(rt, heap, before, answer == Err(WorkError::NoMemory));
+        assert!(rt; is_filled(work, kind, b));
+        assert!(rt; answer_of(work, change) == Ok(()));
     }
     assert_quiet(rt, heap, work, change, Ok(()));
-}
-
-fn add_again<A: Allocator + Copy + Drop>(rt: &impl Abort, work: &mut Work<A>, kind: u32, b: u32) {
-    assert!(rt; is_filled(work, kind, b));
-    assert!(rt; answer_of(work, further(kind, b)) == Ok(()));
 }
 
 /// Changes of which none asks for memory once the sets are filled.
@@ -281,10 +283,6 @@ const REFUSED: &[(Change, Result<(), WorkError>)] = &[
     (Revise(0, PERIODS, None), NO_PERIOD),
 ];
 
-fn is_sized<A: Allocator + Copy + Drop>(work: &Work<A>) -> bool {
-    work.blocks() == COUNT && work.periods() == PERIODS && work.resources() == 2
-}
-
 /// What is read of a `Work` asks for no memory.
 fn assert_read<A: Allocator + Copy + Drop>(
     rt: &impl Abort,
@@ -293,11 +291,10 @@ fn assert_read<A: Allocator + Copy + Drop>(
     kind: u32,
 ) {
     let before = heap.count();
-    assert!(rt; is_of(work, PLANNER, 7, 3));
-    assert!(rt; is_sized(work));
+    assert!(rt; of(work) == PLANNER);
+    assert!(rt; (work.blocks(), work.periods(), work.resources()) == (COUNT, PERIODS, 2));
     assert!(rt; kind == 3 || work.known(999) == Some(period_of(kind, 999)));
-    assert!(rt; is_filled(work, kind, COUNT));
-    assert!(rt; heap.count() == before);
+    assert!(rt; is_filled(work, kind, COUNT) && heap.count() == before);
 }
 
 /// Makes changes of a kind. The first asks for no memory.
@@ -317,16 +314,6 @@ fn fill<A: Allocator + Copy + Drop>(
     assert_read(rt, heap, work, kind);
 }
 
-/// A `Work`, which is made anew where memory was refused.
-fn new_work<A: Allocator + Copy + Drop>(rt: &impl Abort, heap: Heap<'_>, alloc: A) -> Work<A> {
-    let before = heap.count();
-    if let Ok(work) = Work::new(alloc, PLANNER, 7, 3, COUNT, PERIODS, 2) {
-        return work;
-    }
-    assert!(rt; heap.count().has_refused_since(before));
-    Work::new(alloc, PLANNER, 7, 3, COUNT, PERIODS, 2).expect(rt, "no memory twice")
-}
-
 /// Up to so many pairs a set has no table, so a work that was emptied asks for no memory for them.
 const FEW: u32 = 32;
 
@@ -339,7 +326,7 @@ fn fill_again<A: Allocator + Copy + Drop>(
 ) {
     let before = heap.count();
     let mut work = work.emptied(1, 2, 0, COUNT, PERIODS, 2);
-    assert!(rt; is_of(&work, 1, 2, 0) && is_filled(&work, kind, 0));
+    assert!(rt; of(&work) == (1, 2, 0) && is_filled(&work, kind, 0));
     for b in 0..FEW {
         assert!(rt; answer_of(&mut work, further(kind, b)) == Ok(()));
     }
@@ -347,40 +334,25 @@ fn fill_again<A: Allocator + Copy + Drop>(
     drop(work);
 }
 
-fn new_and_filled<A: Allocator + Copy + Drop>(
+pub(super) fn are_changed<A: Allocator + Copy + Drop>(
     rt: &impl Abort,
     heap: Heap<'_>,
     alloc: A,
     kind: u32,
-) {
-    let mut work = new_work(rt, heap, alloc);
+) -> bool {
+    let Ok(mut work) = new_work(alloc, PLANNER, SIZE) else {
+        return false;
+    };
     fill(rt, heap, &mut work, kind);
     fill_again(rt, heap, work, kind);
+    true
 }
 
-/// Whether no request had the number. All memory is given back in the end.
-fn is_whole(rt: &impl Abort, alloc: Global, kind: u32, number: u64) -> bool {
-    let heap = Refusing::over_heap(alloc, BYTES, number).expect(rt, "a heap");
-    new_and_filled(rt, &heap, &heap, kind);
-    assert!(rt; heap.used() == 0);
-    !heap.count().has_refused()
-}
-
-/// Each allocation is refused in turn, those of `new` and those of changes of a kind.
-fn refuse_each(rt: &impl Abort, alloc: Global, kind: u32) {
-    for number in 1..100 {
-        if is_whole(rt, alloc, kind, number) {
-            assert!(rt; number > 10, "a request of each growth at least");
-            return;
-        }
-    }
-    panic!(rt; "never whole");
-}
-
+/// Each request is refused in turn, those for the sets and those of changes of a kind.
 #[test]
 fn is_unchanged_where_memory_is_refused(rt: HostRuntime) {
     for kind in 0..KINDS {
-        refuse_each(&rt, rt.alloc(), kind);
+        refuse_each(&rt, rt.alloc(), (10, 100), Run::Sets(kind));
     }
 }
 
@@ -389,26 +361,33 @@ fn used_over<A: Allocator + Copy + Drop>(
     rt: &impl Abort,
     heap: Heap<'_>,
     alloc: A,
-    blocks: u32,
-    periods: u32,
-    resources: u32,
+    size: Size,
 ) -> usize {
-    assert!(rt; 0 < blocks && blocks <= BLOCKS_MAX);
-    assert!(rt; 0 < periods && periods <= PERIODS_MAX);
-    assert!(rt; resources <= RESOURCES_MAX);
-    let work = Work::new(alloc, 1, 1, 0, blocks, periods, resources).expect(rt, "memory");
+    let work = new_work(alloc, (1, 1, 0), size).expect(rt, "memory");
     let used = heap.used();
     drop(work);
     used
 }
 
+/// The least pit, and the greatest.
+const LEAST: Size = Size {
+    blocks: 1,
+    periods: 1,
+    resources: 0,
+};
+
+const GREATEST: Size = Size {
+    blocks: BLOCKS_MAX,
+    periods: PERIODS_MAX,
+    resources: RESOURCES_MAX,
+};
+
 /// The room for the first pairs of each set doesn't depend on the pit.
 #[test]
 fn begins_as_small_over_any_pit(rt: HostRuntime) {
     let heap = Refusing::over_heap(rt.alloc(), BYTES, 0).expect(&rt, "a heap");
-    let least = used_over(&rt, &heap, &heap, 1, 1, 0);
+    let least = used_over(&rt, &heap, &heap, LEAST);
     assert!(rt; least > 0);
-    let greatest = used_over(&rt, &heap, &heap, BLOCKS_MAX, PERIODS_MAX, RESOURCES_MAX);
-    assert!(rt; greatest == least);
+    assert!(rt; used_over(&rt, &heap, &heap, GREATEST) == least);
     drop(heap);
 }
