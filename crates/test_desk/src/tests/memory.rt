@@ -7,7 +7,7 @@ use super::worked::NOTHING;
 use super::{Pair, Revision, Run, refuse_each};
 use pit_desk::Act;
 use pit_plan_sample::Reading;
-use pit_sample::{LARGE_SIZE, large_facts, large_schedule};
+use pit_sample::{Fact, LARGE_SIZE, large_facts, large_schedule};
 use std::alloc::Global;
 use std::process::Abort;
 
@@ -136,11 +136,22 @@ fn refuse_many<'a>(
         (Revise(Act::Commit, 2, &[], revises), Committed(3)),
         (Revise(Act::Withdraw, 3, &[], revises), Withdrawn),
     ];
+    refuse_rows(rt, alloc, &facts, &start, &rows);
+}
+
+/// The same of calls on the large pit.
+fn refuse_rows<'a>(
+    rt: &impl Abort,
+    alloc: Global,
+    facts: &'a [Fact],
+    start: &'a [(u32, u32)],
+    rows: &'a [Row<'a>],
+) {
     let story = Story {
         size: LARGE_SIZE,
-        facts: &facts,
-        start: &start,
-        rows: &rows,
+        facts,
+        start,
+        rows,
         left: None,
         sums: (10, 0),
         ..TINY_STORY
