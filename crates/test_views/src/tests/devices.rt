@@ -127,12 +127,12 @@ fn is_unread(devices: &Devices<'_>, run: Run<'_>, place: usize) -> bool {
     if place == 2 {
         return true;
     }
-    if place == 0 && devices.second.rest() != run.precedence {
+    if place == 0 && devices.second.rest().len() != run.precedence.len() {
         return false;
     }
     match &devices.places {
-        Some(places) => places.rest() == run.last.as_bytes(),
-        None => devices.last.rest() == run.last.as_bytes(),
+        Some(places) => places.rest().len() == run.last.len(),
+        None => devices.last.rest().len() == run.last.len(),
     }
 }
 
@@ -166,7 +166,7 @@ fn calls_at(place: usize, count: usize) -> [usize; 3] {
 
 /// It fails at each call, the last time behind all bytes.
 fn assert_without(rt: &impl Abort, alloc: Global, run: Run<'_>, place: usize) {
-    for count in 0..length_at(run, place) + 1 {
+    for count in 0..length_at(run, place).wrapping_add(1) {
         let calls = calls_at(place, count);
         let is = is_without(alloc, Run { calls, ..run }, place);
         assert!(rt; is, "{:?} at {count} of {place}", run.command);

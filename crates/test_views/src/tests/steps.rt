@@ -30,10 +30,21 @@ pub(super) fn stepped<A: Allocator + Copy + Drop, W: Sink>(
     let pit = parsed(alloc, run)?;
     let answer = answer_of(alloc, &mut devices.last, &pit);
     drop(pit);
-    let (text, status) = answer?;
-    let end = write_answer(out, &text, status);
-    drop(text);
-    end
+    written(out, answer)
+}
+
+fn written<A: Allocator + Copy + Drop, W: Sink>(
+    out: &mut W,
+    answer: Result<(Vec<u8, A>, Status), CliFault>,
+) -> Result<Status, CliFault> {
+    match answer {
+        Ok((text, status)) => {
+            let end = write_answer(out, &text, status);
+            drop(text);
+            end
+        }
+        Err(fault) => Err(fault),
+    }
 }
 
 fn parsed<A: Allocator + Copy + Drop>(alloc: A, run: Run<'_>) -> Result<Instance<A>, CliFault> {

@@ -3,20 +3,22 @@ use super::{Row, Run, all, assert_so, diff, info, log, replay, run_of, show, tab
 use std::alloc::Global;
 use std::process::Abort;
 
-/// Of the small pit, by command.
-const ROWS: &[&[Row]] = &[
-    value::ROWS,
-    all::ROWS,
-    table::ROWS,
-    info::ROWS,
-    show::ROWS,
-    log::ROWS,
-    replay::ROWS,
-];
+/// Of the small pit and of solutions and schedules of it, by command.
+const ROWS: &[&[Row]] = &[value::ROWS, all::ROWS, table::ROWS, info::ROWS];
 
 #[test]
 fn of_the_small_pit(rt: HostRuntime) {
     for rows in ROWS {
+        assert_rows(&rt, rt.alloc(), rows);
+    }
+}
+
+/// Of histories of it.
+const HISTORIES: &[&[Row]] = &[show::ROWS, log::ROWS, replay::ROWS];
+
+#[test]
+fn of_histories(rt: HostRuntime) {
+    for rows in HISTORIES {
         assert_rows(&rt, rt.alloc(), rows);
     }
 }
