@@ -2,9 +2,9 @@
 # make pit            proves and builds ./pit where a source is newer than it
 # make check CRATE=C  proves the crate C, over what earlier checks kept: half a minute or so after an edit
 # make test           the whole gate: every proof, test, must-fail edit and stored run that no earlier run kept; then the shell tests. Leaves ./pit
-# make install        puts the program, its manual page and its completions for bash under PREFIX (/usr/local), itself below DESTDIR
+# make install        puts the program, pit-page, the manual page and the completions for bash under PREFIX (/usr/local), itself below DESTDIR
 # make uninstall      removes what make install put there
-# make audit          what the gate leaves out: on a copy of the tree further edits, planted bodies, further tests; a soak of ./pit; 200 drawn days. Takes hours
+# make audit          what the gate leaves out: pages in a browser; on a copy of the tree further edits, planted bodies, further tests; a soak; 200 drawn days. Takes hours
 # make clean          removes what was built
 .PHONY: demo check test install uninstall audit clean
 .DELETE_ON_ERROR:
@@ -19,6 +19,7 @@ PROVED := crates/pit/out/pit
 PREFIX ?= /usr/local
 INTO = $(DESTDIR)$(PREFIX)
 PROGRAM = "$(INTO)/bin/pit"
+PAGE = "$(INTO)/bin/pit-page"
 MANUAL = "$(INTO)/share/man/man1/pit.1"
 COMPLETIONS = "$(INTO)/share/bash-completion/completions/pit"
 FORMATS = "$(INTO)/share/doc/pit/FORMATS.md"
@@ -44,19 +45,21 @@ test:
 	rt ci | scripts/progress.sh
 	cp $(PROVED) pit.new
 	mv pit.new pit
-	@echo 'shell tests, 1 of 7: files, streams and words'
+	@echo 'shell tests, 1 of 8: files, streams and words'
 	tests/cli.sh ./pit
-	@echo 'shell tests, 2 of 7: no memory'
+	@echo 'shell tests, 2 of 8: no memory'
 	tests/no_memory.sh ./pit $(EXAMPLE)
-	@echo 'shell tests, 3 of 7: plans and replays'
+	@echo 'shell tests, 3 of 8: plans and replays'
 	tests/replay.sh ./pit
-	@echo 'shell tests, 4 of 7: the file of a history'
+	@echo 'shell tests, 4 of 8: the file of a history'
 	tests/history_file.sh ./pit
-	@echo 'shell tests, 5 of 7: histories that are carried on'
+	@echo 'shell tests, 5 of 8: histories that are carried on'
 	tests/carry_on.sh ./pit
-	@echo 'shell tests, 6 of 7: programs that have to be refused'
+	@echo 'shell tests, 6 of 8: programs that have to be refused'
 	tests/misuse.sh
-	@echo 'shell tests, 7 of 7: installing'
+	@echo 'shell tests, 7 of 8: the page'
+	tests/page.sh ./pit
+	@echo 'shell tests, 8 of 8: installing'
 	tests/install.sh
 
 pit.1: pit scripts/help.py
@@ -67,12 +70,13 @@ pit.bash: pit scripts/help.py
 
 install: pit pit.1 pit.bash
 	install -D -m 755 pit $(PROGRAM)
+	install -D -m 755 share/pit-page $(PAGE)
 	install -D -m 644 pit.1 $(MANUAL)
 	install -D -m 644 pit.bash $(COMPLETIONS)
 	install -D -m 644 docs/FORMATS.md $(FORMATS)
 
 uninstall:
-	rm -f $(PROGRAM) $(MANUAL) $(COMPLETIONS) $(FORMATS)
+	rm -f $(PROGRAM) $(PAGE) $(MANUAL) $(COMPLETIONS) $(FORMATS)
 	-rmdir "$(INTO)/share/doc/pit"
 
 audit: pit

@@ -1,11 +1,18 @@
 #!/usr/bin/env bash
 # What the gate leaves out, tried on a copy of the tree: further edits, each of which the prover has to refuse; planted wrong bodies, of
-# which only the listed ones may meet their contracts; and further tests. Each line that is not as it should be begins with FAIL.
-# usage: audit/run.sh [edits|plants|tests [CRATE..]]
-# Without a word all three of each crate, side by side: as many at once as there are processors and 3 GB of free memory for each. Wants the toolchain.
+# which only the listed ones may meet their contracts; and further tests. Before them, pages that a browser opens. Each line that is not as it should be
+# begins with FAIL.
+# usage: audit/run.sh [page|edits|plants|tests [CRATE..]]
+# Without a word the pages of ./pit, and then the other three of each crate, side by side: as many at once as there are processors and 3 GB of free
+# memory for each. Wants the toolchain, and for pages the package chromium of Debian.
 set -u
 cd "$(dirname "$0")/.." || exit 2
 top=$PWD
+
+if [ $# -eq 0 ] || [ "$1" = page ]; then
+    audit/page.sh ./pit || exit
+    [ $# -eq 0 ] || exit 0
+fi
 
 # Each part of each crate in a run of its own, whose lines are printed together when it ends.
 if [ $# -eq 0 ]; then

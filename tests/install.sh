@@ -27,6 +27,7 @@ files() {
     (cd "$work/root" && find . -type f | sort)
 }
 wanted='./opt/pit/bin/pit
+./opt/pit/bin/pit-page
 ./opt/pit/share/bash-completion/completions/pit
 ./opt/pit/share/doc/pit/FORMATS.md
 ./opt/pit/share/man/man1/pit.1'
@@ -36,6 +37,12 @@ installed_value() {
     [ "$("$at/bin/pit" value examples/tiny/tiny.cpit examples/tiny/tiny.sol)" = 37.772727272730000000 ]
 }
 judge 'the program runs from there' installed_value
+
+# It finds the program beside it.
+page_is_drawn() {
+    "$at/bin/pit-page" examples/tiny/tiny.cpit examples/tiny/tiny.prec examples/tiny/tiny.sol >"$work/drawn" && grep -qF "exactly 37.772727272730000000" "$work/drawn"
+}
+judge 'pit-page draws from there' page_is_drawn
 
 # The page as a terminal of 80 columns shows it, without a warning.
 page() {
