@@ -218,6 +218,8 @@ same(page.texts["strong"], [verdict], "whether it is fine")
 pres = iter(page.texts["pre"])
 if breaches:
     same(next(pres).splitlines(), breaches[:20], "the first lines of what is wrong")
+counts = [int(it) for it in verdict.split() if it.isdigit()]
+same(re.findall(r"<p>([\d,]+) more by", text), [f"{sum(counts) - 20:,}"] * (sum(counts) > 20), "how many lines are left out")
 differences = told("diff", model, words[words.index("--diff") + 1], schedule) if "--diff" in words else []
 if differences:
     same(next(pres).splitlines(), differences, "what has changed")
@@ -312,6 +314,20 @@ printf 'NAME: losses\nTYPE: CPIT\nNBLOCKS: 2\nNPERIODS: 2\nNRESOURCE_SIDE_CONSTR
 printf 'RESOURCE_CONSTRAINT_COEFFICIENTS\n0 0 -3\n1 0 2\nRESOURCE_CONSTRAINT_LIMITS\n0 0 I -4 0\n0 1 I -1 1\n' >>losses
 printf '0 0\n1 1\n' >both
 drawn 'values and loads below zero' losses none both
+
+# Of two resources the second alone is above its limit, and then below it.
+printf 'TYPE: CPIT\nNBLOCKS: 2\nNPERIODS: 2\nNRESOURCE_SIDE_CONSTRAINTS: 2\nDISCOUNT_RATE: 0\nRESOURCE_CONSTRAINT_COEFFICIENTS\n0 0 1\n0 1 5\n' >second
+printf 'RESOURCE_CONSTRAINT_LIMITS\n0 0 L 9\n1 0 L 4\n1 1 G 3\n' >>second
+printf '0 0\n' >heavy
+drawn 'a second resource outside its limits' second none heavy
+# More breaches than `pit` prints one by one.
+awk 'BEGIN {
+    print "TYPE: CPIT\nNBLOCKS: 1003\nNPERIODS: 1\nNRESOURCE_SIDE_CONSTRAINTS: 0\nDISCOUNT_RATE: 0" >"tall"
+    printf "0 1002" >"tall.prec"
+    for (b = 1; b < 1003; b++) printf " %d", b >"tall.prec"
+    print "" >"tall.prec"
+}'
+drawn 'more breaches than are printed' tall tall.prec heavy
 
 # 50,000 blocks in periods that are drawn, so that hardly any square is like the one beside it; and all of them have changed.
 awk 'BEGIN {
