@@ -6,20 +6,7 @@ set -u
 make -q pit 2>/dev/null || { echo "$0: there is no ./pit that is newer than its sources: make pit" >&2; exit 2; }
 work=$(mktemp -d)
 trap 'rm -rf "$work"' EXIT
-failures=0
-
-# judge NAME COMMAND..: the case is well where the command ends with status 0.
-judge() {
-    local name=$1
-    shift
-    if "$@" >"$work/out" 2>&1; then
-        echo "ok    $name"
-    else
-        echo "FAIL  $name"
-        sed 's/^/      /' "$work/out"
-        failures=$((failures + 1))
-    fi
-}
+. tests/judge.sh
 
 at=$work/root/opt/pit
 judge 'install' make --no-print-directory install DESTDIR="$work/root" PREFIX=/opt/pit
@@ -106,5 +93,4 @@ cd "$OLDPWD" || exit 2
 judge 'uninstall' make --no-print-directory uninstall DESTDIR="$work/root" PREFIX=/opt/pit
 judge 'nothing is left' diff <(files) /dev/null
 
-[ $failures -eq 0 ] || exit 1
-echo 'install: all fine'
+judged

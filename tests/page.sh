@@ -16,21 +16,8 @@ hill=$top/examples/hill/hill
 tiny=$top/examples/tiny/tiny
 work=$(mktemp -d)
 trap 'rm -rf "$work"' EXIT
+. "$top/tests/judge.sh"
 cd "$work" || exit 2
-failures=0
-
-# judge NAME COMMAND..: the case is well where the command ends with status 0.
-judge() {
-    local name=$1
-    shift
-    if "$@" >said 2>&1; then
-        echo "ok    $name"
-    else
-        echo "FAIL  $name"
-        sed 's/^/      /' said
-        failures=$((failures + 1))
-    fi
-}
 
 # Looks at a page: look.py PIT PAGE MODEL PREC SCHEDULE [--blocks FILE] [--diff OLD]
 cat >look.py <<'PYTHON'
@@ -156,7 +143,8 @@ def look_at_charts(charts, rows):
             same([it.get("fill") == OUT for it in bars], outside, "bars outside their limits")
 
 
-def look_at_maps(maps, colours, schedule, words, differences):
+def look_at_maps(maps, side, colours, schedule, words, differences):
+    """Each square of SIDE by SIDE places has the colour of the period that most of its blocks have, of equal ones the earlier."""
     places = {}
     for line in open(words[words.index("--blocks") + 1], encoding="latin-1"):
         fields = line.replace(":", " ").split()
@@ -166,24 +154,26 @@ def look_at_maps(maps, colours, schedule, words, differences):
             places[int(fields[0])] = tuple(map(decimal.Decimal, fields[1:4]))
     held = dict(map(int, line.split()) for line in schedule if not line.startswith("%"))
     x_rank, y_rank = ({it: rank for rank, it in enumerate(sorted({place[at] for place in places.values()}))} for at in (0, 1))
+    square_of = {it: (x_rank[x] // side, (len(y_rank) - 1 - y_rank[y]) // side) for it, (x, y, _) in places.items()}
     benches = sorted({z for _, _, z in places.values()}, reverse=True)
     same(len(maps), len(benches), "maps")
     changed = {int(line.split()[1]) for line in differences if line.startswith("block ")}
     for z, drawn in zip(benches, maps):
         same(re.match(r"Bench z = (\S+): ", drawn.find(f"{SVG}title").text).group(1), f"{z.normalize():f}", "the name of a bench")
-        wanted = {
-            (x_rank[x], len(y_rank) - 1 - y_rank[y]): colours[held[block]] if block in held else PALE
-            for block, (x, y, at) in places.items()
-            if at == z
-        }
-        outlined = {(x_rank[places[it][0]], len(y_rank) - 1 - y_rank[places[it][1]]) for it in changed if places[it][2] == z}
+        blocks = [it for it, place in places.items() if place[2] == z]
+        counts = collections.Counter((held.get(it, len(colours)), square_of[it]) for it in blocks)
+        of_period = collections.Counter(map(held.get, blocks))
+        wanted = {}
+        for (period, square), _ in sorted(counts.items(), key=lambda it: (-it[1], it[0])):
+            wanted.setdefault(square, [*colours, PALE][period])
+        outlined = {square_of[it] for it in changed if places[it][2] == z}
         found, lines = {}, set()
         for path in drawn.iter(f"{SVG}path"):
             if path.get("fill") != "none":
                 same(set(found).isdisjoint(squares(path.get("d"))), True, "squares that are drawn once")
                 found.update(dict.fromkeys(squares(path.get("d")), path.get("fill")))
-                number = re.search(r": ([\d,]+) blocks?$", path.find(f"{SVG}title").text).group(1)
-                same(int(number.replace(",", "")), len(squares(path.get("d"))), "the number of blocks in a title")
+                period, number = re.search(r", (?:period (\d+)|not mined): ([\d,]+) blocks?$", path.find(f"{SVG}title").text).groups()
+                same(int(number.replace(",", "")), of_period[period and int(period)], "the number of blocks in a title")
             elif path.get("id"):
                 lines.update(squares(path.get("d")))
         same(found, wanted, f"the squares of z = {z}")
@@ -238,8 +228,8 @@ if "--blocks" in words:
     same(all(later < earlier + step for earlier, later in zip(lights, lights[1:])), True, "colours that grow darker")
     same(len(set(lights)) >= min(len(lights), 200), True, "colours that differ")
     look_at_sizes(maps)
-    if "too many to draw" not in text and "several blocks" not in text:
-        look_at_maps(maps, colours, told("show", model, schedule), words, differences)
+    side = re.search(r"a square stands for up to (\d+) by", text)
+    look_at_maps(maps, int(side.group(1)) if side else 1, colours, told("show", model, schedule), words, differences)
 else:
     same(maps, [], "maps without places")
 PYTHON
@@ -346,13 +336,28 @@ is_small() {
     "$draw" many none many.sol --blocks many.blocks --diff many.old --pit "$pit" >page.html && [ "$(wc -c <page.html)" -le 2000000 ]
 }
 judge 'they take 2 MB at most, with their changes' is_small
+# Of the 50,020 lines of these, of the blocks and of the moves from 20 periods, the page has the first 9,999 and the last.
+is_cut() {
+    "$pit" diff many many.old many.sol >lines
+    { head -n 9999 lines; echo '.. 40,020 lines left out ..'; tail -n 1 lines; } >cut
+    sed -n '/<h2>Changes/,/<\/pre>/p' page.html | sed '1d; s/^<pre[^>]*>//; s/<\/pre>$//' | diff - cut
+}
+judge 'the first lines of the changes and the last one' is_cut
 
-# More places than are drawn each by a square: 501 by 400.
+# More places than are drawn each by a square, 501 by 400, in periods that are drawn, or in none; every 997th has changed.
 awk 'BEGIN {
     print "TYPE: CPIT\nNBLOCKS: 200400\nNPERIODS: 2\nNRESOURCE_SIDE_CONSTRAINTS: 0\nDISCOUNT_RATE: 0" >"wide"
-    for (b = 0; b < 200400; b++) { print b, b % 501, int(b / 501), 0 >"wide.blocks"; print b, int(b / 100200) >"wide.sol" }
+    x = 1
+    for (b = 0; b < 200400; b++) {
+        x = (x * 1664525 + 1013904223) % 4294967296
+        t = int(x / 65536) % 3
+        print b, b % 501, int(b / 501), 0 >"wide.blocks"
+        if (t < 2) print b, t >"wide.sol"
+        if (b % 997 == 0) t = (t + 1) % 3
+        if (t < 2) print b, t >"wide.old"
+    }
 }'
-drawn 'a coarser grid' wide none wide.sol --blocks wide.blocks
+drawn 'a coarser grid' wide none wide.sol --blocks wide.blocks --diff wide.old
 judge 'it says so' grep -q 'There are 200,400 places, too many to draw: a square stands for up to 2 by 2 of them' page.html
 
 fails 'a fault of the model' 2 'pit: model line 1: missing TYPE' none none none --pit "$pit"
@@ -377,8 +382,4 @@ on_the_path() {
 }
 judge 'the pit on the path' on_the_path
 
-if [ "$failures" -ne 0 ]; then
-    echo "$failures failed"
-    exit 1
-fi
-echo 'all fine'
+judged
