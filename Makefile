@@ -45,21 +45,23 @@ test:
 	rt ci | scripts/progress.sh
 	cp $(PROVED) pit.new
 	mv pit.new pit
-	@echo 'shell tests, 1 of 8: files, streams and words'
+	@echo 'shell tests, 1 of 9: files, streams and words'
 	tests/cli.sh ./pit
-	@echo 'shell tests, 2 of 8: no memory'
+	@echo 'shell tests, 2 of 9: no memory'
 	tests/no_memory.sh ./pit $(EXAMPLE)
-	@echo 'shell tests, 3 of 8: plans and replays'
+	@echo 'shell tests, 3 of 9: plans and replays'
 	tests/replay.sh ./pit
-	@echo 'shell tests, 4 of 8: the file of a history'
+	@echo 'shell tests, 4 of 9: the file of a history'
 	tests/history_file.sh ./pit
-	@echo 'shell tests, 5 of 8: histories that are carried on'
+	@echo 'shell tests, 5 of 9: histories that are carried on'
 	tests/carry_on.sh ./pit
-	@echo 'shell tests, 6 of 8: programs that have to be refused'
+	@echo 'shell tests, 6 of 9: edits that are merged'
+	tests/merge.py ./pit
+	@echo 'shell tests, 7 of 9: programs that have to be refused'
 	tests/misuse.sh
-	@echo 'shell tests, 7 of 8: the page'
+	@echo 'shell tests, 8 of 9: the page'
 	tests/page.sh ./pit
-	@echo 'shell tests, 8 of 8: installing'
+	@echo 'shell tests, 9 of 9: installing'
 	tests/install.sh
 
 pit.1: pit scripts/help.py

@@ -896,6 +896,205 @@ check 'version' 0 'pit 0.1.0' '' --version
 check 'version, short' 0 'pit 0.1.0' '' -V
 check 'version of a subcommand' 2 '' "$SOME" value --version
 
+# Edits that are merged. A, B and C are solutions; h16, h17 and h33 are histories.
+printf '0 0\n1 0\n2 1\n' >A
+printf '0 0\n1 0\n3 0\n' >B
+printf '3 1\n' >C
+printf '0 0\n1 0\n' >pair
+printf '0 0\n3 0\n' >other
+printf '3 0\n' >early3
+printf '0 0\n' >first
+printf '0 0\n3 1\n' >both
+printf '4 0\n' >unknown
+cat >h16 <<'TEXT'
+{"format":1}
+{"act":"commit","job":0,"planner":0,"reads":[],"reply":{"committed":1},"start":0,"writes":[[3,1]]}
+{"act":"commit","job":1,"planner":2,"reads":[],"reply":{"committed":2},"start":1,"writes":[[3,null]]}
+{"act":"commit","job":1,"planner":1,"reads":[[3,1]],"reply":{"moved":[3,2]},"start":1,"writes":[[3,0]]}
+{"act":"withdraw","job":1,"planner":1,"reads":[[3,null]],"reply":"withdrawn","start":2,"writes":[]}
+TEXT
+"$pit" plan --history h17 model precedence script >/dev/null 2>&1
+printf 'begin\nput 0 0\nput 1 0\ncommit\nbegin\nput 3 0\nrevise 0 0 5\ncommit\nbegin\nrevise 0 0 4\ncommit\n' >wider
+"$pit" plan --history h33 model precedence wider >/dev/null 2>&1
+sum1=312518e8d523661db7defb163f322a349cecc0034f12ef03e4ebecba15d44317
+sum2=067cbacbcebf1d0897baba929209ce0b79b9c0eeebed4d67337f33960cf5fece
+sum0=e3b0c44298fc1c149afbf4c8996fb92427ae41e4649b934ca495991b7852b855
+{ echo "% commits 1 sum $sum1"; cat A; } >X
+{ echo "% commits 2 sum $sum2"; cat pair; } >Y
+{ echo "% commits 1 sum $sum1"; cat B; } >Z
+SHORT='short 0 1 0.000000 1.000000'
+# behind HISTORY TEXT: whether the file has the history's entries, and behind them these.
+behind() {
+    { cat "$1"; printf '%s\n' "$2"; } | cmp -s - merged || echo lacking
+}
+merge() {
+    local wanted=("$1" "$2" "$3" "$4")
+    shift 4
+    rm -f merged
+    check "${wanted[@]}" merge model precedence "$@"
+}
+merge 'merge, a block that somebody else has changed' 1 '0 0
+3 0' "edit 1 entry 2 changes 1 left 0 cause - committed 2
+edit 2 entry 3 changes 2 left 0 cause 2 refused moved 3 2
+conflict 2 3 base 1 now 0 entry 2 wanted -
+edit 3 entry 4 changes 1 left 0 cause - committed 3
+value -5.000000000000000000
+$SHORT" --start C --history merged early3 first both
+status=$(head -n 2 h16 >begun; behind begun '{"act":"commit","job":1,"planner":1,"reads":[[3,1]],"reply":{"committed":2},"start":1,"writes":[[3,0]]}
+{"act":"commit","job":1,"planner":2,"reads":[[0,null],[3,1]],"reply":{"moved":[3,2]},"start":1,"writes":[[0,0],[3,null]]}
+{"act":"commit","job":1,"planner":3,"reads":[[0,null]],"reply":{"committed":3},"start":1,"writes":[[0,0]]}')
+: >out
+: >err
+compare 'whose history has a transaction for each edit' '' '' ''
+merge 'merge, the same is left out' 1 '0 0
+3 0' "edit 1 entry 2 changes 1 left 0 cause - committed 2
+edit 2 entry 3 changes 2 left 1 cause - committed 3
+conflict 2 3 base 1 now 0 entry 2 wanted -
+edit 3 entry - changes 0 left 0 cause - nothing
+value -5.000000000000000000
+$SHORT" --start C --partial --history merged early3 first both
+merge 'merge, from a commit that is named' 0 '0 0
+1 0
+2 1
+3 1' 'edit 1 entry 4 changes 1 left 0 cause - committed 3
+value 42.318181818185000000' --start h17 --from 1 --history merged A
+status=$(behind h17 '{"act":"commit","job":1,"planner":1,"reads":[[2,null]],"reply":{"committed":3},"start":1,"writes":[[2,1]]}')
+: >out
+: >err
+compare 'whose history goes on from the one that it began with' '' '' ''
+merge 'merge, from the last commit' 0 '0 0
+1 0
+2 1' 'edit 1 entry 4 changes 2 left 0 cause - committed 3
+value 37.772727272730000000' --start h17 --from 2 A
+merge 'merge, the first line goes before --from' 0 '0 0
+1 0
+2 1
+3 1' 'edit 1 entry 4 changes 1 left 0 cause - committed 3
+value 42.318181818185000000' --start h17 --from 2 X
+{ echo '% commits 1'; cat A; } >bare
+merge 'merge, a first line that show does not write' 0 '0 0
+1 0
+2 1' 'edit 1 entry 4 changes 2 left 0 cause - committed 3
+value 37.772727272730000000' --start h17 --from 2 bare
+merge 'merge, from more commits than there are' 2 '' 'pit: edit 1: 2 commits' --start h17 --from 3 A
+merge 'merge, a base that nothing tells' 2 '' 'pit: edit 1: base missing' --start h17 A
+merge 'merge, a limit of the merged schedule' 1 '0 0
+1 0' "edit 1 entry 1 changes 2 left 0 cause - committed 1
+edit 2 entry 2 changes 1 left 0 cause - refused over 0 0 5.000000 4.000000
+value 10.500000000000000000
+$SHORT" pair other
+merge 'merge, a precedence of the merged schedule' 1 '' "edit 1 entry 2 changes 1 left 0 cause - committed 2
+edit 2 entry 3 changes 1 left 0 cause 2 refused precedence 1 0
+value 0.000000000000000000
+$SHORT" --start first empty pair
+rm -f begun
+check 'merge, a history that is not there yet is carried on' 0 '3 1' 'history new
+edit 1 entry 1 changes 1 left 0 cause - committed 1
+value 4.545454545455000000' merge --continue begun model precedence C
+cp begun copy
+check 'merge, nothing that is new' 0 '3 1' 'edit 1 entry - changes 0 left 0 cause - nothing
+edit 2 entry - changes 0 left 0 cause - nothing
+value 4.545454545455000000' merge --continue begun --from 1 model precedence C C
+status=0
+cmp -s begun copy || status=differs
+: >out
+: >err
+compare 'which leaves the history as it was' 0 '' ''
+merge 'merge, a history that shares no entry' 0 '0 0
+1 0
+3 1' 'edit 1 entry - changes 0 left 0 cause - nothing
+value 15.045454545455000000' --start h17 --from 2 h16
+merge 'merge, histories that share entries' 1 '0 0
+1 0
+3 0' "edit 1 entry - changes 0 left 0 cause - nothing
+edit 2 entry 4 changes 1 left 0 cause 2 refused moved 3 2
+conflict 2 3 base - now 0 entry 2 wanted 1
+value 15.500000000000000000
+$SHORT" --start h33 h33 h17
+merge 'merge, edits of different bases' 1 '0 0
+1 0
+2 1' 'edit 1 entry 4 changes 1 left 0 cause - committed 3
+edit 2 entry 5 changes 1 left 0 cause - committed 4
+edit 3 entry 6 changes 1 left 0 cause 5 refused moved 3 4
+conflict 3 3 base - now - entry 5 wanted 0
+value 37.772727272730000000' --start h17 --from 9 --history merged X Y Z
+status=$(behind h17 '{"act":"commit","job":1,"planner":1,"reads":[[2,null]],"reply":{"committed":3},"start":1,"writes":[[2,1]]}
+{"act":"commit","job":1,"planner":2,"reads":[[3,1]],"reply":{"committed":4},"start":2,"writes":[[3,null]]}
+{"act":"commit","job":1,"planner":3,"reads":[[3,null]],"reply":{"moved":[3,4]},"start":1,"writes":[[3,0]]}')
+: >out
+: >err
+compare 'whose transactions began at their bases' '' '' ''
+{ echo "% commits 0 sum $sum0"; cat C; } >none
+{ echo "% commits 1 sum $sum1"; cat C; } >one
+{ echo "% commits 2 sum $sum1"; cat first; } >wrong
+sed 's/ sum / Sum /' X >spelt
+sed '1s/$/\r/' X >returned
+rm -f begun
+check 'merge, an edit of no commit' 0 '3 1' 'history new
+edit 1 entry 1 changes 1 left 0 cause - committed 1
+value 4.545454545455000000' merge --continue begun model precedence none
+rm -f begun
+check 'merge, an edit of a commit that is not there' 2 '' 'pit: edit 1: another history' merge --continue begun model precedence one
+status=0
+[ ! -e begun ] && [ ! -e begun.pit-new ] || status=left
+: >out
+: >err
+compare 'which makes no file' 0 '' ''
+merge 'merge, from a history with a revised limit' 0 '0 0
+1 0
+2 1
+3 0' 'edit 1 entry 4 changes 1 left 0 cause - committed 3
+value 42.772727272730000000' --start h33 X
+merge 'merge, a first line with a carriage return' 0 '0 0
+1 0
+2 1
+3 0' 'edit 1 entry 4 changes 1 left 0 cause - committed 3
+value 42.772727272730000000' --start h33 returned
+merge 'merge, the second edit of another history' 2 '' 'pit: edit 2: another history' --start h33 --from 2 X Y
+merge 'merge, a sum of another commit' 2 '' 'pit: edit 1: another history' --start h17 wrong
+merge 'merge, a limit that is revised elsewhere' 2 '' 'pit: edit 2: revised limit' --start h17 --from 2 X h33
+merge 'merge, a limit that is revised, from nothing' 2 '' 'pit: edit 1: revised limit' h33
+merge 'merge, a first line that is spelt otherwise' 2 '' 'pit: edit 2: 2 commits' --start h17 --from 3 X spelt
+# Faults, in their order, and the file of the history.
+sed '$s/committed":2/committed":3/' h17 >h17x
+merge 'merge, a start that is not legal' 2 '' 'pit: start: illegal 3' --start h17x refused
+cp h17x begun
+check 'merge, a history that is not legal' 2 '' 'pit: history: illegal 3' merge --continue begun model precedence refused
+merge 'merge, a text at fault behind one that is right' 2 '' 'pit: edit 2 line 1: bad number' pair refused
+merge 'merge, a block that the pit has not' 2 '' 'pit: edit 1 line 1: block out of range' unknown
+merge 'merge, a file that is not there goes before all' 3 '' 'pit: cannot read edit 2' refused missing
+check 'merge, a model at fault' 2 '' 'pit: model line 2: missing TYPE' merge refused precedence pair
+check 'merge, an edit is the history' 2 '' 'pit: history is an input' merge --history pair model precedence pair
+check 'merge, an edit is what is carried on' 2 '' 'pit: history is an input' merge --continue h17 model precedence h17
+check 'merge, no history can be written' 3 '0 0
+1 0' "edit 1 entry 1 changes 2 left 0 cause - committed 1
+value 10.500000000000000000
+$SHORT
+pit: cannot write" merge --history /dev/full model precedence pair
+exec 9>locked.pit-new
+flock 9
+check 'merge, another program has the history' 3 '' 'pit: history is in use' merge --continue locked missing missing missing
+exec 9>&-
+rm -f locked.pit-new
+edits=()
+for i in {1..64}; do edits+=(pair); done
+check 'merge, 64 edits' 0 '0 0
+1 0' "$(echo 'edit 1 entry 1 changes 2 left 0 cause - committed 1'; for i in {2..64}; do echo "edit $i entry - changes 0 left 0 cause - nothing"; done; echo 'value 10.500000000000000000'; echo "$SHORT")" merge model precedence "${edits[@]}"
+check 'merge, 65 edits' 2 '' "$SOME" merge missing missing "${edits[@]}" pair
+status=0
+grep -q '64' err || status=lacking
+: >err
+compare 'which says how many there may be' 0 '' ''
+check 'merge, no edit' 2 '' "$SOME" merge model precedence
+check 'merge, a history to carry on and a start' 2 '' "$SOME" merge --continue fresh --start missing missing missing missing
+check 'merge, a number that is none' 2 '' "$SOME" merge --from -1 model precedence pair
+check 'merge, a number that is too large' 2 '' "$SOME" merge --from 4294967296 model precedence pair
+check 'help on merge' 0 "$SOME" '' merge --help
+status=0
+grep -q 'edit K entry E' out && grep -q 'conflict K B' out && grep -q '^ *--partial ' out && grep -q '^ *--from ' out && grep -q '^Status: 0 ' out || status=lacking
+: >out
+compare 'help on merge tells what is printed, its options, and the statuses' 0 '' ''
+
 # Want of memory: the model is larger than the memory that the program may take.
 truncate -s 512M large
 (

@@ -50,7 +50,7 @@ has_sections() {
 # Each option, and each argument in angle brackets, of each subcommand's help.
 has_words() {
     local words command
-    for command in value check table diff info show plan replay log; do
+    for command in value check table diff info show plan replay log merge; do
         ./pit "$command" --help | grep -oE -- '--[a-z-]+|<[A-Z]+>' | sort -u >"$work/words"
         [ -s "$work/words" ] || return 1
         while read -r words; do

@@ -1,4 +1,6 @@
 pub mod PlanFiles
+pub mod MergeFiles
+pub mod MergeReadings
 pub mod Apart
 pub mod History
 pub mod EngineRuns

@@ -3,7 +3,7 @@ use Rattle.std.proofs.Common.{◌≡◌, ◌≢◌, inl, inr, ℕ, zero, suc, �
 use Rattle.std.specs.List.{range_with_len}
 use Rattle.std.proofs.lemmas.List.{take_more, get_or-map, get_or-drop, drop-drop, length-append, map_push}
 use Rattle.pit_step.specs.declared.input.Input.{Input}
-use Rattle.pit_step.specs.declared.input.Input.TheVariants.{Blocks, Script}
+use Rattle.pit_step.specs.declared.input.Input.TheVariants.{Blocks}
 use Rattle.pit_step.specs.declared.fault.CliFault.{CliFault}
 use Rattle.pit_step.specs.declared.fault.CliFault.TheVariants.{CannotRead, NoMemory}
 use Rattle.clap.specs.declared.parser.matches.ArgMatches.{ArgMatches}
@@ -22,18 +22,18 @@ map_same : {X : Type 0} (xs : List X) → map (λ (x : X). x) xs ≡ xs
 map_same [] = refl
 map_same {X} (x ∷ xs) = ap (λ (ys : List X). x ∷ ys) (map_same xs)
 
--- ---- the scripts
+-- ---- inputs by their numbers
 
 push_counting : (a n : ℕ) → range_with_len a (suc n) ≡ range_with_len a n ++ (a + n) ∷ []
 push_counting a zero = ap (λ (k : ℕ). k ∷ []) (omega arith)
 push_counting a (suc n) = ap (λ (ks : List ℕ). a ∷ ks) (push_counting (a + 1) n ∙ ap (λ (k : ℕ). range_with_len (a + 1) n ++ k ∷ []) (omega arith))
 
-pub scripts-more : (n : ℕ) → script_inputs 1 (n + 1) ≡ script_inputs 1 n ++ Script (n + 1) ∷ []
-scripts-more n =
+pub numbered-more : (input : ℕ → Input) (n : ℕ) → map input (range_with_len 1 (n + 1)) ≡ map input (range_with_len 1 n) ++ input (n + 1) ∷ []
+numbered-more input n =
     let one : n + 1 ≡ suc n = omega arith in
-    ap (λ (k : ℕ). script_inputs 1 k) one
-    ∙ ap (λ (ks : List ℕ). map Script ks) (push_counting 1 n ∙ ap (λ (k : ℕ). range_with_len 1 n ++ k ∷ []) (omega arith))
-    ∙ map_push Script (range_with_len 1 n) (n + 1)
+    ap (λ (k : ℕ). map input (range_with_len 1 k)) one
+    ∙ ap (λ (ks : List ℕ). map input ks) (push_counting 1 n ∙ ap (λ (k : ℕ). range_with_len 1 n ++ k ∷ []) (omega arith))
+    ∙ map_push input (range_with_len 1 n) (n + 1)
 
 -- ---- opening
 
@@ -132,7 +132,7 @@ pub some-given : {X : Type 0} (f : X → List ℕ) (o : Option X) (p : Option (L
 some-given f None p is = ap (λ (q : Option (List ℕ)). is_some q) is
 some-given f (Some x) p is = ap (λ (q : Option (List ℕ)). is_some q) is
 
-length-one : (b : Bool) (input : Input) → length (one_if b input) ≡ count_if b
+pub length-one : (b : Bool) (input : Input) → length (one_if b input) ≡ count_if b
 length-one true input = refl
 length-one false input = refl
 

@@ -4,6 +4,7 @@ pub mod Histories
 pub mod Options
 pub mod PlanInputs
 pub mod PlanRun
+pub mod MergeRun
 pub mod Retries
 pub mod Runs
 pub mod Inside

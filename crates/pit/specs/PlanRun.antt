@@ -12,7 +12,8 @@ use Rattle.pit_file.specs.declared.fault.FileFault.{FileFault}
 use Rattle.pit_opening.specs.Beginnings.{Begun, is_carried_on as carries_on}
 use Rattle.pit_opening.specs.Beginnings.Begun.{nothing, scheduled, carried_on, unbegun}
 use Rattle.pit_cli.specs.Texts.{Texts}
-use Rattle.pit_cli.specs.Output.{Keeping, plan_run}
+use Rattle.pit_output.specs.Outputs.{Keeping}
+use Rattle.pit_cli.specs.Output.{plan_run}
 use Rattle.pit_cli.specs.declared.plan_options.PlanOptions.{PlanOptions}
 use Rattle.pit_command.specs.Asked.{path_of}
 use Rattle.pit.specs.Files.{file_opens, file_bytes, open_each}

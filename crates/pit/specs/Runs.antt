@@ -18,13 +18,15 @@ use Rattle.pit_show.specs.Show.{show_run}
 use Rattle.pit_log.specs.Log.{log_run}
 use Rattle.pit_cli.specs.declared.plan_options.PlanOptions.{PlanOptions}
 use Rattle.pit_command.specs.declared.engine.Engine.{Engine}
-use Rattle.pit_command.specs.declared.engine.Engine.TheVariants.{Value, Check, CheckAll, Table, Diff, Info, Show, Plan, Replay, Log}
+use Rattle.pit_command.specs.declared.engine.Engine.TheVariants.{Value, Check, CheckAll, Table, Diff, Info, Show, Plan, Replay, Log, Merge}
 use Rattle.pit_command.specs.Asked.{inputs_of, IsNumber, IsFlag}
 use Rattle.pit.specs.Options.{AreOptions}
 use Rattle.pit.specs.Files.{open_each}
 use Rattle.pit.specs.Histories.{is_carried_on}
 use Rattle.pit.specs.PlanInputs.{input_if}
 use Rattle.pit.specs.PlanRun.{Told, plan_by}
+use Rattle.pit.specs.MergeRun.{AreMergeOptions, merge_by}
+use Rattle.pit_merge.specs.declared.options.MergeOptions.{MergeOptions}
 
 -- the inputs that an engine has, in the order in which their files are opened
 abbrev pub files_of : ArgMatches → Engine → List Input
@@ -68,6 +70,11 @@ pub record IsPlanRun (told : Told) (given : ArgMatches) (IsUntouched : Type 0) (
   pub options_are : AreOptions given options
   pub runs : IsResultOf (plan_by (is_carried_on given) told given options out lines IsUntouched) tt result
 
+pub record IsMergeRun (told : Told) (given : ArgMatches) (IsUntouched : Type 0) (out lines : Writing) (result : Result Status CliFault) : Type 0 where
+  pub options : MergeOptions
+  pub options_are : AreMergeOptions given options
+  pub runs : IsResultOf (merge_by (is_carried_on given) told given options out lines IsUntouched) tt result
+
 -- the log of a history, with what was written or without, as the words ask for it
 abbrev pub log_on : Bool → Writing → List Reading → Step CliFault (Unit {0}) Status
 log_on with_writes out (model ∷ precedence ∷ history ∷ []) = log_run with_writes model precedence history out
@@ -85,5 +92,6 @@ pub record IsLogRun (opens : Input → Option Bool) (holds : Input → Option (L
 -- the result is that of the engine that is asked for
 abbrev pub IsRunOf : Engine → Told → ArgMatches → Type 0 → Type 0 → Writing → Writing → Result Status CliFault → Type 0
 IsRunOf Plan told given IsUntouched IsQuiet out lines = IsPlanRun told given (IsUntouched × IsQuiet) out lines
+IsRunOf Merge told given IsUntouched IsQuiet out lines = IsMergeRun told given (IsUntouched × IsQuiet) out lines
 IsRunOf Log told given IsUntouched IsQuiet out lines = IsLogRun told.opens told.holds given IsUntouched IsQuiet out
 IsRunOf engine told given IsUntouched IsQuiet out lines = IsFileRun engine told.opens told.holds given IsUntouched IsQuiet out

@@ -5,6 +5,8 @@ mod ending;
 mod fault;
 mod files;
 mod histories;
+mod merge_files;
+mod merges;
 mod options;
 mod plan_files;
 mod plans;
@@ -17,7 +19,7 @@ mod words;
 use clap::error::ErrorKind;
 use fault::Fault;
 use pit_cli::Status;
-use pit_command::{asked, has_conflict, matched, refusal};
+use pit_command::{asked, has_conflict, has_many, matched, refusal};
 use pit_num::Out;
 use runs::run;
 use std::process::ExitCode;
@@ -41,6 +43,10 @@ fn answer<R: Threads + Wait + Sync>(rt: &HostRuntime, threads: &R) -> Result<Sta
     };
     if has_conflict(given) {
         let refused = refusal(rt.alloc(), ErrorKind::ArgumentConflict);
+        return Err(Fault::from(refused));
+    }
+    if has_many(given) {
+        let refused = refusal(rt.alloc(), ErrorKind::TooManyValues);
         return Err(Fault::from(refused));
     }
     let disk = SystemDisk::new(rt);

@@ -68,7 +68,7 @@ fn plan_inputs(
 }
 
 /// The input that tells what the plan begins with: the history that is carried on, or the start.
-fn begin_input(given: &ArgMatches<'_>) -> Input
+pub fn begin_input(given: &ArgMatches<'_>) -> Input
     ensures { result ≡ begin_input given.now }
 {
     if is_carried_on(given) {
@@ -78,7 +78,7 @@ fn begin_input(given: &ArgMatches<'_>) -> Input
 }
 
 /// Whether there is such an input.
-fn has_begin_input(given: &ArgMatches<'_>, is_there: bool) -> bool
+pub fn has_begin_input(given: &ArgMatches<'_>, is_there: bool) -> bool
     ensures { result ≡ has_begin_input given.now is_there }
 {
     if is_carried_on(given) {
@@ -88,7 +88,7 @@ fn has_begin_input(given: &ArgMatches<'_>, is_there: bool) -> bool
 }
 
 /// Adds an input where it is there.
-fn push_if(inputs: &mut Vec<Input>, is_there: bool, input: Input) -> Result<(), CliFault>
+pub fn push_if(inputs: &mut Vec<Input>, is_there: bool, input: Input) -> Result<(), CliFault>
     ensures ok { OnOk result (inputs.new.items ≡ inputs.old.items ++ one_if is_there input) }
     ensures err { IfErr result (λ fault. fault ≡ CliFault.NoMemory) }
 {
@@ -108,7 +108,7 @@ fn push_scripts(inputs: &mut Vec<Input>, count: usize) -> Result<(), CliFault>
     Ok(())
 }
 
-fn push<T: Drop>(list: &mut Vec<T>, item: T) -> Result<(), CliFault>
+pub fn push<T: Drop>(list: &mut Vec<T>, item: T) -> Result<(), CliFault>
     ensures ok { OnOk result (list.new.items ≡ list.old.items ++ item ∷ []) }
     ensures err { IfErr result (λ fault. fault ≡ CliFault.NoMemory) }
 {
@@ -119,7 +119,7 @@ fn push<T: Drop>(list: &mut Vec<T>, item: T) -> Result<(), CliFault>
 }
 
 /// The open file of each input.
-fn open_each<D: Disk>(
+pub fn open_each<D: Disk>(
     alloc: Global,
     disk: &D,
     given: &ArgMatches<'_>,

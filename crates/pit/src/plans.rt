@@ -4,7 +4,7 @@ ghost use Rattle.std.specs.Prelude.{◌≡◌, ◌≤◌, true, false, is_some};
 ghost use Rattle.pit_job.specs.declared.planner_run.TheConstants.{RETRIES_MAX};
 ghost use Rattle.pit_step.specs.Steps.{IsResultOf};
 ghost use Rattle.pit_step.specs.Devices.{writing_of, known_if};
-ghost use Rattle.pit_cli.specs.Output.{keeping_of};
+ghost use Rattle.pit_output.specs.Outputs.{keeping_of};
 ghost use Rattle.pit.specs.PlanRun.{told_of, plan_by, held_run};
 ghost use Rattle.pit.specs.Runs.{IsPlanRun};
 

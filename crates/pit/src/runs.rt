@@ -1,14 +1,15 @@
 //! The runs of the engines on the files that the words name. Files are opened in the order of the engine's inputs, and each before one is read.
-ghost use Rattle.std.specs.Prelude.{◌≡◌, ℕ, Bool, None, Option, codes};
+ghost use Rattle.std.specs.Prelude.{◌≡◌, ◌≤◌, ℕ, Bool, None, Option, length, codes};
 ghost use Rattle.pit_step.specs.Steps.{IsResultOf};
 ghost use Rattle.pit_step.specs.Devices.{writing_of};
-ghost use Rattle.pit_command.specs.Asked.{IsNumber, IsFlag};
+ghost use Rattle.pit_command.specs.Asked.{edits_of, edits_max, IsNumber, IsFlag};
 ghost use Rattle.pit_command.specs.declared.engine.Engine.TheVariants.{Value as value_engine, Check as check_engine, CheckAll as check_all_engine, Table as table_engine, Diff as diff_engine, Info as info_engine, Show as show_engine, Replay as replay_engine};
 ghost use Rattle.pit.specs.PlanRun.{told_of};
 ghost use Rattle.pit.specs.Files.{file_bytes, file_opens};
 ghost use Rattle.pit.specs.Runs.{IsRunOf, engine_run, log_files_run};
 
 use crate::files::{Disk, opened, opened_if};
+use crate::merges::run_merge;
 use crate::plans::run_plan;
 use clap::ArgMatches;
 use pit_cli::{
@@ -20,7 +21,7 @@ use std::alloc::Global;
 use std::sync::Wait;
 use std::thread::Threads;
 
-/// Runs an engine. Only `plan` writes a report, and a history. The first input whose file can't be opened is answered, and then nothing is written.
+/// Runs an engine. Only `plan` and `merge` write a report, and a history. The first input whose file can't be opened is answered, and then nothing is written.
 pub fn run<D: Disk, R: Threads + Wait + Sync, W: Sink, L: Sink>(
     rt: &R,
     alloc: Global,
@@ -30,6 +31,7 @@ pub fn run<D: Disk, R: Threads + Wait + Sync, W: Sink, L: Sink>(
     out: &mut W,
     report: &mut L,
 ) -> Result<Status, CliFault>
+    requires few { length (edits_of given.now) ≤ edits_max }
     ensures { let written = writing_of (W.contents out.old) (W.contents out.new) (W.has_failed out.new) in
         let lines = writing_of (L.contents report.old) (L.contents report.new) (L.has_failed report.new) in
         let told = told_of (D.opens_at disk.now) (D.bytes_at disk.now) (D.meets_at disk.now) (D.is_there_at disk.now) (D.refusal_at disk.now) given.now in
@@ -46,6 +48,7 @@ pub fn run<D: Disk, R: Threads + Wait + Sync, W: Sink, L: Sink>(
         Engine::Plan => run_plan(rt, alloc, disk, given, out, report),
         Engine::Replay => run_replay(alloc, disk, given, out),
         Engine::Log => run_log(alloc, disk, given, out),
+        Engine::Merge => run_merge(alloc, disk, given, out, report),
     }
 }
 

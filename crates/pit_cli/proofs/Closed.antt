@@ -11,7 +11,8 @@ use Rattle.pit_step.specs.declared.status.Status.{Status}
 use Rattle.pit_step.specs.declared.fault.CliFault.{CliFault}
 use Rattle.pit_step.specs.declared.fault.CliFault.TheVariants as cli
 use Rattle.pit_cli.specs.Outcomes.{IsWritten, IsOneHistory, IsOfOneHistory}
-use Rattle.pit_cli.specs.Output.{Keeping, plan_run}
+use Rattle.pit_output.specs.Outputs.{Keeping}
+use Rattle.pit_cli.specs.Output.{plan_run}
 use Rattle.pit_cli.specs.Planning.{Ran, IsRan, plan_judged}
 use Rattle.pit_cli.specs.Texts.{Texts, Setup, pit_in, opening_in, scripts_in, texts_judged}
 use Rattle.pit_cli.specs.declared.plan_options.PlanOptions.{PlanOptions}

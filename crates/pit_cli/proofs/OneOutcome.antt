@@ -1,8 +1,6 @@
 -- A run of a plan ends in one way.
-use Rattle.std.proofs.Common.{◌≡◌, ◌≢◌, ◌⊎◌, inl, inr, ℕ, ◌<◌, Bool, true, false, List, ◌++◌, length, length-append, codes, Option, Some, None, IsSome, Result, Ok, Err, if◌then◌else◌, refl, sym, ap, subst, ◌∙◌, arith}
-use Rattle.std.proofs.lemmas.Bool.{false≢true}
+use Rattle.std.proofs.Common.{◌≡◌, ◌≢◌, ◌⊎◌, inl, inr, ◌<◌, Bool, true, false, List, ◌++◌, length, length-append, codes, Option, IsSome, Result, Ok, Err, if◌then◌else◌, refl, sym, ap, subst, ◌∙◌, arith}
 use Rattle.std.proofs.lemmas.List.{append_cancel_left}
-use Rattle.std.specs.Io.KnownBytes.{Appends, Keeps}
 use Rattle.pit_model.specs.Pit.{Pit}
 use Rattle.pit_plan.specs.Schedule.{Commit, held_period, value_of}
 use Rattle.pit_plan.specs.Shortfalls.{shortfalls_of}
@@ -10,22 +8,21 @@ use Rattle.pit_desk.specs.History.{commits_of}
 use Rattle.pit_run.specs.Reports.{RunState}
 use Rattle.pit_step.specs.LineTexts.{value_text, shorts_text}
 use Rattle.pit_step.specs.Devices.{Writing}
-use Rattle.pit_file.specs.OutputState.{OutputState, HasNotKept}
-use Rattle.pit_file.specs.OutputState.OutputState.{stream, file}
 use Rattle.pit_step.specs.Steps.{IsResultOf}
 use Rattle.pit_step.specs.declared.fault.CliFault.{CliFault}
 use Rattle.pit_step.specs.declared.fault.CliFault.TheVariants as cli
 use Rattle.pit_step.specs.declared.status.Status.{Status}
-use Rattle.pit_step.specs.declared.status.Status.TheVariants.{Fine}
 use Rattle.pit_step.specs.Statuses.{fault_status}
-use Rattle.pit_step.proofs.CallerLemmas.{never_two, write-shown}
+use Rattle.pit_step.proofs.CallerLemmas.{never_two}
 use Rattle.pit_cli.specs.ReportText.{runs_text}
 use Rattle.pit_opening.specs.Beginnings.{is_carried_on, is_unbegun}
 use Rattle.pit_cli.specs.declared.plan_options.PlanOptions.{PlanOptions}
 use Rattle.pit_cli.specs.Texts.{Texts, Setup}
 use Rattle.pit_cli.specs.Planning.{Ran, IsRan, IsRunFault, plan_judged}
-use Rattle.pit_cli.specs.Output.{status_by, all_whole, all_granted, new_line, report_text, Keeping, keep_step, Outputs, told_step, outputs_run, outputs_of, ran_end, ran_run, HasWhole, IsLeft, IsUnwritten, plan_run}
-use Rattle.pit_cli.specs.Outcomes.{MayRun, AreRefused, IsWritten, IsDecisive, has_failed, has_failed_if, HasFailed}
+use Rattle.pit_output.specs.Outputs.{new_line, Keeping, Outputs, IsUnwritten, HasFailed}
+use Rattle.pit_output.proofs.CallerLemmas.{same_text, shown, AllWritten, outputs_given, outputs_failed, outputs_left}
+use Rattle.pit_cli.specs.Output.{status_by, all_whole, all_granted, report_text, outputs_of, ran_end, ran_run, plan_run}
+use Rattle.pit_cli.specs.Outcomes.{MayRun, AreRefused, IsWritten, IsDecisive}
 use Rattle.pit_opening.proofs.CallerLemmas.{IsEarly}
 use Rattle.pit_cli.proofs.DecidedTexts.{IsOneBeginning}
 use Rattle.pit_cli.proofs.ReportEnd.{one_report}
@@ -57,89 +54,7 @@ some_report is_new pit commits runs =
     let rest = codes "value " ++ (value_text (value_of pit (held_period commits)) ++ shorts_text (shortfalls_of pit (held_period commits))) in
     omega (arith, length-append (runs_text runs) rest, length-append (new_line is_new) (report_text pit commits runs))
 
-same_text : (before after : Option (List ℕ)) (text other : List ℕ) → IsSome before → Appends before after text → Appends before after other → text ≡ other
-same_text None after text other tells p q = absurd (false≢true tells)
-same_text (Some xs) None text other tells p q = absurd p
-same_text (Some xs) (Some ys) text other tells p q = append_cancel_left xs text other (sym p ∙ q)
-
--- a device that tells its bytes shows that it was given some
-shown : (device : Writing) (text : List ℕ) → IsSome device.before → 0 < length text → Appends device.before device.after text → device.failed ≡ false → Keeps device.before device.after → ⊥
-shown device text tells some appended sound kept =
-    write-shown device (λ (xs : List ℕ). xs) (λ xs. Fine) text tells some Fine (refl, appended, λ more. sound) kept
-
--- an output that can't be written has failed
-not_kept : (text : List ℕ) (before after : OutputState) → HasNotKept text before after → has_failed after ≡ true
-not_kept text (stream held had) (stream holds failed) p = p.1
-not_kept text (file stood had) (file stands failed) p = p.1
-not_kept text (stream held had) (file stands failed) p = absurd p
-not_kept text (file stood had) (stream holds failed) p = absurd p
-
-module _ (kept : Option Keeping) (text : List ℕ) where
-  pub whole_if : (keep_step kept text).Gives tt tt → HasWhole kept text
-  whole_if = by kept
-    where
-      by : (k : Option Keeping) → (keep_step k text).Gives tt tt → HasWhole k text
-      by None p = tt
-      by (Some device) p = p.1
-
-  failed_if : (fault : CliFault) → (keep_step kept text).Fails tt fault → (fault ≡ cli.CannotWrite) × (has_failed_if kept ≡ true)
-  failed_if = by kept
-    where
-      by : (k : Option Keeping) (fault : CliFault) → (keep_step k text).Fails tt fault → (fault ≡ cli.CannotWrite) × (has_failed_if k ≡ true)
-      by None fault p = absurd p
-      by (Some device) fault p = (p.0, not_kept text device.before device.after p.1)
-
-  left_if : (keep_step kept text).IsUntouched → IsLeft kept
-  left_if = by kept
-    where
-      by : (k : Option Keeping) → (keep_step k text).IsUntouched → IsLeft k
-      by None p = tt
-      by (Some device) p = p
-
--- ---- the outputs
-
 module _ (out lines : Writing) (kept : Option Keeping) where
-  abbrev AllWritten : Outputs → Type 0
-  AllWritten texts =
-      Appends out.before out.after texts.solution × Appends lines.before lines.after texts.report × (0 < length texts.report → lines.failed ≡ false) × HasWhole kept texts.history
-
-  abbrev AreTold : Outputs → Type 0
-  AreTold texts = Appends out.before out.after texts.solution × Appends lines.before lines.after texts.report × (0 < length texts.report → lines.failed ≡ false)
-
-  module _ (texts : Outputs) (ended : Result Status CliFault) where
-    told : (told_step texts out lines).Gives tt tt → AreTold texts
-    told (a, p, q) = (p.1, q.1, q.2)
-
-    told_failed : (fault : CliFault) → (told_step texts out lines).Fails tt fault → (fault ≡ cli.CannotWrite) × HasFailed out lines kept
-    told_failed fault (inl (p, left)) = (p.0, inl p.2)
-    told_failed fault (inr (a, p, q)) = (q.0, inr (inl q.2))
-
-    kept_failed : (fault : CliFault) → (keep_step kept texts.history).Fails tt fault → (fault ≡ cli.CannotWrite) × HasFailed out lines kept
-    kept_failed fault p = let failed = failed_if kept texts.history fault p in (failed.0, inr (inr failed.1))
-
-    all_of : AreTold texts → HasWhole kept texts.history → AllWritten texts
-    all_of p q = (p.0, p.1, p.2, q)
-
-    outputs_given : (is_first : Bool) (status : Status) → (outputs_run is_first texts ended out lines kept).Gives tt status → (ended ≡ Ok status) × AllWritten texts
-    outputs_given false status (a, p, (b, q, is)) = (is, all_of (told p) (whole_if kept texts.history q))
-    outputs_given true status (a, p, (b, q, is)) = (is, all_of (told q) (whole_if kept texts.history p))
-
-    -- a device failed; or all was written, and it ended so
-    abbrev IsFailed : CliFault → Type 0
-    IsFailed fault = ((fault ≡ cli.CannotWrite) × HasFailed out lines kept) ⊎ ((ended ≡ Err fault) × AllWritten texts)
-
-    outputs_failed : (is_first : Bool) (fault : CliFault) → (outputs_run is_first texts ended out lines kept).Fails tt fault → IsFailed fault
-    outputs_failed false fault (inl (p, left)) = inl (told_failed fault p)
-    outputs_failed false fault (inr (a, p, inl (q, left))) = inl (kept_failed fault q)
-    outputs_failed false fault (inr (a, p, inr (b, q, is))) = inr (is, all_of (told p) (whole_if kept texts.history q))
-    outputs_failed true fault (inl (p, left)) = inl (kept_failed fault p)
-    outputs_failed true fault (inr (a, p, inl (q, left))) = inl (told_failed fault q)
-    outputs_failed true fault (inr (a, p, inr (b, q, is))) = inr (is, all_of (told q) (whole_if kept texts.history p))
-
-    outputs_left : (is_first : Bool) → (outputs_run is_first texts ended out lines kept).IsUntouched → IsUnwritten out lines kept
-    outputs_left false ((p, q), (r, rest)) = (p, q, left_if kept texts.history r)
-    outputs_left true (r, ((p, q), rest)) = (p, q, left_if kept texts.history r)
-
   module _ (texts : Texts) (options : PlanOptions) where
     abbrev outputs : Ran → Outputs
     outputs ran = outputs_of (is_unbegun texts.beginning) ran
@@ -151,11 +66,11 @@ module _ (out lines : Writing) (kept : Option Keeping) where
     abbrev EndsLate : Ran → CliFault → Type 0
     EndsLate ran fault =
         ((fault ≡ cli.NoMemory) × IsUnwritten out lines kept)
-        ⊎ (((fault ≡ cli.CannotWrite) × HasFailed out lines kept) ⊎ ((end_of ran ≡ Err fault) × AllWritten (outputs ran)))
+        ⊎ (((fault ≡ cli.CannotWrite) × HasFailed out lines kept) ⊎ ((end_of ran ≡ Err fault) × AllWritten out lines kept (outputs ran)))
 
     ran_failed : (ran : Ran) (fault : CliFault) → (ran_run texts.beginning options.is_strict out lines kept ran).Fails tt fault → EndsLate ran fault
-    ran_failed ran fault (inl (p, left)) = inl (p, outputs_left (outputs ran) (end_of ran) (is_carried_on texts.beginning) left)
-    ran_failed ran fault (inr (a, p, q)) = inr (outputs_failed (outputs ran) (end_of ran) (is_carried_on texts.beginning) fault q)
+    ran_failed ran fault (inl (p, left)) = inl (p, outputs_left out lines kept (outputs ran) (end_of ran) (is_carried_on texts.beginning) left)
+    ran_failed ran fault (inr (a, p, q)) = inr (outputs_failed out lines kept (outputs ran) (end_of ran) (is_carried_on texts.beginning) fault q)
 
     -- how a plan fails: before the run, in it, or behind it
     pub data Failure (fault : CliFault) : Type 0 where
@@ -168,7 +83,7 @@ module _ (out lines : Writing) (kept : Option Keeping) where
     failure fault (inr (setup, judged, inl (p, left))) = in_run setup judged p left
     failure fault (inr (setup, judged, inr (ran, run, p))) = late setup ran judged run (ran_failed ran fault p)
 
-    written_of : (setup : Setup) (ran : Ran) (result : Result Status CliFault) → (plan_judged texts).Gives tt setup → IsRan setup options ran → result ≡ end_of ran → AllWritten (outputs ran)
+    written_of : (setup : Setup) (ran : Ran) (result : Result Status CliFault) → (plan_judged texts).Gives tt setup → IsRan setup options ran → result ≡ end_of ran → AllWritten out lines kept (outputs ran)
         → IsWritten texts options out lines kept result
     written_of setup ran result judged run is all = record {
       setup = setup;
@@ -184,7 +99,7 @@ module _ (out lines : Writing) (kept : Option Keeping) where
 
     pub given_written : (status : Status) → (plan_run texts options out lines kept).Gives tt status → IsWritten texts options out lines kept (Ok status)
     given_written status (setup, judged, (ran, run, (a, m, p))) =
-        let given = outputs_given (outputs ran) (end_of ran) (is_carried_on texts.beginning) status p in written_of setup ran (Ok status) judged run (sym given.0) given.1
+        let given = outputs_given out lines kept (outputs ran) (end_of ran) (is_carried_on texts.beginning) status p in written_of setup ran (Ok status) judged run (sym given.0) given.1
 
     -- ---- by the fault
 

@@ -28,7 +28,8 @@ use Rattle.pit_opening.specs.Openings.{Opened}
 use Rattle.pit_cli.specs.declared.plan_options.PlanOptions.{PlanOptions}
 use Rattle.pit_cli.specs.Texts.{Texts, Setup, ArePlacesOf, texts_judged}
 use Rattle.pit_cli.specs.Planning.{Ran}
-use Rattle.pit_cli.specs.Output.{Keeping, outputs_of}
+use Rattle.pit_output.specs.Outputs.{Keeping}
+use Rattle.pit_cli.specs.Output.{outputs_of}
 use Rattle.pit_cli.specs.Outcomes.{IsOfOneHistory}
 use Rattle.pit_cli.specs.ShownRun.{IsShownRun}
 

@@ -41,3 +41,15 @@ pub use Rattle.pit_log.specs.Log
 pub use Rattle.pit_opening.specs.Beginnings
 pub use Rattle.pit_opening.specs.Openings
 pub use Rattle.pit_file.specs.OutputState
+pub use Rattle.pit_output.specs.Outputs
+pub use Rattle.pit_base.specs.Marks
+pub use Rattle.pit_base.specs.Bases
+pub use Rattle.pit_base.specs.Held
+pub use Rattle.pit_edit.specs.Calls
+pub use Rattle.pit_edit.specs.EditText
+pub use Rattle.pit_edit.specs.LaidOver
+pub use Rattle.pit_edit.specs.Merging
+pub use Rattle.pit_merge.specs.Prepared
+pub use Rattle.pit_merge.specs.Edits
+pub use Rattle.pit_merge.specs.Merge
+pub use Rattle.pit_merge.specs.MergedHistory

@@ -1,5 +1,5 @@
 -- What the texts of a plan decide alone, and what its answer says.
-use Rattle.std.specs.Prelude.{◌≡◌, ◌⊎◌, ℕ, ◌+◌, Bool, true, false, List, length, take, drop, slice_get, Option, Some, None, Result, Ok, Err, ⊤}
+use Rattle.std.specs.Prelude.{◌≡◌, ◌⊎◌, ℕ, ◌+◌, true, false, List, length, take, drop, slice_get, Option, Some, Result, Ok, Err, ⊤}
 use Rattle.std.specs.Io.KnownBytes.{Appends}
 use Rattle.pit_plan.specs.Schedule.{held_period, value_of}
 use Rattle.pit_desk.specs.History.{commits_of}
@@ -18,12 +18,11 @@ use Rattle.pit_step.specs.declared.fault.CliFault.TheVariants.{Stopped}
 use Rattle.pit_step.specs.Statuses.{fault_status}
 use Rattle.pit_opening.specs.Beginnings.{is_unbegun}
 use Rattle.pit_opening.specs.Openings.{Opened, entries_before, IsGoodOpening}
-use Rattle.pit_file.specs.OutputState.{OutputState}
-use Rattle.pit_file.specs.OutputState.OutputState.{stream, file}
 use Rattle.pit_cli.specs.declared.plan_options.PlanOptions.{PlanOptions}
 use Rattle.pit_cli.specs.Texts.{Texts, Setup, texts_judged}
 use Rattle.pit_cli.specs.Planning.{Ran, plan_judged, IsRan}
-use Rattle.pit_cli.specs.Output.{Keeping, HasWhole, outputs_of, ran_end}
+use Rattle.pit_output.specs.Outputs.{Keeping, HasWhole}
+use Rattle.pit_cli.specs.Output.{outputs_of, ran_end}
 
 -- ---- by the texts alone
 
@@ -74,15 +73,3 @@ pub record IsOneHistory (texts : Texts) (options : PlanOptions) (closed : State)
 pub record IsOfOneHistory (texts : Texts) (options : PlanOptions) (out lines : Writing) (kept : Option Keeping) (result : Result Status CliFault) : Type 0 where
   pub written : IsWritten texts options out lines kept result
   pub one_history : IsOneHistory texts options written.ran.0 written.ran.1
-
-abbrev pub has_failed : OutputState → Bool
-has_failed (stream held failed) = failed
-has_failed (file stood failed) = failed
-
-abbrev pub has_failed_if : Option Keeping → Bool
-has_failed_if None = false
-has_failed_if (Some kept) = has_failed kept.after
-
--- one of the devices has
-abbrev pub HasFailed : Writing → Writing → Option Keeping → Type 0
-HasFailed out lines kept = (out.failed ≡ true) ⊎ ((lines.failed ≡ true) ⊎ (has_failed_if kept ≡ true))

@@ -1,7 +1,6 @@
 -- What `plan` writes of a run, and how it ends.
-use Rattle.std.specs.Prelude.{◌≡◌, ℕ, Bool, true, false, if◌then◌else◌, List, [], ◌∷◌, ◌++◌, ◌&&◌, not, Option, Some, None, Result, Ok, Err, codes, ⊤}
+use Rattle.std.specs.Prelude.{ℕ, Bool, true, false, if◌then◌else◌, List, [], ◌∷◌, ◌++◌, ◌&&◌, not, Option, Result, Ok, Err, codes}
 use Rattle.std.specs.List.{list_all}
-use Rattle.std.specs.Io.KnownBytes.{Keeps}
 use Rattle.pit_model.specs.Pit.{Pit}
 use Rattle.pit_plan.specs.Schedule.{Commit, held_period, value_of}
 use Rattle.pit_plan.specs.Shortfalls.{shortfalls_of}
@@ -14,12 +13,12 @@ use Rattle.pit_job.specs.declared.outcome.RunEnd.TheVariants as end
 use Rattle.pit_run.specs.Reports.{RunState}
 use Rattle.pit_cli.specs.ReportText.{runs_text}
 use Rattle.pit_step.specs.LineTexts.{value_text, shorts_text, left_text}
-use Rattle.pit_step.specs.Steps.{Step, in_turn, judge_step, may_step, run_step}
+use Rattle.pit_step.specs.Steps.{Step, in_turn, may_step, run_step}
 use Rattle.pit_step.specs.Devices.{Writing, write_step}
-use Rattle.pit_file.specs.OutputState.{OutputState, HasKept, HasNotKept, IsAsBefore}
+use Rattle.pit_output.specs.Outputs.{new_line, Keeping, Outputs, outputs_run, IsUnwritten}
 use Rattle.pit_lines.specs.Texts.{history_text}
 use Rattle.pit_step.specs.declared.fault.CliFault.{CliFault}
-use Rattle.pit_step.specs.declared.fault.CliFault.TheVariants.{CannotWrite, NoMemory, Stopped}
+use Rattle.pit_step.specs.declared.fault.CliFault.TheVariants.{NoMemory, Stopped}
 use Rattle.pit_step.specs.declared.status.Status.{Status}
 use Rattle.pit_step.specs.declared.status.Status.TheVariants.{Fine, Failed}
 use Rattle.pit_opening.specs.Beginnings.{Begun, is_carried_on, is_unbegun}
@@ -57,10 +56,6 @@ status_by is_strict are_granted shorts = if is_strict && not are_granted then Fa
 abbrev pub ended_of : Bool → List RunState → List Short → Result Status CliFault
 ended_of is_strict runs shorts = if all_whole runs then Ok (status_by is_strict (all_granted runs) shorts) else Err Stopped
 
--- that a history which is to be carried on wasn't there
-abbrev pub new_line : Bool → List ℕ
-new_line is_new = if is_new then codes "history new\n" else []
-
 -- the lines of the runs, the value of what the commits leave, and the shortfalls
 abbrev pub report_text : Pit → List Commit → List RunState → List ℕ
 report_text pit commits runs =
@@ -69,54 +64,6 @@ report_text pit commits runs =
 -- a report's text is gathered, or memory is wanting for it; and then it is written
 abbrev pub report_step : List ℕ → Writing → Step CliFault (Unit {0}) (Unit {0})
 report_step text out = in_turn (may_step NoMemory) (write_step out (λ _. text) (λ _. tt {0}))
-
--- what is known of the output of a history before and after a call
-pub record Keeping : Type 0 where
-  pub before : OutputState
-  pub after : OutputState
-
-abbrev pub keeping_of : OutputState → OutputState → Keeping
-keeping_of before after = record { before = before; after = after }
-
--- the output, if there is one, has the whole text, or was left alone
-abbrev pub HasWhole : Option Keeping → List ℕ → Type 0
-HasWhole None text = ⊤
-HasWhole (Some kept) text = HasKept text kept.before kept.after
-
-abbrev pub IsLeft : Option Keeping → Type 0
-IsLeft None = ⊤
-IsLeft (Some kept) = IsAsBefore kept.before kept.after
-
--- the text of a history is given to its output, if there is one; or that can't be
-abbrev pub keep_step : Option Keeping → List ℕ → Step CliFault (Unit {0}) (Unit {0})
-keep_step None text = judge_step (λ given value. value ≡ given) (λ given fault. ⊥)
-keep_step (Some kept) text = record {
-  Gives = λ given value. (value ≡ given) × HasKept text kept.before kept.after;
-  Fails = λ given fault. (fault ≡ CannotWrite) × HasNotKept text kept.before kept.after;
-  IsUntouched = IsAsBefore kept.before kept.after;
-}
-
--- nothing was written
-abbrev pub IsUnwritten : Writing → Writing → Option Keeping → Type 0
-IsUnwritten out lines kept = Keeps out.before out.after × Keeps lines.before lines.after × IsLeft kept
-
--- the texts that are to be written, in this order
-pub record Outputs : Type 0 where
-  pub solution : List ℕ
-  pub report : List ℕ
-  pub history : List ℕ
-
--- the solution and the report
-abbrev pub told_step : Outputs → Writing → Writing → Step CliFault (Unit {0}) (Unit {0})
-told_step texts out lines = in_turn (write_step out (λ _. texts.solution) (λ _. tt {0})) (write_step lines (λ _. texts.report) (λ _. tt {0}))
-
-abbrev pub end_step : Result Status CliFault → Step CliFault (Unit {0}) Status
-end_step ended = judge_step (λ _ status. ended ≡ Ok status) (λ _ fault. ended ≡ Err fault)
-
--- each is written, and it ends so; a history that is carried on stands before the others are told
-abbrev pub outputs_run : Bool → Outputs → Result Status CliFault → Writing → Writing → Option Keeping → Step CliFault (Unit {0}) Status
-outputs_run true texts ended out lines kept = in_turn (keep_step kept texts.history) (in_turn (told_step texts out lines) (end_step ended))
-outputs_run false texts ended out lines kept = in_turn (told_step texts out lines) (in_turn (keep_step kept texts.history) (end_step ended))
 
 -- what is written of a closed desk and of the runs, where a history is new or not, and how it ends
 abbrev pub outputs_of : Bool → Ran → Outputs

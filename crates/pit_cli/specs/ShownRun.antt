@@ -5,7 +5,7 @@ use Rattle.pit_desk.specs.History.{Answered, commits_of}
 use Rattle.pit_show.specs.Fronts.{IsFront}
 use Rattle.pit_show.specs.ShowText.{history_comment}
 use Rattle.pit_show.specs.Show.{IsShown}
-use Rattle.pit_cli.specs.Output.{Outputs}
+use Rattle.pit_output.specs.Outputs.{Outputs}
 
 -- over a pit, of its text just this is shown: the comment on its entries up to the last commit, and then the solution that was written
 pub record IsShownRun (pit : Pit) (history : List Answered) (outputs : Outputs) : Type 0 where

@@ -7,7 +7,8 @@ ghost use Rattle.pit_step.specs.Inputs.{IsModel};
 ghost use Rattle.pit_opening.specs.Beginnings.{is_unbegun};
 ghost use Rattle.pit_cli.specs.declared.plan_options.PlanOptions.{PlanOptions};
 ghost use Rattle.pit_cli.specs.Texts.{Texts};
-ghost use Rattle.pit_cli.specs.Output.{Keeping, outputs_of};
+ghost use Rattle.pit_output.specs.Outputs.{Keeping};
+ghost use Rattle.pit_cli.specs.Output.{outputs_of};
 ghost use Rattle.pit_cli.specs.Outcomes.{IsOfOneHistory};
 ghost use Rattle.pit_cli.specs.ShownRun.{IsShownRun};
 

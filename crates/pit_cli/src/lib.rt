@@ -25,6 +25,10 @@ pub use pit_diff::diff;
 pub use pit_file::{HistoryOut, Stream};
 pub use pit_info::info;
 pub use pit_log::log;
+pub use pit_merge::{
+    CONFLICTS_SHOWN, EDITS_MAX, MergeInput, MergeOptions, edit_writes, laid_over_in_order,
+    late_edits, merge, one_merged_history, told_conflicts, unchanged_edits,
+};
 pub use pit_opening::{Beginning, Opening, opening_of};
 pub use pit_show::show;
 pub use pit_step::{

@@ -4,8 +4,9 @@ ghost use Rattle.pit_step.specs.Statuses.{fault_status};
 ghost use Rattle.pit_step.specs.Steps.{IsResultOf};
 ghost use Rattle.pit_cli.specs.declared.plan_options.PlanOptions.{PlanOptions};
 ghost use Rattle.pit_cli.specs.Texts.{Texts};
-ghost use Rattle.pit_cli.specs.Output.{Keeping, IsUnwritten, plan_run};
-ghost use Rattle.pit_cli.specs.Outcomes.{MayRun, AreRefused, IsDecisive, IsWritten, IsOfOneHistory, HasFailed};
+ghost use Rattle.pit_output.specs.Outputs.{Keeping, IsUnwritten, HasFailed};
+ghost use Rattle.pit_cli.specs.Output.{plan_run};
+ghost use Rattle.pit_cli.specs.Outcomes.{MayRun, AreRefused, IsDecisive, IsWritten, IsOfOneHistory};
 
 use pit_opening::{one_beginning, one_opening};
 use pit_step::{CliFault, Status};

@@ -7,11 +7,13 @@ ghost use Rattle.pit_step.specs.Devices.{writing_of};
 ghost use Rattle.pit_step.specs.LineTexts.{value_text, shorts_text};
 ghost use Rattle.pit_step.specs.Steps.{IsResultOf};
 ghost use Rattle.pit_cli.specs.ReportText.{runs_text};
-ghost use Rattle.pit_cli.specs.Output.{is_whole, all_whole, was_granted, all_granted, new_line, status_by, ended_of, report_text, report_step, ran_end};
+ghost use Rattle.pit_output.specs.Outputs.{new_line};
+ghost use Rattle.pit_cli.specs.Output.{is_whole, all_whole, was_granted, all_granted, status_by, ended_of, report_text, report_step, ran_end};
 
 use crate::report_text::write_runs;
 use pit_job::{Outcome, RunEnd};
 use pit_num::{NoMemory, Sink, WriteFault, write_text};
+use pit_output::write_new_line;
 use pit_plan::Short;
 use pit_run::{PlannerRun, Report};
 use pit_step::{CliFault, Status, empty_text, gathered, write_value_lines};
@@ -68,15 +70,6 @@ fn write_all<A: Allocator + Drop, W: Sink>(
 {
     write_new_line(w, is_new)?;
     write_lines(w, runs, value, shorts)
-}
-
-fn write_new_line<W: Sink>(w: &mut W, is_new: bool) -> Result<(), WriteFault>
-    ensures { OnOk result (Appends (W.contents w.old) (W.contents w.new) (new_line is_new)) }
-{
-    if is_new {
-        return write_text(w, b"history new\n");
-    }
-    write_text(w, b"")
 }
 
 /// The lines of the runs, the value, and the shortfalls.

@@ -11,7 +11,7 @@ use Rattle.clap.specs.declared.builder.action.ArgAction.TheVariants.{Append, Set
 use Rattle.clap.specs.declared.builder.value_parser.ValueParser.TheVariants.{Signed}
 use Rattle.pit_step.specs.declared.input.Input.{Input}
 use Rattle.pit_step.specs.declared.input.Input.TheVariants.{Model, Precedence, Blocks, Start, History, Schedule}
-use Rattle.pit_command.specs.declared.engine.Engine.TheVariants.{Value, Check, Table, Diff, Info, Show, Plan, Replay, Log}
+use Rattle.pit_command.specs.declared.engine.Engine.TheVariants.{Value, Check, Table, Diff, Info, Show, Plan, Replay, Log, Merge}
 use Rattle.pit_command.specs.Asked.{argument_of, inputs_of}
 
 -- the argument for an input: a positional that is required
@@ -97,6 +97,25 @@ plan_with others = record (new_shape (codes "plan")) { rules = file_rule Model �
 abbrev pub plan_shape : Shape
 plan_shape = plan_with (option_rule Start ∷ continue_rule ∷ history_rule ∷ flag_rule (codes "in-turn") ∷ flag_rule (codes "strict") ∷ retries_rule ∷ scripts_rule ∷ [])
 
+-- `--from N`, a whole number of 32 bits
+abbrev pub from_rule : Rule
+from_rule = record (new_rule (codes "from")) { long = Some (codes "from"); value_names = 1; parser = Some (Signed (pos 0) (pos 4294967295)) }
+
+-- the edits: positionals, of which one at least is required
+abbrev pub edits_rule : Rule
+edits_rule = record (new_rule (codes "EDIT")) {
+  action = Some Append;
+  range = Some (record { start_inclusive = 1; end_inclusive = usize_max });
+  required = true;
+}
+
+abbrev pub merge_with : List Rule → Shape
+merge_with others =
+    record (new_shape (codes "merge")) { rules = file_rule Model ∷ file_rule Precedence ∷ option_rule Start ∷ others }
+
+abbrev pub merge_shape : Shape
+merge_shape = merge_with (continue_rule ∷ history_rule ∷ from_rule ∷ flag_rule (codes "partial") ∷ edits_rule ∷ [])
+
 -- a subcommand, of which no argument is global
 abbrev pub IsSubcommand : Shape → Command → Type 0
 IsSubcommand shape c = (app_of c ≡ record { top = shape; subs = [] }) × ((out-Command c).has_globals ≡ false)
@@ -113,7 +132,7 @@ app_with shapes = record {
 }
 
 abbrev pub pit_app : App
-pit_app = app_with (value_shape ∷ check_shape ∷ table_shape ∷ diff_shape ∷ info_shape ∷ show_shape ∷ plan_shape ∷ replay_shape ∷ log_shape ∷ [])
+pit_app = app_with (value_shape ∷ check_shape ∷ table_shape ∷ diff_shape ∷ info_shape ∷ show_shape ∷ plan_shape ∷ replay_shape ∷ log_shape ∷ merge_shape ∷ [])
 
 -- the words gave the argument of each input
 abbrev pub GivesEach : List Input → List Row → Type 0
@@ -124,7 +143,7 @@ abbrev pub subcommands : List (List ℕ × List Input)
 subcommands =
     (codes "value", inputs_of Value) ∷ (codes "check", inputs_of Check) ∷ (codes "table", inputs_of Table) ∷ (codes "diff", inputs_of Diff)
     ∷ (codes "info", inputs_of Info) ∷ (codes "show", inputs_of Show) ∷ (codes "plan", inputs_of Plan) ∷ (codes "replay", inputs_of Replay)
-    ∷ (codes "log", inputs_of Log) ∷ []
+    ∷ (codes "log", inputs_of Log) ∷ (codes "merge", inputs_of Merge) ∷ []
 
 -- the words name one of these, and give what it requires; or they ask for help
 abbrev pub IsAmong : List (List ℕ × List Input) → List ℕ × List Row → Type 0

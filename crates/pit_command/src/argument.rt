@@ -1,6 +1,6 @@
 //! The arguments of the command line, by the inputs and the output whose paths they are.
 ghost use Rattle.std.specs.Prelude.{◌≡◌, length, option_map, slice_get, codes};
-ghost use Rattle.pit_command.specs.Asked.{argument_of, path_of, scripts_of, history_path, continue_path, has_conflict, IsNumber, IsFlag};
+ghost use Rattle.pit_command.specs.Asked.{argument_of, path_of, scripts_of, edits_of, history_path, continue_path, has_conflict, has_many, IsNumber, IsFlag};
 
 use clap::ArgMatches;
 use pit_step::Input;
@@ -29,7 +29,13 @@ pub(crate) const IN_TURN: &str = "in-turn";
 /// The name of the flag by which a refused job is a failure.
 pub(crate) const STRICT: &str = "strict";
 
-/// The name of the argument for an input. Of `plan` the history is the one that is carried on.
+/// The name of the option for the number of commits that an edit was made from.
+pub(crate) const FROM: &str = "from";
+
+/// The name of the flag by which parts of an edit may be left out.
+pub(crate) const PARTIAL: &str = "partial";
+
+/// The name of the argument for an input. Of `plan` and `merge` the history is the one that is carried on.
 pub(crate) fn argument_of<'a>(input: Input) -> &'a str
     ensures { result.now ≡ argument_of input }
 {
@@ -44,10 +50,11 @@ pub(crate) fn argument_of<'a>(input: Input) -> &'a str
         Input::Schedule => "SOLUTION",
         Input::Old => "OLD",
         Input::New => "NEW",
+        Input::Edit(_) => "EDIT",
     }
 }
 
-/// The path that the words give for an input. Scripts are numbered from 1.
+/// The path that the words give for an input. Scripts and edits are numbered from 1.
 #[tactic(auto, unfolding(crate::specs::Asked::path_of))]
 pub fn path_of<'a>(given: &ArgMatches<'a>, input: Input) -> Option<&'a str>
     ensures { option_map (λ path. path.now) result ≡ path_of given.now input }
@@ -55,6 +62,8 @@ pub fn path_of<'a>(given: &ArgMatches<'a>, input: Input) -> Option<&'a str>
     match input {
         Input::Script(0) => None,
         Input::Script(number) => script_path(given, (number - 1) as usize),
+        Input::Edit(0) => None,
+        Input::Edit(number) => edit_path(given, (number - 1) as usize),
         _ => given.get_str(argument_of(input)),
     }
 }
@@ -70,6 +79,14 @@ fn script_path<'a>(given: &ArgMatches<'a>, i: usize) -> Option<&'a str>
         .copied()
 }
 
+/// The path that the words give for an edit, counted from 0.
+#[tactic(auto, unfolding(crate::specs::Asked::edits_of))]
+fn edit_path<'a>(given: &ArgMatches<'a>, i: usize) -> Option<&'a str>
+    ensures { option_map (λ path. path.now) result ≡ slice_get (edits_of given.now) i }
+{
+    given.get_strs(argument_of(Input::Edit(1)))?.get(i).copied()
+}
+
 /// How many scripts the words name.
 #[tactic(auto, unfolding(crate::specs::Asked::scripts_of))]
 pub fn script_count(given: &ArgMatches<'_>) -> usize
@@ -81,6 +98,27 @@ pub fn script_count(given: &ArgMatches<'_>) -> usize
     }
 }
 
+/// How many edits the words name.
+#[tactic(auto, unfolding(crate::specs::Asked::edits_of))]
+pub fn edit_count(given: &ArgMatches<'_>) -> usize
+    ensures { result ≡ length (edits_of given.now) }
+{
+    match given.get_strs(argument_of(Input::Edit(1))) {
+        Some(paths) => paths.len(),
+        None => 0,
+    }
+}
+
+/// How many edits one merge may have.
+const EDITS_MAX: usize = 64;
+
+/// Whether the words name more edits than one merge may have.
+pub fn has_many(given: &ArgMatches<'_>) -> bool
+    ensures { result ≡ has_many given.now }
+{
+    edit_count(given) > EDITS_MAX
+}
+
 /// The path that the words give for the history that is written.
 pub fn history_path<'a>(given: &ArgMatches<'a>) -> Option<&'a str>
     ensures { option_map (λ path. path.now) result ≡ history_path given.now }
@@ -88,7 +126,7 @@ pub fn history_path<'a>(given: &ArgMatches<'a>) -> Option<&'a str>
     given.get_str(HISTORY)
 }
 
-/// The path that the words give `plan` for the history that is carried on: it is read as an input, and written back.
+/// The path that the words give `plan` or `merge` for the history that is carried on: it is read as an input, and written back.
 pub fn continue_path<'a>(given: &ArgMatches<'a>) -> Option<&'a str>
     ensures { option_map (λ path. path.now) result ≡ continue_path given.now }
 {
@@ -129,6 +167,20 @@ pub fn is_strict(given: &ArgMatches<'_>) -> bool
     ensures { IsFlag given.now (codes "strict") result }
 {
     given.get_flag(STRICT)
+}
+
+/// Whether what somebody else has changed is left out of an edit.
+pub fn is_partial(given: &ArgMatches<'_>) -> bool
+    ensures { IsFlag given.now (codes "partial") result }
+{
+    given.get_flag(PARTIAL)
+}
+
+/// Of how many commits the words say that an edit was made.
+pub fn from_of(given: &ArgMatches<'_>) -> Option<u32>
+    ensures { IsNumber given.now (codes "from") 32 result }
+{
+    given.get_one(FROM)
 }
 
 /// The number of retries that the words give.

@@ -6,18 +6,20 @@ ghost use Rattle.clap.specs.Matches.{found_of};
 ghost use Rattle.clap.specs.Kinds.{FailsBy};
 ghost use Rattle.clap.specs.Faults.{fault_of};
 ghost use Rattle.clap.specs.declared.builder.command.Command.TheViews.{out-Command as fields_of};
-ghost use Rattle.pit_command.specs.Command.{AsksAll, app_with, pit_app, value_shape, flagged_shape, check_shape, table_shape, diff_shape, info_shape, show_shape, plan_with, plan_shape, replay_shape, log_shape, flag_rule, option_rule, history_rule, continue_rule, IsSubcommand};
+ghost use Rattle.pit_command.specs.Command.{AsksAll, app_with, pit_app, value_shape, flagged_shape, check_shape, table_shape, diff_shape, info_shape, show_shape, plan_with, plan_shape, replay_shape, log_shape, merge_with, merge_shape, from_rule, edits_rule, flag_rule, option_rule, history_rule, continue_rule, IsSubcommand};
 ghost use Rattle.clap.specs.Values.{kind_of};
 ghost use Rattle.clap.specs.declared.error.kind.ErrorKind.TheVariants.{OutOfMemory};
 ghost use Rattle.pit_step.specs.declared.input.Input.TheVariants.{Start};
 
-use crate::argument::{ALL, IN_TURN, STRICT, WRITES};
-use crate::engine::{CHECK, DIFF, INFO, LOG, PLAN, REPLAY, SHOW, TABLE, VALUE};
+use crate::argument::{ALL, IN_TURN, PARTIAL, STRICT, WRITES};
+use crate::engine::{CHECK, DIFF, INFO, LOG, MERGE, PLAN, REPLAY, SHOW, TABLE, VALUE};
 use crate::notes::{
-    CHECK_NOTES, DIFF_NOTES, INFO_NOTES, LOG_NOTES, PIT_NOTES, PLAN_NOTES, REPLAY_NOTES,
-    SHOW_NOTES, TABLE_NOTES, VALUE_NOTES,
+    CHECK_NOTES, DIFF_NOTES, INFO_NOTES, LOG_NOTES, MERGE_NOTES, PIT_NOTES, PLAN_NOTES,
+    REPLAY_NOTES, SHOW_NOTES, TABLE_NOTES, VALUE_NOTES,
 };
-use crate::rules::{at, continued, file, flag, history, option, retries, schedule, scripts};
+use crate::rules::{
+    at, continued, edits, file, flag, from, history, option, retries, schedule, scripts,
+};
 use clap::error::ErrorKind;
 use clap::{ArgMatches, Command, Error};
 use pit_step::Input;
@@ -32,7 +34,9 @@ fn command<'a>(alloc: Global) -> Result<Command<'a>, AllocError>
     ensures app { IfOk result (λ c. app_of c ≡ pit_app) }
     ensures local { IfOk result (λ c. (fields_of c).has_globals ≡ false) }
 {
-    with_replay(alloc)?.subcommand(log_command(alloc)?)
+    with_replay(alloc)?
+        .subcommand(log_command(alloc)?)?
+        .subcommand(merge_command(alloc)?)
 }
 
 /// `pit`, with the subcommands up to `replay`.
@@ -247,7 +251,42 @@ fn log_command<'a>(alloc: Global) -> Result<Command<'a>, AllocError>
         .arg(file(alloc, Input::History))
 }
 
-/// The parser's error for what it isn't asked: a word that is not UTF-8, no subcommand, or words that exclude one another. Or want of memory.
+/// `merge`, with its inputs but for the edits.
+fn merge_files<'a>(alloc: Global) -> Result<Command<'a>, AllocError>
+    ensures { IfOk result (IsSubcommand (merge_with [])) }
+{
+    Command::new(alloc, MERGE)
+        .about("Merges schedules that were edited elsewhere into one, and prints what is left")
+        .after_help(MERGE_NOTES)
+        .arg(file(alloc, Input::Model))?
+        .arg(file(alloc, Input::Precedence))?
+        .arg(option(alloc, Input::Start))
+}
+
+/// The same, with where its history is read and written.
+fn merge_histories<'a>(alloc: Global) -> Result<Command<'a>, AllocError>
+    ensures { IfOk result (IsSubcommand (merge_with (continue_rule ∷ history_rule ∷ []))) }
+{
+    merge_files(alloc)?
+        .arg(continued(alloc))?
+        .arg(history(alloc))
+}
+
+fn merge_command<'a>(alloc: Global) -> Result<Command<'a>, AllocError>
+    ensures { IfOk result (IsSubcommand merge_shape) }
+{
+    merge_histories(alloc)?
+        .arg(from(alloc))?
+        .arg(flag(
+            alloc,
+            PARTIAL,
+            "Leaves out of each edit the blocks that a commit behind its base has written",
+        ))?
+        .arg(edits(alloc))
+}
+
+/// The parser's error for what it isn't asked: a word that is not UTF-8, no subcommand, words that exclude one another, or too many edits. Or want of
+/// memory.
 pub fn refusal(alloc: Global, kind: ErrorKind) -> Error
     ensures { (kind_of result ≡ kind) ⊎ (kind_of result ≡ OutOfMemory) }
 {
@@ -256,6 +295,7 @@ pub fn refusal(alloc: Global, kind: ErrorKind) -> Error
         ErrorKind::ArgumentConflict => {
             "the argument '--continue <FILE>' cannot be used with '--start <FILE>' or '--history <FILE>'"
         }
+        ErrorKind::TooManyValues => "there are more than 64 values for '<EDIT>...'",
         _ => "a word is not UTF-8",
     };
     match command(alloc) {

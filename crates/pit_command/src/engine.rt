@@ -30,6 +30,8 @@ pub enum Engine {
     Replay,
     /// Prints what each entry of a history did.
     Log,
+    /// Merges edits into one schedule, and prints the solution that is left.
+    Merge,
 }
 
 /// The subcommand that asks for `Engine::Value`.
@@ -59,6 +61,9 @@ pub(crate) const REPLAY: &str = "replay";
 /// The subcommand that asks for `Engine::Log`.
 pub(crate) const LOG: &str = "log";
 
+/// The subcommand that asks for `Engine::Merge`.
+pub(crate) const MERGE: &str = "merge";
+
 /// The engine that a subcommand asks for, without its flags.
 #[tactic(auto, unfolding(crate::specs::Asked::engine_of))]
 fn engine_of(name: &str) -> Option<Engine>
@@ -74,6 +79,7 @@ fn engine_of(name: &str) -> Option<Engine>
         PLAN => Some(Engine::Plan),
         REPLAY => Some(Engine::Replay),
         LOG => Some(Engine::Log),
+        MERGE => Some(Engine::Merge),
         _ => None,
     }
 }

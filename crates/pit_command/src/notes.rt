@@ -7,7 +7,7 @@ shows. A SCHEDULE is a solution, or a history that `plan --history` wrote.
 docs/FORMATS.md has every form and fault line.
 
 Status: 0 where all is well, 1 where a breach, a shortfall, a difference or `illegal` was printed, or
-a refusal with `plan --strict`, 2 where an input or the command line is refused, 3 where memory, a
+a refusal with `plan --strict` or of an edit, 2 where an input or the command line is refused, 3 where memory, a
 device or a thread is wanting, another program writes the history, or a planner stopped. Of 2 and 3
 standard error says why.";
 
@@ -147,3 +147,27 @@ line is refused, 3 where memory or a device is wanting. Of 2 and 3 a line on sta
 
 Example:
   pit log --writes tiny.cpit tiny.prec tiny.history";
+
+pub(crate) const MERGE_NOTES: &str = "\
+Takes each EDIT as one transaction of the planner of its number, in their order: it read what its
+base has of the blocks that it changes, and writes what it wants. The base is what the first commits
+of the schedule that the merge begins with leave. Of a history these are the commits among the
+entries that both begin with; of a solution whose first line `show` wrote, those that this line
+names; of another solution those of --from, or all where no history was begun with.
+An edit is committed as a whole, where nobody else has changed a block that it changes, and the
+merged schedule breaks no precedence and no upper limit; else it is refused. With --partial the
+blocks that somebody else has changed are left out.
+
+Standard output is the solution that is left. Standard error tells of each edit:
+  edit K entry E changes N left N cause C REPLY
+and of each block that was left out, or that it was refused for:
+  conflict K B base P now P entry E wanted P
+Then the value, and `short RESOURCE PERIOD LOAD LIMIT` for each load below its lower limit. What is
+begun with, and where the history is written, is as for `plan`. docs/FORMATS.md has every form.
+
+Status: 0 where each edit is merged whole, 1 where one was refused or a part of one left out, 2 where
+an input or the command line is refused, 3 where memory or a device is wanting, or another program
+writes the history. Of 2 and 3 a line on standard error says why.
+
+Example:
+  pit merge tiny.cpit tiny.prec --continue tiny.history one.sol two.sol";

@@ -1,9 +1,9 @@
 //! The arguments, as the parser is told of each.
 ghost use Rattle.std.specs.Prelude.{◌≡◌, false};
 ghost use Rattle.clap.specs.Walk.{rule_of};
-ghost use Rattle.pit_command.specs.Command.{flag_rule, at_rule, file_rule, schedule_rule, option_rule, history_rule, continue_rule, retries_rule, scripts_rule};
+ghost use Rattle.pit_command.specs.Command.{flag_rule, at_rule, file_rule, schedule_rule, option_rule, history_rule, continue_rule, retries_rule, scripts_rule, from_rule, edits_rule};
 
-use crate::argument::{AT, CONTINUE, HISTORY, RETRIES, argument_of};
+use crate::argument::{AT, CONTINUE, FROM, HISTORY, RETRIES, argument_of};
 use clap::{Arg, ArgAction, value_parser};
 use pit_step::Input;
 use std::alloc::Global;
@@ -85,6 +85,18 @@ pub(crate) fn at<'a>(alloc: Global) -> Arg<'a>
         .help("Shows the schedule after the first N commits")
 }
 
+/// The option for the number of commits that an edit was made from.
+pub(crate) fn from<'a>(alloc: Global) -> Arg<'a>
+    ensures rule { rule_of result ≡ from_rule }
+    ensures local { result.global ≡ false }
+{
+    Arg::new(alloc, FROM)
+        .long(FROM)
+        .value_name("N")
+        .value_parser(value_parser!(u32))
+        .help("Of how many commits an edit was made whose first line doesn't say it")
+}
+
 /// The option for the number of retries.
 pub(crate) fn retries<'a>(alloc: Global) -> Arg<'a>
     ensures rule { rule_of result ≡ retries_rule }
@@ -111,6 +123,18 @@ pub(crate) fn scripts<'a>(alloc: Global) -> Arg<'a>
         .help(help_of(Input::Script(1)))
 }
 
+/// The arguments for the edits.
+pub(crate) fn edits<'a>(alloc: Global) -> Arg<'a>
+    ensures rule { rule_of result ≡ edits_rule }
+    ensures local { result.global ≡ false }
+{
+    Arg::new(alloc, argument_of(Input::Edit(1)))
+        .required(true)
+        .num_args(1..)
+        .action(ArgAction::Append)
+        .help(help_of(Input::Edit(1)))
+}
+
 /// What help says of an input.
 fn help_of<'a>(input: Input) -> &'a str {
     match input {
@@ -129,6 +153,8 @@ fn help_of<'a>(input: Input) -> &'a str {
         Input::Schedule => "A solution, or a history that `plan --history` wrote",
         Input::Old => "The earlier schedule: a solution, or a history that `plan --history` wrote",
         Input::New => "The later schedule, likewise",
+        Input::Edit(_) =>
+            "A schedule that was edited elsewhere, a solution or a history, 1 to 64 of them",
         Input::Solution => {
             "The solution: `BLOCK PERIOD` or `BLOCK DESTINATION PERIOD PART` for a mined block"
         }

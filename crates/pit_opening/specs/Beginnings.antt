@@ -1,5 +1,5 @@
 -- What the text of a beginning stands for, and its first fault.
-use Rattle.std.specs.Prelude.{◌≡◌, ℕ, Bool, true, false, List, []}
+use Rattle.std.specs.Prelude.{◌≡◌, ℕ, Bool, true, false, List, [], Option, Some, None}
 use Rattle.pit_model.specs.Pit.{Pit}
 use Rattle.pit_desk.specs.History.{Answered}
 use Rattle.pit_lines.specs.Lines.{StandsForHistory}
@@ -8,6 +8,8 @@ use Rattle.pit_step.specs.declared.input.Input.{Input}
 use Rattle.pit_step.specs.declared.input.Input.TheVariants.{Start, History}
 use Rattle.pit_step.specs.declared.fault.CliFault.{CliFault}
 use Rattle.pit_step.specs.Inputs.{IsSolutionOf, IsSolutionFault, IsHistoryFault}
+use Rattle.pit_step.specs.Steps.{Step, judge_step}
+use Rattle.pit_step.specs.Devices.{Reading, input_step}
 use Rattle.pit_opening.specs.Openings.{Opened, started, resumed}
 
 -- nothing, the text of a schedule, that of a history which is carried on, or a history that is to be carried on and isn't there yet
@@ -28,6 +30,28 @@ is_carried_on unbegun = true
 abbrev pub is_unbegun : Begun → Bool
 is_unbegun unbegun = true
 is_unbegun other = false
+
+-- ---- how it is read
+
+-- the input that it is
+abbrev pub begin_input : Bool → Input
+begin_input true = History
+begin_input false = Start
+
+-- a text of it, and that there is none
+abbrev pub begun_with : Bool → List ℕ → Begun
+begun_with true text = carried_on text
+begun_with false text = scheduled text
+
+abbrev pub begun_without : Bool → Begun
+begun_without true = unbegun
+begun_without false = nothing
+
+-- its input is read where there is one
+abbrev pub begin_step : {A : Type 0} → Bool → Option Reading → Step CliFault A Begun
+begin_step is_carried_on None = judge_step (λ given begun. begun ≡ begun_without is_carried_on) (λ given fault. ⊥)
+begin_step is_carried_on (Some source) =
+    input_step (begin_input is_carried_on) source (λ given bytes begun. begun ≡ begun_with is_carried_on bytes) (λ given bytes fault. ⊥)
 
 -- ---- what it stands for
 

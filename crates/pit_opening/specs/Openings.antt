@@ -1,5 +1,5 @@
 -- What a desk is opened with: a schedule, or the entries of a history that it goes on from.
-use Rattle.std.specs.Prelude.{◌≡◌, ℕ, ◌≤◌, ◌<◌, List, length, ⊤}
+use Rattle.std.specs.Prelude.{◌≡◌, ℕ, ◌≤◌, ◌<◌, Bool, true, false, List, length, ⊤}
 use Rattle.pit_model.specs.Pit.{Pit, IsMeetable, IsFirstUnmeetable}
 use Rattle.pit_desk.specs.History.{Answered}
 use Rattle.pit_desk.specs.Legal.{IsLegal}
@@ -18,6 +18,11 @@ use Rattle.pit_step.specs.Inputs.{IsScheduleOf}
 pub data Opened : Type 0 where
   started : List (ℕ × ℕ) → Opened
   resumed : Input → List Answered → Opened
+
+-- whether they are entries
+abbrev pub is_resumed : Opened → Bool
+is_resumed (started schedule) = false
+is_resumed (resumed file entries) = true
 
 -- the history that the desk has then: a schedule that mines a block is its first entry
 abbrev pub entries_before : Opened → List Answered

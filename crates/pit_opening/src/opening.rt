@@ -1,5 +1,5 @@
 ghost use Rattle.std.specs.Prelude.{◌≡◌};
-ghost use Rattle.pit_opening.specs.Openings.{started, resumed};
+ghost use Rattle.pit_opening.specs.Openings.{started, resumed, is_resumed};
 
 use pit_desk::Entry;
 use pit_step::Input;
@@ -45,6 +45,16 @@ impl<A: Allocator + Drop> Opening<A> {
     {
         Opening {
             kind: OpeningKind::Resumed(file, entries),
+        }
+    }
+
+    /// Whether it is a history.
+    pub fn is_resumed(&self) -> bool
+        ensures { result ≡ is_resumed self.now }
+    {
+        match &self.kind {
+            OpeningKind::Start(_) => false,
+            OpeningKind::Resumed(_, _) => true,
         }
     }
 }

@@ -5,3 +5,4 @@ pub mod Sums
 pub mod OneFront
 pub mod Outcome
 pub mod Written
+pub mod CallerLemmas

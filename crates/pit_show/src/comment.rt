@@ -33,8 +33,11 @@ pub(crate) fn comment_of<A: Allocator + Copy + Drop>(
     gathered(text, written)
 }
 
-/// The SHA-256 of the lines of entries.
-fn sum_of<A: Allocator + Copy + Drop>(alloc: A, entries: &[Entry<A>]) -> Result<[u8; 32], NoMemory>
+/// The SHA-256 of the lines of entries, each in format 2. Takes the memory of the longest.
+pub fn sum_of<A: Allocator + Copy + Drop>(
+    alloc: A,
+    entries: &[Entry<A>],
+) -> Result<[u8; 32], NoMemory>
     ensures { IfOk result (λ sum. sum ≡ sum_by entries.now) }
 {
     let mut hasher = Sha256::new();

@@ -12,5 +12,7 @@ mod laws;
 mod left;
 mod shown;
 
+pub use comment::sum_of;
 pub use engine::show;
+pub use front::{commits_by, front_to};
 pub use laws::{one_front, one_outcome, shown_at_all, shown_history};

@@ -1,5 +1,5 @@
 -- What devices show of a call, and the steps that read and write.
-use Rattle.std.specs.Prelude.{◌≡◌, ℕ, ◌<◌, ◌≤◌, Bool, true, false, List, length, Option, Some, None, ◌⊎◌}
+use Rattle.std.specs.Prelude.{◌≡◌, ℕ, ◌<◌, ◌≤◌, Bool, true, false, List, [], ◌∷◌, length, Option, Some, None, ◌⊎◌}
 use Rattle.std.specs.Io.KnownBytes.{Appends, Consumes, IsAtEnd, Keeps}
 use Rattle.pit_num.specs.Printed.{AppendsFront}
 use Rattle.pit_text.specs.declared.error.TextError.{TextError}
@@ -8,7 +8,7 @@ use Rattle.pit_step.specs.declared.input.Input.{Input}
 use Rattle.pit_step.specs.declared.fault.CliFault.{CliFault}
 use Rattle.pit_step.specs.declared.fault.CliFault.TheVariants.{Text, TooLong, CannotRead, CannotWrite, NoMemory}
 use Rattle.pit_step.specs.declared.status.Status.{Status}
-use Rattle.pit_step.specs.Steps.{Step, judge_step}
+use Rattle.pit_step.specs.Steps.{Step}
 
 -- what is known of a source before and after a call: the bytes that it has left, where it tells them, and whether it has failed then
 pub record Reading : Type 0 where
@@ -33,6 +33,12 @@ abbrev pub known_if : {S K : Type 0} → (S → S → K) → Option S → Option
 known_if {S} {K} of (Some old) (Some new) = Some (of old new)
 known_if {S} {K} of (Some old) None = None
 known_if {S} {K} of None new = None
+
+-- what is known of each of a list of sources, by what is known of one before and after
+abbrev pub readings_by : {S : Type 0} → (S → S → Reading) → List S → List S → List Reading
+readings_by {S} of [] news = []
+readings_by {S} of (old ∷ olds) [] = []
+readings_by {S} of (old ∷ olds) (new ∷ news) = of old new ∷ readings_by of olds news
 
 -- ---- an input
 
@@ -80,11 +86,6 @@ write_step out text_of value_of = record {
   Fails = λ given fault. (fault ≡ CannotWrite) × AppendsFront out.before out.after (text_of given) × (out.failed ≡ true) × (0 < length (text_of given));
   IsUntouched = Keeps out.before out.after;
 }
-
--- the same of a device that may be left out
-abbrev pub write_if_step : {A : Type 0} → Option Writing → (A → List ℕ) → Step CliFault A A
-write_if_step None text_of = judge_step (λ given value. value ≡ given) (λ given fault. ⊥)
-write_if_step (Some out) text_of = write_step out text_of (λ given. given)
 
 -- a text is written, and the status is the one beside it
 abbrev pub answer_step : Writing → Step CliFault (List ℕ × Status) Status

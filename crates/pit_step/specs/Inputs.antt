@@ -12,7 +12,7 @@ use Rattle.pit_desk.specs.History.{Answered}
 use Rattle.pit_lines.specs.Lines.{StandsForHistory, HasFirstFault, StopsAtLine}
 use Rattle.pit_text.specs.Solution.{solution_line, period_in, schedule_of, SolutionStops}
 use Rattle.pit_step.specs.declared.input.Input.{Input}
-use Rattle.pit_step.specs.declared.input.Input.TheVariants.{Model, Precedence, Blocks, Start, Solution, Script, History, Schedule, Old, New}
+use Rattle.pit_step.specs.declared.input.Input.TheVariants.{Model, Precedence, Blocks, Start, Solution, Script, History, Schedule, Old, New, Edit}
 use Rattle.pit_step.specs.declared.fault.CliFault.{CliFault}
 use Rattle.pit_step.specs.declared.fault.CliFault.TheVariants as fault
 use Rattle.pit_step.specs.Steps.{Step, in_turn}
@@ -29,6 +29,7 @@ input_name History = codes "history"
 input_name Schedule = codes "schedule"
 input_name Old = codes "old"
 input_name New = codes "new"
+input_name (Edit number) = codes "edit " ++ decimal number
 
 -- a text stands for facts, and these say a value
 pub record StandsAs {F B : Type 0} (Stands : List F → Type 0) (value_of : List F → B) (value : B) : Type 0 where

@@ -69,6 +69,11 @@ each {F} {A} {B} step number (item ∷ items) = record {
   IsUntouched = (step number item).IsUntouched × (each step (number + 1) items).IsUntouched;
 }
 
+-- For each of a list in turn, numbered from this one on: the first is given what all are given, and each other what the one before it gives.
+abbrev pub through : {F A B : Type 0} → (ℕ → A → Step F B B) → ℕ → List A → Step F B B
+through step number [] = pass_step (λ given. ⊤) (λ given fault. ⊥)
+through step number (item ∷ items) = in_turn (step number item) (through step (number + 1) items)
+
 -- the result is a value that the step gives, or a fault that it has
 abbrev pub IsResultOf : {F A B : Type 0} → Step F A B → A → Result B F → Type 0
 IsResultOf step given result = MatchResult result (step.Gives given) (step.Fails given)

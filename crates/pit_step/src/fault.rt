@@ -19,10 +19,11 @@ pub enum CliFault {
     /// The first fault of the text of a history.
     #[error("pit: {file} {error}")]
     Lines { file: Input, error: LinesError },
-    /// The first entry of a history, by its place, counted from 1, that doesn't fit the pit.
+    /// The first entry of a history, by its place, counted from 1, that doesn't fit the pit; of a history that is begun with, the first that an audit
+    /// finds wrong.
     #[error("pit: {file}: illegal {place}")]
     Illegal { file: Input, place: u32 },
-    /// More than `INPUT_BYTES_MAX` bytes came.
+    /// More than `INPUT_BYTES_MAX` bytes came, or a history that is begun with has more than `ENTRIES_MAX` entries.
     #[error("pit: {0}: too long")]
     TooLong(Input),
     /// The least period, and in it the least resource, whose upper limit is below zero, so that the empty schedule is above it.
@@ -31,6 +32,18 @@ pub enum CliFault {
     /// The schedule has fewer commits than were asked for.
     #[error("pit: at: {commits} commits")]
     FewCommits { commits: u32 },
+    /// An edit, whose first line doesn't say of what it was made, would be made of more commits than there are.
+    #[error("pit: {file}: {commits} commits")]
+    FewBaseCommits { file: Input, commits: u32 },
+    /// The first line of an edit is that of another history.
+    #[error("pit: {0}: another history")]
+    AnotherHistory(Input),
+    /// A commit of an edit that is not shared revises a limit.
+    #[error("pit: {0}: revised limit")]
+    RevisedLimit(Input),
+    /// Nothing says of what an edit was made.
+    #[error("pit: {0}: base missing")]
+    BaseMissing(Input),
     /// The first breach of the start.
     #[error("pit: start: {0}")]
     Start(BreachLine),

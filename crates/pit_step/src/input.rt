@@ -17,6 +17,8 @@ pub enum Input {
     Old,
     /// The later one.
     New,
+    /// Of a merge, by its number, counted from 1.
+    Edit(u64),
 }
 
 impl fmt::Display for Input {
@@ -37,6 +39,7 @@ impl fmt::Display for Input {
             Input::Schedule => write!(f, "schedule"),
             Input::Old => write!(f, "old"),
             Input::New => write!(f, "new"),
+            Input::Edit(number) => write!(f, "edit {number}"),
         }
     }
 }

@@ -25,6 +25,9 @@ returns-in-Show g c = rw c.in-Show.is (record { at = c.run_show.ensures.0; at_is
 pub returns-in-Plan : goal.returns-in-Plan
 returns-in-Plan g c = rw c.in-Plan.is c.run_plan.ensures
 
+pub returns-in-Merge : goal.returns-in-Merge
+returns-in-Merge g c = rw c.in-Merge.is c.run_merge.ensures
+
 pub returns-in-Replay : goal.returns-in-Replay
 returns-in-Replay g c = rw c.in-Replay.is (record { at = None; at_is = refl; runs = c.run_replay.ensures; quiet = refl })
 

@@ -4,8 +4,10 @@ use Rattle.pit_desk.specs.State.{State}
 use Rattle.pit_step.proofs.CallerLemmas.{keeps_itself}
 use Rattle.pit_lines.specs.Texts.{history_text}
 use Rattle.pit_opening.specs.Beginnings.{is_carried_on}
-use Rattle.pit_cli.specs.Output.{new_line, report_text}
-use Rattle.pit_cli.proofs.Left.{left_as, left_itself, if_itself, outputs_untouched, was_there, written_as, ran_as, ran_wants, never_ran}
+use Rattle.pit_output.specs.Outputs.{new_line}
+use Rattle.pit_cli.specs.Output.{report_text}
+use Rattle.pit_output.proofs.CallerLemmas.{left_as, left_itself, if_itself, outputs_untouched, was_there, written_as}
+use Rattle.pit_cli.proofs.Left.{ran_as, ran_wants, never_ran}
 use Rattle.pit_cli.proofs.engine.plan.Goals as goal
 
 pub returns-in-Err-clause-done : goal.returns-in-Err-clause-done

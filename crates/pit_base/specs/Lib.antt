@@ -1,0 +1,4 @@
+pub mod Marks
+pub mod Bases
+pub mod Held
+pub mod Inside

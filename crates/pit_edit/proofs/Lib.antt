@@ -1,0 +1,13 @@
+pub mod Filters
+pub mod Lookups
+pub mod Works
+pub mod Late
+pub mod Written
+pub mod Behind
+pub mod Answered
+pub mod Texts
+pub mod Reviewed
+pub mod Whole
+pub mod Told
+pub mod LaidOver
+pub mod CallerLemmas

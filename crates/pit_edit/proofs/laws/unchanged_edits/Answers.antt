@@ -1,0 +1,5 @@
+use Rattle.pit_edit.proofs.Told.{unchanged}
+use Rattle.pit_edit.proofs.laws.unchanged_edits.Goals as goal
+
+pub returns : goal.returns
+returns c = unchanged

@@ -1,0 +1,5 @@
+-- Definitions that no public contract cites.
+pub mod Parts
+pub mod Works
+pub mod Answers
+pub mod Reviews

@@ -1,0 +1,5 @@
+pub mod Begun
+pub mod Wanted
+pub mod Taken
+pub mod Runs
+pub mod OneMerge

@@ -1,0 +1,3 @@
+-- Definitions that no public contract cites.
+pub mod Parts
+pub mod Begun

@@ -1,0 +1,5 @@
+pub mod Prepared
+pub mod Edits
+pub mod Merge
+pub mod MergedHistory
+pub mod Inside

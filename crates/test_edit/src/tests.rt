@@ -1,0 +1,3 @@
+mod bases;
+mod engine;
+mod merges;
