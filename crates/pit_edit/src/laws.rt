@@ -7,6 +7,7 @@ ghost use Rattle.pit_desk.specs.Replies.{IsReply};
 ghost use Rattle.pit_desk.specs.declared.reply.EntryReply.{EntryReply};
 ghost use Rattle.pit_desk.specs.declared.reply.EntryReply.TheVariants.{Committed as committed};
 ghost use Rattle.pit_edit.specs.Changes.{Edit as EditState, base_of, changes_of, late_of, wanted_of};
+ghost use Rattle.pit_edit.specs.declared.conflicts.TheConstants.{CONFLICTS_SHOWN};
 ghost use Rattle.pit_edit.specs.Calls.{edit_call, edit_entry};
 ghost use Rattle.pit_edit.specs.EditText.{was_moved, told_of};
 ghost use Rattle.pit_edit.specs.LaidOver.{laid_over};
@@ -34,12 +35,13 @@ pub fn laid_over_in_order()
 {}
 
 /// A law of conflicts: each that is told is of a change whose block a commit behind the base has written; and where they are told, of a change that was left
-/// out or of an edit that was moved, each such change is among them.
+/// out or of an edit that was moved, each such change is among them. The first 1,000 have a line.
 pub fn told_conflicts()
     ensures told { (is_partial : Bool) (reply : Option EntryReply) (start : ℕ) (version : ℕ → ℕ) (changes : List ℕ) (b : ℕ)
         → Contains (told_of is_partial reply (late_of start version changes)) b → Contains changes b × (start < version b) }
     ensures none_left { (is_partial : Bool) (reply : Option EntryReply) (start : ℕ) (version : ℕ → ℕ) (changes : List ℕ) (b : ℕ)
         → (is_partial || was_moved reply) ≡ true → Contains changes b → start < version b → Contains (told_of is_partial reply (late_of start version changes)) b }
+    ensures shown { CONFLICTS_SHOWN ≡ 1000 }
 {}
 
 /// A law of edits: one that has for each block what its base has, changes nothing, whatever is held.
