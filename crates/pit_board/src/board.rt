@@ -1,7 +1,7 @@
 //! The board that readers see.
-ghost use Rattle.std.specs.Prelude.{◌≡◌, ◌<◌, ◌≤◌, ℕ, length, All, IfSome, slice_index_or, nat_eq, if◌then◌else◌};
+ghost use Rattle.std.specs.Prelude.{◌≡◌, ◌<◌, ◌≤◌, ℕ, Some, length, All, IfSome, slice_index_or, nat_eq, if◌then◌else◌};
 ghost use Rattle.pit_num.specs.declared.limits.TheConstants.{PERIODS_MAX};
-ghost use Rattle.pit_board.specs.Inside.Boards.{ShowsAll, slot_after};
+ghost use Rattle.pit_board.specs.Inside.Boards.{ShowsAll, slot_after, taken_in};
 ghost use Rattle.pit_board.specs.declared.slot.Slot.{Slot};
 
 use crate::front::Front;
@@ -60,7 +60,9 @@ impl<S: Session, A: Allocator + Copy + Drop> Board<S, A> {
     }
 
     /// Takes in a commit, if it is the next one. Takes no memory.
-    fn take_in(&mut self, stamp: &Stamp<S, A>) {
+    fn take_in(&mut self, stamp: &Stamp<S, A>)
+        ensures { self.new ≡ taken_in self.old (Some stamp.now) }
+    {
         if self.front.is_same(&stamp.before) {
             let front = stamp.after.again();
             write_slots(&mut self.slots, front.count(), stamp.changes.writes());
@@ -104,13 +106,15 @@ fn write_slot<A: Allocator + Copy + Drop>(slots: &mut Vec<KeptSlot, A>, block: u
     }
 }
 
-// What is known of a board is what its type says, so its state says nothing.
 impl<S: Session, A: Allocator + Copy + Drop> Absorb<Operation<S, A>> for Board<S, A> {
-    type State = ();
+    ghost use Rattle.pit_board.specs.Inside.Boards.{taken_in};
 
-    ghost state = { λ board. tt };
+    /// The commits that both show.
+    type State = Front<S>;
 
-    ghost applied = { λ state operation. tt };
+    ghost state = { λ board. board };
+
+    ghost applied = { taken_in };
 
     ghost never_fails = { Unit {0} };
 
@@ -119,21 +123,19 @@ impl<S: Session, A: Allocator + Copy + Drop> Absorb<Operation<S, A>> for Board<S
         operation: &Operation<S, A>,
         _other: &Board<S, A>,
     ) -> Result<(), AllocError> {
-        if let Some(cell) = operation.stamp() {
-            if let Some(stamp) = &*cell {
-                self.take_in(stamp);
-            }
+        if let Some(stamp) = &operation.stamp {
+            self.take_in(stamp);
         }
         Ok(())
     }
 
-    // By now nothing else holds the operation's cell. That isn't proved; where another did, the board would lag, and the hall wait.
     fn absorb_second(
         &mut self,
         operation: Operation<S, A>,
         _other: &Board<S, A>,
     ) -> Result<(), Operation<S, A>> {
-        if let Some(stamp) = operation.into_stamp() {
+        let Operation { stamp } = operation;
+        if let Some(stamp) = stamp {
             self.take_in(&stamp);
         }
         Ok(())

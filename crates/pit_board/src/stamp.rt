@@ -1,15 +1,13 @@
 //! What the board takes in.
-ghost use Rattle.std.specs.Prelude.{◌≡◌, ◌++◌, ◌∷◌, []};
+ghost use Rattle.std.specs.Prelude.{◌≡◌, ◌++◌, ◌∷◌, [], None, Some};
 
 use crate::changes::Changes;
 use crate::front::Front;
 use crate::session::Session;
-use pit_num::NoMemory;
 use std::alloc::Allocator;
 use std::marker::Model;
-use std::sync::{Arc, Mutex, MutexGuard};
 
-/// A commit that stands in the list: its changes, and the fronts before it and with it. Contracts see the front with it.
+/// A commit that stands in the list: its changes, and the fronts before it and with it. Contracts see both fronts.
 #[derive(Drop)]
 pub struct Stamp<S: Session, A: Allocator + Copy + Drop> {
     pub(crate) changes: Changes<A>,
@@ -18,12 +16,12 @@ pub struct Stamp<S: Session, A: Allocator + Copy + Drop> {
 }
 
 impl<S: Session, A: Allocator + Copy + Drop> Model for Stamp<S, A> {
-    ghost use Rattle.std.specs.Prelude.{◌≡◌, ◌++◌, ◌∷◌, [], List};
-    ghost use Rattle.pit_plan.specs.Schedule.{Commit};
+    ghost use Rattle.std.specs.Prelude.{◌≡◌, ◌++◌, ◌∷◌, []};
+    ghost use Rattle.pit_board.specs.Inside.Boards.{Stamped};
 
-    ghost Value = { List Commit };
+    ghost Value = { Stamped };
 
-    ghost view = { λ s. s.after };
+    ghost view = { λ s. record { before = s.before; after = s.after } };
 
     ghost invariant = { λ s. s.after ≡ s.before ++ s.changes ∷ [] };
 }
@@ -31,7 +29,7 @@ impl<S: Session, A: Allocator + Copy + Drop> Model for Stamp<S, A> {
 impl<S: Session, A: Allocator + Copy + Drop> Stamp<S, A> {
     pub(crate) fn new(changes: Changes<A>, before: Front<S>, after: Front<S>) -> Stamp<S, A>
         requires { after ≡ before ++ changes ∷ [] }
-        ensures { result ≡ after }
+        ensures { result ≡ record { before = before; after = after } }
     {
         Stamp {
             changes,
@@ -41,42 +39,31 @@ impl<S: Session, A: Allocator + Copy + Drop> Stamp<S, A> {
     }
 }
 
-/// An operation of the board: a cell that has its stamp once the commit stands in the list. It is made, with all its memory, before.
+/// An operation of the board: a commit that stands in the list. Or nothing, which takes up the room of one: the writer has that before the commit is entered.
 #[derive(Drop)]
 pub struct Operation<S: Session, A: Allocator + Copy + Drop> {
-    cell: Arc<Mutex<Option<Stamp<S, A>>>, A>,
+    pub(crate) stamp: Option<Stamp<S, A>>,
+}
+
+impl<S: Session, A: Allocator + Copy + Drop> Model for Operation<S, A> {
+    ghost use Rattle.std.specs.Prelude.{Option};
+    ghost use Rattle.pit_board.specs.Inside.Boards.{Stamped};
+
+    ghost Value = { Option Stamped };
+
+    ghost view = { λ o. o.stamp };
 }
 
 impl<S: Session, A: Allocator + Copy + Drop> Operation<S, A> {
-    pub(crate) fn new(alloc: A) -> Result<Operation<S, A>, NoMemory> {
-        Ok(Operation {
-            cell: Arc::new(alloc, Mutex::new(None))?,
-        })
+    pub(crate) fn nothing() -> Operation<S, A>
+        ensures { result ≡ None }
+    {
+        Operation { stamp: None }
     }
 
-    /// The same operation, of the same cell.
-    pub(crate) fn again(&self) -> Result<Operation<S, A>, NoMemory> {
-        Ok(Operation {
-            cell: Arc::try_clone(&self.cell)?,
-        })
-    }
-
-    /// Gives the cell its stamp, and lets go of the cell. Where another thread has locked the cell, the stamp is let go; what is published then
-    /// lags, and the hall waits.
-    pub(crate) fn fill(self, stamp: Stamp<S, A>) {
-        if let Some(mut cell) = self.cell.try_lock() {
-            *cell = Some(stamp);
-        }
-    }
-
-    /// The cell, where no other thread has locked it, with its stamp once it has one.
-    pub(crate) fn stamp(&self) -> Option<MutexGuard<'_, Option<Stamp<S, A>>>> {
-        self.cell.try_lock()
-    }
-
-    /// The stamp, taken out of the cell with no lock. Of a cell that another operation still holds there is none.
-    pub(crate) fn into_stamp(self) -> Option<Stamp<S, A>> {
-        let Operation { cell } = self;
-        Arc::into_inner(cell)?.into_inner()
+    pub(crate) fn commit(stamp: Stamp<S, A>) -> Operation<S, A>
+        ensures { result ≡ Some stamp }
+    {
+        Operation { stamp: Some(stamp) }
     }
 }

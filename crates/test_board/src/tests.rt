@@ -10,7 +10,7 @@ mod lists;
 mod memory;
 mod threads;
 
-use pit_board::{EmptyList, Front, Hall, Notice, Session, Slot, View};
+use pit_board::{Changes, EmptyList, Front, Hall, Session, Slot, View};
 use pit_desk::{Desk, Ready, Reply};
 use pit_plan::Plan;
 use pit_sample::{Size, built};
@@ -98,10 +98,10 @@ impl<S: Session, R: Wait + Drop, A: Allocator + Copy + Drop> OpenHall<S, R, A> {
             Ok(ready) => ready,
             Err((work, _)) => return Err(work),
         };
-        let Ok(notice) = Notice::new(self.alloc, ready.writes(), ready.revises()) else {
+        let Ok(changes) = Changes::copied(self.alloc, ready.writes(), ready.revises()) else {
             return Err(ready.back());
         };
-        self.enter(rt, ready, notice)
+        self.enter(rt, ready, changes)
     }
 
     /// Enters a commit that is ready. Where memory is refused, its work is handed back.
@@ -109,13 +109,13 @@ impl<S: Session, R: Wait + Drop, A: Allocator + Copy + Drop> OpenHall<S, R, A> {
         &mut self,
         rt: &W,
         ready: Ready<A>,
-        notice: Notice<S, A>,
+        changes: Changes<A>,
     ) -> Result<(), Work<A>>
         requires ready { IsReady self.old ready }
-        requires notice { notice ≡ commit_of (ready_entry ready).call }
+        requires changes { changes ≡ commit_of (ready_entry ready).call }
     {
         assert!(rt; is_committed(ready.reply()));
-        match self.hall.value.enter(rt, &mut self.desk, ready, notice) {
+        match self.hall.value.enter(rt, &mut self.desk, ready, changes) {
             Ok(_) => Ok(()),
             Err(ready) => Err(ready.back()),
         }

@@ -1,5 +1,5 @@
 -- How a board takes a commit in, and what it shows of all.
-use Rattle.std.specs.Prelude.{◌≡◌, ℕ, ◌<◌, List, length, slice_index_or, unwrap_or, is_some, if◌then◌else◌, nat_eq}
+use Rattle.std.specs.Prelude.{◌≡◌, ℕ, ◌<◌, ◌==◌, List, length, slice_index_or, Option, Some, None, unwrap_or, is_some, if◌then◌else◌, nat_eq}
 use Rattle.std.specs.Map.{lookup}
 use Rattle.pit_plan.specs.Schedule.{Writes, Commit}
 use Rattle.pit_board.specs.Boards.{slot_of}
@@ -16,3 +16,15 @@ slot_after n writes b before = record {
 pub record ShowsAll (blocks : ℕ) (commits : List Commit) (slots : List Slot) : Type 0 where
   pub many : length slots ≡ blocks
   pub each : (b : ℕ) (d : Slot) → b < blocks → slice_index_or slots b d ≡ slot_of commits b
+
+-- ---- what it takes in
+
+-- the commits before a commit, and with it
+pub record Stamped : Type 0 where
+  pub before : List Commit
+  pub after : List Commit
+
+-- a board that shows so many commits as were before takes it in; nothing is taken in of nothing
+abbrev pub taken_in : List Commit → Option Stamped → List Commit
+taken_in shown None = shown
+taken_in shown (Some stamp) = if length shown == length stamp.before then stamp.after else shown

@@ -11,7 +11,7 @@ pub invariant_of-self : goal.invariant_of-self
 invariant_of-self g c =
     let old : List Commit = c.self.inside.front in
     let w : Commit = c.stamp.inside.changes in
-    let same : old ≡ c.stamp.inside.before = c.if-is_same.ensures.0 refl in
+    let same : old ≡ c.stamp.inside.before = c.if-is_same.ensures.same.0 refl in
     let after : c.again-front.result ≡ old ++ w ∷ [] = c.again-front.ensures ∙ (c.stamp.invariant ∙ sym (ap (λ (l : List Commit). l ++ w ∷ []) same)) in
     let number : c.count.result ≡ length old + 1 = omega (arith, c.count.ensures.count, ap (λ (l : List Commit). length l) after, length-append old (w ∷ [])) in (
       c.self.invariant.0,
