@@ -1,9 +1,10 @@
 #!/usr/bin/env bash
 # Times `pit merge` of four edits of a solution, in turn with `pit check` of that solution and `pit value` of each edit together: five rounds.
 # usage: bench/merge.sh [-n CHANGES] PIT NAME..   reads NAME.cpit, NAME.prec and NAME.sol, whose lines rise by block
-# Each edit leaves CHANGES blocks of the solution out (10,000 where it isn't said): the first its last blocks, the second those before them, and so on,
-# so that each is lawful behind the ones before it where predecessors have lower numbers. Prints what each edit was answered, the middle of the seconds
-# and of the peak memory of each, and the middle of five ratios to the twin in the same round. Wants GNU time.
+# Each edit leaves CHANGES blocks of the solution out (10,000 where it isn't said): the first edit its first blocks, the second those behind them, and
+# so on, so that each is lawful behind the ones before it where predecessors have higher numbers, as in the pits that `generate.py` makes. Prints what
+# each edit was answered, the middle of the seconds and of the peak memory of each, and the middle of five ratios to the twin in the same round. Wants
+# GNU time.
 set -eu
 
 . "$(dirname "$(realpath "$0")")/measure.sh"
@@ -14,7 +15,7 @@ for name in "${names[@]}"; do
     rm -f "$work"/*
     mined=$(wc -l <"$name.sol")
     for edit in 1 2 3 4; do
-        awk -v last=$((mined - (edit - 1) * count)) -v count="$count" 'NR <= last - count || NR > last' "$name.sol" >"$work/edit.$edit"
+        awk -v first=$(((edit - 1) * count)) -v count="$count" 'NR <= first || NR > first + count' "$name.sol" >"$work/edit.$edit"
     done
     for round in 1 2 3 4 5; do
         # shellcheck disable=SC2016
