@@ -4,8 +4,8 @@ ghost use Rattle.std.specs.Prelude.{◌≡◌, ◌++◌, ◌∷◌, [], None, So
 use crate::changes::Changes;
 use crate::front::Front;
 use crate::session::Session;
-use std::alloc::Allocator;
-use std::marker::Model;
+use std::alloc::{Allocator, Global};
+use std::marker::{Brand, Model};
 
 /// A commit that stands in the list: its changes, and the fronts before it and with it. Contracts see both fronts.
 #[derive(Drop)]
@@ -53,6 +53,9 @@ impl<S: Session, A: Allocator + Copy + Drop> Model for Operation<S, A> {
 
     ghost view = { λ o. o.stamp };
 }
+
+// The queue in which the writer keeps operations makes its first room for four where each takes at most so many bytes.
+const _: () = prove!(size_of::<Operation<Brand, Global>>() <= 1024);
 
 impl<S: Session, A: Allocator + Copy + Drop> Operation<S, A> {
     pub(crate) fn nothing() -> Operation<S, A>
