@@ -1146,6 +1146,29 @@ status=$?
 compare 'replay of planners who were not all started' 0 "legal $(($(wc -l <stopped) - 1)) $(($(wc -l <stopped) - 1))
 value 4.545454545455000000" ''
 
+# Eight planners want one block, and no try is repeated: each refusal names that block, and a commit that was made.
+scripts=()
+for i in {1..8}; do
+    awk -v first="$i" 'BEGIN { for (j = 0; j < 300; j++) printf "begin\nread 0\nput 0 %d\ncommit\n", (first + j) % 2 }' >"hot.$i"
+    scripts+=("hot.$i")
+done
+"$pit" plan --retries 0 model precedence "${scripts[@]}" >out 2>err
+status=$?
+[ $status -eq 1 ] && status=0
+awk '
+    $1 == "planner" && $3 == "job" && $5 == "committed" && $7 " " $8 == "tries 1" { made[$6]++; commits++; next }
+    $1 == "planner" && $3 == "job" && $5 " " $6 " " $7 == "refused moved 0" && $9 " " $10 == "tries 1" { met[$8]; refused++; next }
+    $1 == "value" || $1 == "short" { next }
+    { other = 1 }
+    END {
+        for (n = 1; n <= commits; n++) if (made[n] != 1) other = 1
+        for (n in met) if (!(n in made)) other = 1
+        exit !(commits + refused == 2400 && !other)
+    }' err || status=lacking
+: >err
+: >out
+compare 'plan, eight planners who want one block' 0 '' ''
+
 if [ "$failures" -ne 0 ]; then
     echo "$failures failed"
     exit 1
