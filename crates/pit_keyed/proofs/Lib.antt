@@ -1,4 +1,3 @@
 pub mod Absent
-pub mod Placed
 mod Filters
 pub mod CallerLemmas

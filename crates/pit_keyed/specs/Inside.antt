@@ -1,3 +1,2 @@
 -- Definitions that no public contract cites.
 pub mod Filter
-pub mod Kept

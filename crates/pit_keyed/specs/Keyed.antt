@@ -1,7 +1,7 @@
 -- Keys, each with a value, in the order of first use, and when a further one may want memory.
-use Rattle.std.specs.Prelude.{◌≡◌, ◌≢◌, ◌++◌, List, [], ◌∷◌, Bool, Option, None, is_some, if◌then◌else◌}
+use Rattle.std.specs.Prelude.{◌≡◌, ◌≢◌, ◌+◌, ◌≤◌, ◌++◌, List, [], ◌∷◌, length, Bool, Option, None, is_some, if◌then◌else◌}
 use Rattle.std.specs.Map.{lookup}
-use Rattle.indexmap.specs.IndexMap.{insert_entry}
+use Rattle.indexmap.specs.IndexMap.{IndexMap, insert_entry, spare}
 
 module _ {K V : Type 0} (eq : K → K → Bool) where
   -- the value at a key, if it is there
@@ -20,3 +20,7 @@ module _ {K V : Type 0} (eq : K → K → Bool) where
 pub record IsFurther {K V : Type 0} (eq : K → K → Bool) (pairs : List (K × V)) (key : K) : Type 0 where
   pub others : pairs ≢ []
   pub absent : at_key eq pairs key ≡ None
+
+-- a map has entries, or there is room for one
+abbrev pub HasFirstRoom : {K V S : Type 0} → IndexMap K V S → Type 0
+HasFirstRoom map = 1 ≤ length map.entries + spare map

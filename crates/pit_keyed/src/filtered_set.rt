@@ -1,18 +1,20 @@
-//! Sets of numbers, each with a value, for callers who mostly look for numbers that aren't there.
+//! Maps of numbers, for callers who mostly look for numbers that aren't there.
 ghost use Rattle.std.specs.Prelude.{◌≡◌, ◌≤◌, [], ◌∷◌, ◌++◌, None, nat_eq, OnOk, OnErr, IfOk};
 ghost use Rattle.pit_keyed.specs.Keyed.{IsFurther, at_key, with_read};
 
-use crate::keyed_set::KeyedSet;
+use crate::inserting::insert;
+use indexmap::IndexMap;
 use pit_num::{NoMemory, has_bit, with_bit};
 use std::alloc::Allocator;
+use std::hash::{BuildHasherDefault, FoldHasher};
 use std::marker::Model;
 
-/// A `KeyedSet` of numbers with a filter (Bloom 1970) of two words: for each number `n` that is there bit `n % 64` of the one is set, and bit
-/// `n / 64 % 64` of the other. So a number needs a search only where both its bits are set.
+/// An `IndexMap` of numbers with a filter (Bloom 1970) of two words: for each number `n` that is there bit `n % 64` of the one is set, and bit
+/// `n / 64 % 64` of the other. So a number is looked for only where both its bits are set.
 /// Contracts see it as the list of its pairs.
 #[derive(Drop)]
 pub struct FilteredSet<V: Copy, A: Allocator + Copy + Drop> {
-    set: KeyedSet<u32, V, A>,
+    map: IndexMap<u32, V, BuildHasherDefault<FoldHasher>, A>,
     low: u64,
     high: u64,
 }
@@ -22,46 +24,39 @@ impl<V: Copy, A: Allocator + Copy + Drop> Model for FilteredSet<V, A> {
 
     ghost Value = { List (ℕ × V) };
 
+    ghost use Rattle.pit_keyed.specs.Keyed.{HasFirstRoom};
     ghost use Rattle.pit_keyed.specs.Inside.Filter.{AreFiltersOf};
 
-    ghost view = { λ s. s.set };
+    ghost view = { λ s. s.map.entries };
 
-    ghost invariant = { λ s. AreFiltersOf s.set s.low s.high };
+    ghost invariant = { λ s. HasFirstRoom s.map × AreFiltersOf s.map.entries s.low s.high };
 }
 
 impl<V: Copy, A: Allocator + Copy + Drop> FilteredSet<V, A> {
-    /// An empty set with room for so many pairs. Takes memory once, for these.
+    /// An empty set with room for so many pairs. Takes memory for these alone.
     pub fn new(alloc: A, room: usize) -> Result<Self, NoMemory>
         requires { 1 ≤ room }
         ensures { IfOk result (λ set. set ≡ []) }
     {
         Ok(FilteredSet {
-            set: KeyedSet::new(alloc, room)?,
+            map: IndexMap::with_capacity(alloc, room)?,
             low: 0,
             high: 0,
         })
     }
 
     /// The pairs, in their order.
-    pub fn pairs(&self) -> &[(u32, V)]
-        ensures { result.now ≡ self.now }
+    pub fn map(&self) -> &IndexMap<u32, V, BuildHasherDefault<FoldHasher>, A>
+        ensures { result.now.entries ≡ self.now }
     {
-        self.set.pairs()
-    }
-
-    /// The pairs, in their order. Takes no memory.
-    pub fn into_pairs(self) -> Vec<(u32, V), A>
-        ensures { result.items ≡ self }
-    {
-        let FilteredSet { set, .. } = self;
-        set.into_pairs()
+        &self.map
     }
 
     /// Takes all pairs out. Their room stays. Takes no memory.
     pub fn clear(&mut self)
         ensures { self.new ≡ [] }
     {
-        self.set.clear();
+        self.map.clear();
         self.low = 0;
         self.high = 0;
     }
@@ -76,7 +71,10 @@ impl<V: Copy, A: Allocator + Copy + Drop> FilteredSet<V, A> {
         if !has_bit(self.high, key / 64 % 64) {
             return None;
         }
-        self.set.get(key)
+        match self.map.get(&key) {
+            Some(value) => Some(*value),
+            None => None,
+        }
     }
 
     /// Notes a number with a value, unless the number is there.
@@ -98,7 +96,7 @@ impl<V: Copy, A: Allocator + Copy + Drop> FilteredSet<V, A> {
         ensures err { OnErr result (self.new ≡ self.old) }
         ensures memory { OnErr result (IsFurther nat_eq self.old key) }
     {
-        self.set.add(key, value)?;
+        insert(&mut self.map, key, value)?;
         self.low = with_bit(self.low, key % 64);
         self.high = with_bit(self.high, key / 64 % 64);
         Ok(())

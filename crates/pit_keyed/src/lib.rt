@@ -1,12 +1,11 @@
-//! Sets of keys, each with a value, in the order of first use.
+//! Maps whose room for a first key is there, and one of numbers behind a filter.
 //!
-//! A `KeyedSet` promises the exact list of its pairs after each call, and that no key stands twice. While it has few keys these are searched one
-//! after another; a table of their places is made, and takes memory, once there are more. A `FilteredSet` is one of numbers, for callers who
-//! mostly look for numbers that aren't there.
+//! `insert` puts a key into an `IndexMap` and tells when that may want memory: a first key has its room from the start. A `FilteredSet` is a map
+//! of numbers for callers who mostly look for numbers that aren't there.
 #![tactic(auto)]
 
 mod filtered_set;
-mod keyed_set;
+mod inserting;
 
 pub use filtered_set::FilteredSet;
-pub use keyed_set::KeyedSet;
+pub use inserting::insert;

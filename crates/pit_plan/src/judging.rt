@@ -1,5 +1,6 @@
 //! The first breach that a schedule would have after writes and revisions, found where these touch it.
-ghost use Rattle.std.specs.Prelude.{◌≡◌, ◌≢◌, ℕ, ◌+◌, ◌*◌, ◌<◌, ◌⊎◌, None, pos, [], length, slice_index_or, IfNone, IfOk, IfErr, IfSome, All};
+ghost use Rattle.std.specs.Prelude.{◌≡◌, ◌≢◌, ℕ, ◌+◌, ◌*◌, ◌<◌, ◌⊎◌, None, pos, [], length, nat_eq, slice_index_or, IfNone, IfOk, IfErr, IfSome, All};
+ghost use Rattle.std.specs.Map.{lookup};
 ghost use Rattle.pit_model.specs.Fitting.{Fits, RevisionsFit, revisions_of};
 ghost use Rattle.pit_num.specs.Least.{ComesBefore, IsLeast};
 ghost use Rattle.pit_model.specs.Pit.{cell_of};
@@ -13,10 +14,9 @@ ghost use Rattle.pit_plan.specs.Inside.Touched.{overlaid_item, lesser_of, IsOutN
 use crate::breach::Breach;
 use crate::limits::Limits;
 use crate::moving::{look_at_revised, moved_loads};
-use crate::overlay::{FEW, Few, One, Overlay, revised, written};
+use crate::overlay::{FEW, Few, One, Overlay, Pairs, revised, written};
 use crate::schedule::{Schedule, first_late, keeps_order};
 use crate::tally::Tally;
-use pit_keyed::KeyedSet;
 use pit_model::Instance;
 use pit_num::NoMemory;
 use std::alloc::Allocator;
@@ -162,16 +162,16 @@ fn lesser(one: Option<(u32, u32)>, other: Option<(u32, u32)>) -> Option<(u32, u3
 fn first_over_after<L: Limits, A: Allocator + Copy + Drop>(
     pit: &Instance<A>,
     limits: &L,
-    cells: &KeyedSet<u32, i128, A>,
+    cells: &Pairs<i128, A>,
 ) -> Option<Breach>
     requires limits { L.cells limits.now ≡ pit.now.periods * pit.now.resources }
-    requires cells { (cell : ℕ) → IsNamed cells.now cell → cell < pit.now.periods * pit.now.resources }
-    ensures none { IfNone result (IsLeast ComesBefore (IsOverAt pit.now (at_cell pit.now (L.limit_in limits.now)) cells.now) None) }
-    ensures some { IfSome result (IsLeastOver pit.now (at_cell pit.now (L.limit_in limits.now)) cells.now) }
+    requires cells { (cell : ℕ) → IsNamed cells.now.entries cell → cell < pit.now.periods * pit.now.resources }
+    ensures none { IfNone result (IsLeast ComesBefore (IsOverAt pit.now (at_cell pit.now (L.limit_in limits.now)) cells.now.entries) None) }
+    ensures some { IfSome result (IsLeastOver pit.now (at_cell pit.now (L.limit_in limits.now)) cells.now.entries) }
 {
     let (period, resource) = least_over(pit, limits, cells)?;
     let cell = pit.cell(resource, period);
-    let load = cells.get(cell)?;
+    let load = load_in(cells, cell)?;
     let limit = limits.limit(cell)?;
     Some(Breach::Over {
         resource,
@@ -185,14 +185,14 @@ fn first_over_after<L: Limits, A: Allocator + Copy + Drop>(
 fn least_over<L: Limits, A: Allocator + Copy + Drop>(
     pit: &Instance<A>,
     limits: &L,
-    cells: &KeyedSet<u32, i128, A>,
+    cells: &Pairs<i128, A>,
 ) -> Option<(u32, u32)>
     requires limits { L.cells limits.now ≡ pit.now.periods * pit.now.resources }
-    requires cells { (cell : ℕ) → IsNamed cells.now cell → cell < pit.now.periods * pit.now.resources }
-    ensures { IsLeast ComesBefore (IsOverAt pit.now (at_cell pit.now (L.limit_in limits.now)) cells.now) result }
+    requires cells { (cell : ℕ) → IsNamed cells.now.entries cell → cell < pit.now.periods * pit.now.resources }
+    ensures { IsLeast ComesBefore (IsOverAt pit.now (at_cell pit.now (L.limit_in limits.now)) cells.now.entries) result }
 {
     let mut least: Option<(u32, u32)> = None;
-    for i in 0..cells.pairs().len() {
+    for i in 0..cells.len() {
         least = lesser(least, over_at(pit, limits, cells, i));
     }
     least
@@ -202,20 +202,38 @@ fn least_over<L: Limits, A: Allocator + Copy + Drop>(
 fn over_at<L: Limits, A: Allocator + Copy + Drop>(
     pit: &Instance<A>,
     limits: &L,
-    cells: &KeyedSet<u32, i128, A>,
+    cells: &Pairs<i128, A>,
     i: usize,
 ) -> Option<(u32, u32)>
     requires limits { L.cells limits.now ≡ pit.now.periods * pit.now.resources }
-    requires within { i < length cells.now }
-    requires cells { (cell : ℕ) → IsNamed cells.now cell → cell < pit.now.periods * pit.now.resources }
-    ensures { IsLeast ComesBefore (λ p. IsOverAt pit.now (at_cell pit.now (L.limit_in limits.now)) cells.now p
-        × (cell_of pit.now p.1 p.0 ≡ (slice_index_or cells.now i (0, pos 0)).0)) result }
+    requires within { i < length cells.now.entries }
+    requires cells { (cell : ℕ) → IsNamed cells.now.entries cell → cell < pit.now.periods * pit.now.resources }
+    ensures { IsLeast ComesBefore (λ p. IsOverAt pit.now (at_cell pit.now (L.limit_in limits.now)) cells.now.entries p
+        × (cell_of pit.now p.1 p.0 ≡ (slice_index_or cells.now.entries i (0, pos 0)).0)) result }
 {
-    let (cell, _) = cells.pairs()[i];
-    let load = cells.get(cell)?;
+    let cell = cell_at(cells, i);
+    let load = load_in(cells, cell)?;
     let limit = limits.limit(cell)?;
     if load <= i128::from(limit) {
         return None;
     }
     Some((cell / pit.resources(), cell % pit.resources()))
+}
+
+/// The load of a cell that is there.
+fn load_in<A: Allocator + Copy + Drop>(cells: &Pairs<i128, A>, cell: u32) -> Option<i128>
+    ensures { result ≡ lookup (nat_eq cell) cells.now.entries }
+{
+    cells.get(&cell).copied()
+}
+
+/// The cell at this place.
+fn cell_at<A: Allocator + Copy + Drop>(cells: &Pairs<i128, A>, i: usize) -> u32
+    requires { i < length cells.now.entries }
+    ensures { result ≡ (slice_index_or cells.now.entries i (0, pos 0)).0 }
+{
+    match cells.get_index(i) {
+        Some((cell, _)) => *cell,
+        None => 0,
+    }
 }

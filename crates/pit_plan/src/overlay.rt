@@ -16,7 +16,7 @@ use std::alloc::Allocator;
 use std::hash::{BuildHasherDefault, FoldHasher};
 
 /// Pairs, each of a number and what is said of it.
-type Pairs<X, A> = IndexMap<u32, X, BuildHasherDefault<FoldHasher>, A>;
+pub(crate) type Pairs<X, A> = IndexMap<u32, X, BuildHasherDefault<FoldHasher>, A>;
 
 /// What is kept of each number, with pairs laid over it.
 #[derive(Drop)]

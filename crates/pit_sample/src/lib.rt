@@ -1,5 +1,5 @@
 //! For tests: the small pit as facts and as texts, histories of it, a large one, numbers that look random and pits that are drawn by them, devices
-//! that fail, and runs of which each request for memory is refused in turn.
+//! that fail, maps beside pairs, and runs of which each request for memory is refused in turn.
 //!
 //! The small pit, Tiny, has four blocks, two periods, one resource and a rate of 0.1. Block 1 comes after block 0, and block 2 after
 //! both; at most 4 may be loaded in a period, and at least 1 in period 1. The same facts stand here as calls of a builder and as texts.
@@ -13,6 +13,7 @@ mod large;
 mod limits;
 mod narrow;
 mod offset;
+mod pairs;
 mod random;
 mod series;
 mod size;
@@ -27,6 +28,7 @@ pub use large::{LARGE_SIZE, large_facts, large_schedule};
 pub use limits::{limit_in, lower_in};
 pub use narrow::Narrow;
 pub use offset::{OFFSET, OFFSET_SIZE};
+pub use pairs::{has_pairs, pair_at};
 pub use random::random_facts;
 pub use series::Series;
 pub use size::Size;

@@ -21,7 +21,7 @@ use crate::planner::Planner;
 use pit_board::Session;
 use pit_desk::{Reply, Stop};
 use pit_num::NoMemory;
-use pit_tx::{Work, WorkError};
+use pit_tx::{LimitMap, PeriodMap, Work, WorkError};
 use std::alloc::Allocator;
 use std::marker::Model;
 use std::sync::{Mutex, Wait};
@@ -72,24 +72,24 @@ impl<'a, S: Session, R: Wait + Drop, A: Allocator + Copy + Drop> Transaction<'a,
     }
 
     /// The read set: each block with what it held at the start.
-    pub fn reads(&self) -> &[(u32, Option<u32>)]
-        ensures pairs { result.now ≡ self.now.work.reads }
+    pub fn reads(&self) -> &PeriodMap<A>
+        ensures pairs { result.now.entries ≡ self.now.work.reads }
         ensures fit { Fits S.instance.blocks S.instance.periods self.now.work.reads }
     {
         self.work.reads()
     }
 
     /// The write set: each block with what it was last given.
-    pub fn writes(&self) -> &[(u32, Option<u32>)]
-        ensures pairs { result.now ≡ self.now.work.writes }
+    pub fn writes(&self) -> &PeriodMap<A>
+        ensures pairs { result.now.entries ≡ self.now.work.writes }
         ensures fit { Fits S.instance.blocks S.instance.periods self.now.work.writes }
     {
         self.work.writes()
     }
 
     /// The revisions: each pair of a resource and a period with the upper limit, in millionths, that it was last given.
-    pub fn revises(&self) -> &[((u32, u32), Option<i64>)]
-        ensures pairs { result.now ≡ self.now.work.revises }
+    pub fn revises(&self) -> &LimitMap<A>
+        ensures pairs { result.now.entries ≡ self.now.work.revises }
         ensures fit { RevisionsFit S.instance.resources S.instance.periods self.now.work.revises }
     {
         self.work.revises()
@@ -194,8 +194,7 @@ impl<'a, S: Session, R: Wait + Drop, A: Allocator + Copy + Drop> Transaction<'a,
         }
     }
 
-    /// Gives it up. Makes no entry and no item, takes no memory, and waits for nobody. Small sets leave their memory to the planner's next
-    /// transaction; larger ones are freed.
+    /// Gives it up. Makes no entry and no item, takes no memory, and waits for nobody.
     pub fn abandon(self) -> Planner<'a, S, R, A>
         ensures { result ≡ self.entry.planner }
     {

@@ -7,14 +7,22 @@ ghost use Rattle.pit_tx.specs.Refusals.{refusal_of, revision_refusal_of};
 ghost use Rattle.pit_tx.specs.Sets.{known_of, AreSound};
 
 use crate::error::WorkError;
-use pit_keyed::{FilteredSet, KeyedSet};
+use indexmap::IndexMap;
+use pit_keyed::{FilteredSet, insert};
 use pit_model::{BLOCKS_MAX, RESOURCES_MAX};
 use pit_num::{NoMemory, PERIODS_MAX};
 use std::alloc::Allocator;
+use std::hash::{BuildHasherDefault, FoldHasher};
 use std::marker::Model;
 
 /// So many pairs of each set have room from the start.
 const FIRST_ROOM: usize = 2;
+
+/// Blocks, each with a period or none.
+pub type PeriodMap<A> = IndexMap<u32, Option<u32>, BuildHasherDefault<FoldHasher>, A>;
+
+/// Resources in periods, each with an upper limit in millionths, or none.
+pub type LimitMap<A> = IndexMap<(u32, u32), Option<i64>, BuildHasherDefault<FoldHasher>, A>;
 
 /// The reads and the writes of a transaction, each a block with a period or none, and the upper limits that it revises, in the order
 /// of first use. A transaction is what one planner does for one of its jobs, after so many commits. Only `new`, `with_room`, `note`,
@@ -28,11 +36,12 @@ pub struct Work<A: Allocator + Copy + Drop> {
     periods: u32,
     resources: u32,
     reads: FilteredSet<Option<u32>, A>,
-    writes: KeyedSet<u32, Option<u32>, A>,
-    revises: KeyedSet<(u32, u32), Option<i64>, A>,
+    writes: PeriodMap<A>,
+    revises: LimitMap<A>,
 }
 
 impl<A: Allocator + Copy + Drop> Model for Work<A> {
+    ghost use Rattle.pit_keyed.specs.Keyed.{HasFirstRoom};
     ghost use Rattle.pit_tx.specs.Sets.{Sets, AreSound};
 
     ghost Value = { Sets };
@@ -45,8 +54,8 @@ impl<A: Allocator + Copy + Drop> Model for Work<A> {
       periods = w.periods;
       resources = w.resources;
       reads = w.reads;
-      writes = w.writes;
-      revises = w.revises;
+      writes = w.writes.entries;
+      revises = w.revises.entries;
     } };
 
     ghost invariant = { λ w. AreSound (record {
@@ -57,9 +66,9 @@ impl<A: Allocator + Copy + Drop> Model for Work<A> {
       periods = w.periods;
       resources = w.resources;
       reads = w.reads;
-      writes = w.writes;
-      revises = w.revises;
-    }) };
+      writes = w.writes.entries;
+      revises = w.revises.entries;
+    }) × HasFirstRoom w.writes × HasFirstRoom w.revises };
 }
 
 impl<A: Allocator + Copy + Drop> Work<A> {
@@ -125,8 +134,8 @@ impl<A: Allocator + Copy + Drop> Work<A> {
         }) }
     {
         let reads = FilteredSet::new(alloc, room)?;
-        let writes = KeyedSet::new(alloc, FIRST_ROOM)?;
-        let revises = KeyedSet::new(alloc, FIRST_ROOM)?;
+        let writes = IndexMap::with_capacity(alloc, FIRST_ROOM)?;
+        let revises = IndexMap::with_capacity(alloc, FIRST_ROOM)?;
         Ok(Work {
             planner,
             job,
@@ -245,8 +254,8 @@ impl<A: Allocator + Copy + Drop> Work<A> {
     pub fn known(&self, b: u32) -> Option<Option<u32>>
         ensures { result ≡ known_of self.now b }
     {
-        match self.writes.get(b) {
-            Some(period) => Some(period),
+        match self.writes.get(&b) {
+            Some(period) => Some(*period),
             None => self.reads.get(b),
         }
     }
@@ -313,43 +322,34 @@ impl<A: Allocator + Copy + Drop> Work<A> {
         if let Some(error) = self.revision_refusal(r, t) {
             return Err(error);
         }
-        match self.revises.write((r, t), upper) {
+        match insert(&mut self.revises, (r, t), upper) {
             Ok(()) => Ok(()),
             Err(_) => Err(WorkError::NoMemory),
         }
     }
 
     /// The read set: each block with what it was first seen to have.
-    pub fn reads(&self) -> &[(u32, Option<u32>)]
-        ensures pairs { result.now ≡ self.now.reads }
+    pub fn reads(&self) -> &PeriodMap<A>
+        ensures pairs { result.now.entries ≡ self.now.reads }
         ensures fit { Fits self.now.blocks self.now.periods self.now.reads }
     {
-        self.reads.pairs()
+        self.reads.map()
     }
 
     /// The write set: each block with what it was last given.
-    pub fn writes(&self) -> &[(u32, Option<u32>)]
-        ensures pairs { result.now ≡ self.now.writes }
+    pub fn writes(&self) -> &PeriodMap<A>
+        ensures pairs { result.now.entries ≡ self.now.writes }
         ensures fit { Fits self.now.blocks self.now.periods self.now.writes }
     {
-        self.writes.pairs()
+        &self.writes
     }
 
     /// The revisions: each pair of a resource and a period with the upper limit that it was last given.
-    pub fn revises(&self) -> &[((u32, u32), Option<i64>)]
-        ensures pairs { result.now ≡ self.now.revises }
+    pub fn revises(&self) -> &LimitMap<A>
+        ensures pairs { result.now.entries ≡ self.now.revises }
         ensures fit { RevisionsFit self.now.resources self.now.periods self.now.revises }
     {
-        self.revises.pairs()
-    }
-
-    /// The read set and the write set. Takes no memory.
-    pub fn into_pairs(self) -> (Vec<(u32, Option<u32>), A>, Vec<(u32, Option<u32>), A>)
-        ensures reads { result.0.items ≡ self.reads }
-        ensures writes { result.1.items ≡ self.writes }
-    {
-        let Work { reads, writes, .. } = self;
-        (reads.into_pairs(), writes.into_pairs())
+        &self.revises
     }
 
     /// Writes a block with a period or none.
@@ -362,7 +362,7 @@ impl<A: Allocator + Copy + Drop> Work<A> {
         if let Some(error) = self.refusal(b, period) {
             return Err(error);
         }
-        match self.writes.write(b, period) {
+        match insert(&mut self.writes, b, period) {
             Ok(()) => Ok(()),
             Err(_) => Err(WorkError::NoMemory),
         }

@@ -5,8 +5,8 @@ use pit_desk::{Act, Desk, Entry, EntryReply, Refusal, Stop, entry_reply_of};
 use pit_model::{BLOCKS_MAX, RESOURCES_MAX};
 use pit_num::PERIODS_MAX;
 use pit_plan::Breach;
-use pit_sample::Size;
-use pit_tx::{Work, WorkError};
+use pit_sample::{Size, has_pairs};
+use pit_tx::{LimitMap, Work, WorkError};
 use std::alloc::Allocator;
 use std::process::Abort;
 
@@ -168,9 +168,9 @@ pub(super) fn work_of<A: Allocator + Copy + Drop>(
 }
 
 /// Whether a set has these revisions, in this order.
-fn has_revisions(set: &[((u32, u32), Option<i64>)], revises: &[Revision]) -> bool {
+fn has_revisions<A: Allocator + Copy + Drop>(set: &LimitMap<A>, revises: &[Revision]) -> bool {
     let mut at: usize = 0;
-    for (pair, upper) in set {
+    for (pair, upper) in set.iter() {
         if revises.get(at) != Some(&(pair.0, pair.1, *upper)) {
             return false;
         }
@@ -183,8 +183,8 @@ fn has_revisions(set: &[((u32, u32), Option<i64>)], revises: &[Revision]) -> boo
 pub(super) fn is_work<A: Allocator + Copy + Drop>(work: &Work<A>, call: Call<'_>) -> bool {
     let (_, start, reads, writes, revises) = parts(call);
     (work.planner(), work.job(), work.start()) == (2, 7, start)
-        && work.reads() == reads
-        && work.writes() == writes
+        && has_pairs(work.reads(), reads)
+        && has_pairs(work.writes(), writes)
         && has_revisions(work.revises(), revises)
 }
 

@@ -4,8 +4,8 @@ use super::{BYTES, Pair, Run, assert_refused, refuse_each};
 use pit_model::{BLOCKS_MAX, RESOURCES_MAX};
 use pit_num::PERIODS_MAX;
 use pit_refuse::Refusing;
-use pit_sample::{Heap, Size, TINY_SIZE};
-use pit_tx::{Work, WorkError};
+use pit_sample::{Heap, Size, TINY_SIZE, has_pairs};
+use pit_tx::{LimitMap, PeriodMap, Work, WorkError};
 use std::alloc::{Allocator, Global};
 use std::process::Abort;
 
@@ -131,11 +131,6 @@ fn keeps_first_reads_and_last_writes_and_revisions(rt: HostRuntime) {
     drop(work);
 }
 
-/// Whether a set has these pairs, in this order.
-pub(super) fn has_pairs<T: Eq>(set: &[T], pairs: &[T]) -> bool {
-    set == pairs
-}
-
 /// Makes a change, and tells whether it is answered so and leaves these sets.
 fn is_step(work: &mut Work<Global>, step: &Step) -> bool {
     let (change, answer, known, reads, writes, revises) = step;
@@ -207,9 +202,9 @@ fn period_of(kind: u32, b: u32) -> Option<u32> {
 }
 
 /// Whether the set has the blocks below `count` alone, in order, each with its period.
-fn has_all(set: &[Pair], kind: u32, count: u32) -> bool {
+fn has_all<A: Allocator + Copy + Drop>(set: &PeriodMap<A>, kind: u32, count: u32) -> bool {
     let mut next: u32 = 0;
-    for (b, period) in set {
+    for (b, period) in set.iter() {
         if *b != next || *period != period_of(kind, next) {
             return false;
         }
@@ -219,9 +214,9 @@ fn has_all(set: &[Pair], kind: u32, count: u32) -> bool {
 }
 
 /// Whether the set has the revisions below number `count` alone, in order.
-fn has_revised(set: &[Revision], count: u32) -> bool {
+fn has_revised<A: Allocator + Copy + Drop>(set: &LimitMap<A>, count: u32) -> bool {
     let mut next: u32 = 0;
-    for (pair, upper) in set {
+    for (pair, upper) in set.iter() {
         if *pair != (next % 2, next / 2) || *upper != limit_of(next) {
             return false;
         }
@@ -314,10 +309,7 @@ fn fill<A: Allocator + Copy + Drop>(
     assert_read(rt, heap, work, kind);
 }
 
-/// Up to so many pairs a set has no table, so a work that was emptied asks for no memory for them.
-const FEW: u32 = 32;
-
-/// Empties the sets, and makes changes in the memory that these had.
+/// Empties the sets, and makes as many changes in the memory that these had.
 fn fill_again<A: Allocator + Copy + Drop>(
     rt: &impl Abort,
     heap: Heap<'_>,
@@ -327,10 +319,10 @@ fn fill_again<A: Allocator + Copy + Drop>(
     let before = heap.count();
     let mut work = work.emptied(1, 2, 0, COUNT, PERIODS, 2);
     assert!(rt; of(&work) == (1, 2, 0) && is_filled(&work, kind, 0));
-    for b in 0..FEW {
+    for b in 0..COUNT {
         assert!(rt; answer_of(&mut work, further(kind, b)) == Ok(()));
     }
-    assert!(rt; is_filled(&work, kind, FEW) && heap.count() == before);
+    assert!(rt; is_filled(&work, kind, COUNT) && heap.count() == before);
     drop(work);
 }
 

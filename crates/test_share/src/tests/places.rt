@@ -1,12 +1,15 @@
 //! Where a planner is: in a transaction, or between two.
 use super::playing::Stage;
 use super::steps::{Answer, Doing, Pair, Revision, Step};
+use indexmap::IndexMap;
 use pit_board::Session;
 use pit_desk::{EntryReply, Stop, entry_reply_of};
 use pit_refuse::Count;
+use pit_sample::{has_pairs, pair_at};
 use pit_share::{Planner, ReadStop, Transaction};
 use pit_tx::WorkError;
 use std::alloc::Allocator;
+use std::hash::{BuildHasher, Hash};
 use std::process::Abort;
 use std::sync::Wait;
 
@@ -68,12 +71,14 @@ type Seen = (usize, Result<Sets, u32>);
 /// The first four of a list. The small pit has room for no more.
 type Four<T> = (Option<T>, Option<T>, Option<T>, Option<T>);
 
-fn four_of<T: Copy>(set: &[T]) -> Four<T> {
+fn four_of<K: Eq + Hash + Copy, V: Copy, S: BuildHasher, A: Allocator>(
+    map: &IndexMap<K, V, S, A>,
+) -> Four<(K, V)> {
     (
-        set.get(0).copied(),
-        set.get(1).copied(),
-        set.get(2).copied(),
-        set.get(3).copied(),
+        pair_at(map, 0),
+        pair_at(map, 1),
+        pair_at(map, 2),
+        pair_at(map, 3),
     )
 }
 
@@ -195,7 +200,7 @@ fn has<'a, S: Session, R: Wait + Drop, A: Allocator + Copy + Drop>(
     writes: &[Pair],
     revises: &[Revision],
 ) -> bool {
-    transaction.reads() == reads
-        && transaction.writes() == writes
-        && transaction.revises() == revises
+    has_pairs(transaction.reads(), reads)
+        && has_pairs(transaction.writes(), writes)
+        && has_pairs(transaction.revises(), revises)
 }

@@ -11,6 +11,7 @@ use pit_run::{
     Gate, InTurnError, Open, Outcome, PlannerRun, Report, RunEnd, RunError, Script, ScriptCause,
     run, run_in_turn,
 };
+use pit_sample::has_pairs;
 use pit_share::{
     Blank, CloseError, OpenError, Planner, PlannerLog, ReadStop, Seat, Session, Transaction,
     Workspace,
@@ -155,8 +156,8 @@ fn is_filled<S: Session, R: Wait + Drop>(transaction: &mut Transaction<'_, S, R,
     transaction.put(4, 0) == Err(WorkError::NoBlock)
         && transaction.put(2, 1) == Ok(())
         && transaction.clear(3) == Ok(())
-        && transaction.reads() == [(3, Some(1))].as_slice()
-        && transaction.writes() == [(2, Some(1)), (3, None)].as_slice()
+        && has_pairs(transaction.reads(), &[(3, Some(1))])
+        && has_pairs(transaction.writes(), &[(2, Some(1)), (3, None)])
 }
 
 /// Planner 1 can't read block 3 any more, and withdraws.

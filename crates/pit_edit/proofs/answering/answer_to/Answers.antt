@@ -29,7 +29,7 @@ commit-requires-clause-fits g c = record {
 
 pub returns-clause-answer : goal.returns-clause-answer
 returns-clause-answer g c =
-    let some : 1 ≤ length c.args.kept.now = search rules in
+    let some : 1 ≤ length c.args.kept.now = search (rules, c.if-is_empty.ensures) in
     IfOk-weaker c.commit.result _ _
     (λ answer is.
     answered c.args.desk.now.plan.pit c.args.desk.now.history c.args.edit.now c.args.kept.now c.commit.new.desk.history answer some

@@ -10,11 +10,11 @@ pub loop-i-preserved : goal.loop-i-preserved
 loop-i-preserved g c =
     let pit = c.args.pit.now in
     let lim = at_cell pit (g.L.Limits.limit_in c.args.limits.now) in
-    let cells = c.args.cells.now in
+    let cells = c.args.cells.now.entries in
     subst (IsLeast ComesBefore (λ p. IsOverAt pit lim cells p × IsNamed (take (c.loop-i.i + 1) cells) (cell_of pit p.1 p.0))) (sym c.lesser-least.ensures)
-    (over-next-cell pit lim cells c.loop-i.i c.loop-i.least c.over_at.result (omega (arith, c.loop-i-test.true, ap length c.pairs-i-end.ensures)) c.loop-i.invariant c.over_at.ensures)
+    (over-next-cell pit lim cells c.loop-i.i c.loop-i.least c.over_at.result (omega (arith, c.loop-i-test.true, c.len-i-end.ensures)) c.loop-i.invariant c.over_at.ensures)
 
 pub returns : goal.returns
 returns g c =
     let pit = c.args.pit.now in
-    over-all-cells pit (at_cell pit (g.L.Limits.limit_in c.args.limits.now)) c.args.cells.now c.loop-i.i c.loop-i.least (omega (arith, c.loop-i-test.false, ap length c.pairs-i-end.ensures)) c.loop-i.invariant
+    over-all-cells pit (at_cell pit (g.L.Limits.limit_in c.args.limits.now)) c.args.cells.now.entries c.loop-i.i c.loop-i.least (omega (arith, c.loop-i-test.false, c.len-i-end.ensures)) c.loop-i.invariant

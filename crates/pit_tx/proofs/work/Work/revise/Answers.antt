@@ -7,14 +7,17 @@ use Rattle.pit_tx.proofs.work.Work.revise.Goals as goal
 pub invariant_of-self : goal.invariant_of-self
 invariant_of-self g c =
     let w = c.self.inside in
-    let key : ℕ × ℕ = (c.args.r, c.args.t) in
-    record {
-      blocks = c.self.invariant.blocks;
-      periods = c.self.invariant.periods;
-      resources = c.self.invariant.resources;
-      reads = c.self.invariant.reads;
-      writes = c.self.invariant.writes;
-      revises = kept_after (RevisionsFit w.resources w.periods) c.write.result w.revises (with_write pair_eq w.revises key c.args.upper) c.write.new.self c.write.ensures.ok
-          c.write.ensures.err c.self.invariant.revises
-          (RevisionsFit-insert_entry w.resources w.periods w.revises key c.args.upper (search rules) c.self.invariant.revises);
-    }
+    let key : ℕ × ℕ = (c.args.r, c.args.t) in (
+      record {
+        blocks = c.self.invariant.0.blocks;
+        periods = c.self.invariant.0.periods;
+        resources = c.self.invariant.0.resources;
+        reads = c.self.invariant.0.reads;
+        writes = c.self.invariant.0.writes;
+        revises = kept_after (RevisionsFit w.resources w.periods) c.insert.result w.revises.entries (with_write pair_eq w.revises.entries key c.args.upper) c.insert.new.map.entries c.insert.ensures.ok
+            c.insert.ensures.err c.self.invariant.0.revises
+            (RevisionsFit-insert_entry w.resources w.periods w.revises.entries key c.args.upper (search rules) c.self.invariant.0.revises);
+      },
+      c.self.invariant.1,
+      c.insert.ensures.kept,
+    )

@@ -6,14 +6,17 @@ use Rattle.pit_tx.proofs.work.Work.write.Goals as goal
 
 pub invariant_of-self : goal.invariant_of-self
 invariant_of-self g c =
-    let w = c.self.inside in
-    record {
-      blocks = c.self.invariant.blocks;
-      periods = c.self.invariant.periods;
-      resources = c.self.invariant.resources;
-      reads = c.self.invariant.reads;
-      writes = kept_after (Fits w.blocks w.periods) c.write.result w.writes (with_write nat_eq w.writes c.args.b c.args.period) c.write.new.self c.write.ensures.ok
-          c.write.ensures.err c.self.invariant.writes
-          (Fits-insert_entry w.blocks w.periods w.writes c.args.b c.args.period (search rules) (search rules) c.self.invariant.writes);
-      revises = c.self.invariant.revises;
-    }
+    let w = c.self.inside in (
+      record {
+        blocks = c.self.invariant.0.blocks;
+        periods = c.self.invariant.0.periods;
+        resources = c.self.invariant.0.resources;
+        reads = c.self.invariant.0.reads;
+        writes = kept_after (Fits w.blocks w.periods) c.insert.result w.writes.entries (with_write nat_eq w.writes.entries c.args.b c.args.period) c.insert.new.map.entries c.insert.ensures.ok
+            c.insert.ensures.err c.self.invariant.0.writes
+            (Fits-insert_entry w.blocks w.periods w.writes.entries c.args.b c.args.period (search rules) (search rules) c.self.invariant.0.writes);
+        revises = c.self.invariant.0.revises;
+      },
+      c.insert.ensures.kept,
+      c.self.invariant.2,
+    )
