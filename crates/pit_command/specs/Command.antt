@@ -3,7 +3,7 @@ use Rattle.std.specs.Prelude.{◌≡◌, ◌⊎◌, ℕ, true, false, List, [], 
 use Rattle.std.specs.List.{All}
 use Rattle.clap.specs.Walk.{Row, Rule}
 use Rattle.clap.specs.Takes.{is_given}
-use Rattle.clap.specs.Simple.{App, Shape, app_of, new_rule, new_shape}
+use Rattle.clap.specs.Simple.{App, Shape, app_of, new_rule, new_shape, on_top}
 use Rattle.clap.specs.declared.builder.command.Command.{Command}
 use Rattle.clap.specs.declared.builder.command.Command.TheViews.{out-Command}
 use Rattle.clap.specs.Lexer.{usize_max}
@@ -12,6 +12,9 @@ use Rattle.clap.specs.declared.builder.value_parser.ValueParser.TheVariants.{Sig
 use Rattle.pit_step.specs.declared.input.Input.{Input}
 use Rattle.pit_step.specs.declared.input.Input.TheVariants.{Model, Precedence, Blocks, Start, History, Schedule}
 use Rattle.pit_command.specs.declared.engine.Engine.TheVariants.{Value, Check, Table, Diff, Info, Show, Plan, Replay, Log, Merge}
+use Rattle.pit_command.specs.declared.rules.Argument.{Argument}
+use Rattle.pit_command.specs.declared.rules.Argument.TheVariants.{File, Schedule as ScheduleArgument, Option as InputOption, History as HistoryOption, Continued, All as AllFlag, Writes, InTurn, Strict, Partial, At, From, Retries, Scripts, Edits}
+use Rattle.pit_command.specs.declared.subcommand.Subcommand.{Subcommand}
 use Rattle.pit_command.specs.Asked.{argument_of, inputs_of}
 
 -- the argument for an input: a positional that is required
@@ -116,6 +119,28 @@ merge_with others =
 abbrev pub merge_shape : Shape
 merge_shape = merge_with (continue_rule ∷ history_rule ∷ from_rule ∷ flag_rule (codes "partial") ∷ edits_rule ∷ [])
 
+-- what the program tells the parser of an argument
+abbrev pub rule_for : Argument → Rule
+rule_for (File input) = file_rule input
+rule_for ScheduleArgument = schedule_rule
+rule_for (InputOption input) = option_rule input
+rule_for HistoryOption = history_rule
+rule_for Continued = continue_rule
+rule_for AllFlag = flag_rule (codes "all")
+rule_for Writes = flag_rule (codes "writes")
+rule_for InTurn = flag_rule (codes "in-turn")
+rule_for Strict = flag_rule (codes "strict")
+rule_for Partial = flag_rule (codes "partial")
+rule_for At = at_rule
+rule_for From = from_rule
+rule_for Retries = retries_rule
+rule_for Scripts = scripts_rule
+rule_for Edits = edits_rule
+
+-- and of a subcommand
+abbrev pub shape_for : Subcommand → Shape
+shape_for s = record (new_shape s.name.now) { rules = map rule_for s.arguments.now }
+
 -- a subcommand, of which no argument is global
 abbrev pub IsSubcommand : Shape → Command → Type 0
 IsSubcommand shape c = (app_of c ≡ record { top = shape; subs = [] }) × ((out-Command c).has_globals ≡ false)
@@ -130,6 +155,11 @@ app_with shapes = record {
   };
   subs = shapes;
 }
+
+-- the same, to which more may be added
+abbrev pub app_begun : List Shape → App
+app_begun [] = on_top (λ s. record s { is_leaf = true }) (app_with [])
+app_begun (first ∷ rest) = app_with (first ∷ rest)
 
 abbrev pub pit_app : App
 pit_app = app_with (value_shape ∷ check_shape ∷ table_shape ∷ diff_shape ∷ info_shape ∷ show_shape ∷ plan_shape ∷ replay_shape ∷ log_shape ∷ merge_shape ∷ [])

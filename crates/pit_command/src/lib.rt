@@ -10,6 +10,7 @@ mod command;
 mod engine;
 mod notes;
 mod rules;
+mod subcommand;
 
 pub use argument::{
     asks_writes, at_of, continue_path, edit_count, from_of, has_conflict, has_many, history_path,

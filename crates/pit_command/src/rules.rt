@@ -1,15 +1,96 @@
 //! The arguments, as the parser is told of each.
 ghost use Rattle.std.specs.Prelude.{◌≡◌, false};
 ghost use Rattle.clap.specs.Walk.{rule_of};
-ghost use Rattle.pit_command.specs.Command.{flag_rule, at_rule, file_rule, schedule_rule, option_rule, history_rule, continue_rule, retries_rule, scripts_rule, from_rule, edits_rule};
+ghost use Rattle.pit_command.specs.Command.{rule_for, flag_rule, at_rule, file_rule, schedule_rule, option_rule, history_rule, continue_rule, retries_rule, scripts_rule, from_rule, edits_rule};
 
-use crate::argument::{AT, CONTINUE, FROM, HISTORY, RETRIES, argument_of};
+use crate::argument::{
+    ALL, AT, CONTINUE, FROM, HISTORY, IN_TURN, PARTIAL, RETRIES, STRICT, WRITES, argument_of,
+};
 use clap::{Arg, ArgAction, value_parser};
 use pit_step::Input;
 use std::alloc::Global;
 
+/// An argument that a subcommand has.
+#[derive(Clone, Copy)]
+pub(crate) enum Argument {
+    /// The file of an input, which is required.
+    File(Input),
+    /// A schedule, which is required.
+    Schedule,
+    /// The option for the file of an input.
+    Option(Input),
+    /// The option for the file of the history.
+    History,
+    /// The option for the history that is carried on.
+    Continued,
+    /// The flag that asks for all that is wrong.
+    All,
+    /// The flag that asks for what was written.
+    Writes,
+    /// The flag for planners one after another.
+    InTurn,
+    /// The flag by which a refused job is a failure.
+    Strict,
+    /// The flag by which parts of an edit may be left out.
+    Partial,
+    /// The option for the number of commits after which a schedule is shown.
+    At,
+    /// The option for the number of commits that an edit was made from.
+    From,
+    /// The option for the number of retries.
+    Retries,
+    /// The scripts, of which one at least is required.
+    Scripts,
+    /// The edits, of which one at least is required.
+    Edits,
+}
+
+/// What the parser is told of an argument.
+pub(crate) fn told<'a>(alloc: Global, argument: Argument) -> Arg<'a>
+    ensures rule { rule_of result ≡ rule_for argument }
+    ensures local { result.global ≡ false }
+{
+    match argument {
+        Argument::File(input) => file(alloc, input),
+        Argument::Schedule => schedule(alloc),
+        Argument::Option(input) => option(alloc, input),
+        Argument::History => history(alloc),
+        Argument::Continued => continued(alloc),
+        Argument::All => flag(
+            alloc,
+            ALL,
+            "Prints all that is wrong; SOLUTION may then be a history, too",
+        ),
+        Argument::Writes => flag(
+            alloc,
+            WRITES,
+            "Prints what each commit wrote and revised, and what it replaced",
+        ),
+        Argument::InTurn => flag(
+            alloc,
+            IN_TURN,
+            "One thread does all scripts, one after another: the same inputs give the same outputs",
+        ),
+        Argument::Strict => flag(
+            alloc,
+            STRICT,
+            "Ends with status 1 where a job was refused, too",
+        ),
+        Argument::Partial => flag(
+            alloc,
+            PARTIAL,
+            "Leaves out of each edit the blocks that a commit behind its base has written",
+        ),
+        Argument::At => at(alloc),
+        Argument::From => from(alloc),
+        Argument::Retries => retries(alloc),
+        Argument::Scripts => scripts(alloc),
+        Argument::Edits => edits(alloc),
+    }
+}
+
 /// The argument for an input.
-pub(crate) fn file<'a>(alloc: Global, input: Input) -> Arg<'a>
+fn file<'a>(alloc: Global, input: Input) -> Arg<'a>
     ensures rule { rule_of result ≡ file_rule input }
     ensures local { result.global ≡ false }
 {
@@ -19,7 +100,7 @@ pub(crate) fn file<'a>(alloc: Global, input: Input) -> Arg<'a>
 }
 
 /// The argument for a schedule.
-pub(crate) fn schedule<'a>(alloc: Global) -> Arg<'a>
+fn schedule<'a>(alloc: Global) -> Arg<'a>
     ensures rule { rule_of result ≡ schedule_rule }
     ensures local { result.global ≡ false }
 {
@@ -30,7 +111,7 @@ pub(crate) fn schedule<'a>(alloc: Global) -> Arg<'a>
 }
 
 /// The option for an input.
-pub(crate) fn option<'a>(alloc: Global, input: Input) -> Arg<'a>
+fn option<'a>(alloc: Global, input: Input) -> Arg<'a>
     ensures rule { rule_of result ≡ option_rule input }
     ensures local { result.global ≡ false }
 {
@@ -41,7 +122,7 @@ pub(crate) fn option<'a>(alloc: Global, input: Input) -> Arg<'a>
 }
 
 /// The option for the file of the history.
-pub(crate) fn history<'a>(alloc: Global) -> Arg<'a>
+fn history<'a>(alloc: Global) -> Arg<'a>
     ensures rule { rule_of result ≡ history_rule }
     ensures local { result.global ≡ false }
 {
@@ -52,7 +133,7 @@ pub(crate) fn history<'a>(alloc: Global) -> Arg<'a>
 }
 
 /// The option for the history that is carried on.
-pub(crate) fn continued<'a>(alloc: Global) -> Arg<'a>
+fn continued<'a>(alloc: Global) -> Arg<'a>
     ensures rule { rule_of result ≡ continue_rule }
     ensures local { result.global ≡ false }
 {
@@ -63,7 +144,7 @@ pub(crate) fn continued<'a>(alloc: Global) -> Arg<'a>
 }
 
 /// A flag.
-pub(crate) fn flag<'a>(alloc: Global, name: &'a str, help: &'a str) -> Arg<'a>
+fn flag<'a>(alloc: Global, name: &'a str, help: &'a str) -> Arg<'a>
     ensures rule { rule_of result ≡ flag_rule name.entry.now }
     ensures local { result.global ≡ false }
 {
@@ -74,7 +155,7 @@ pub(crate) fn flag<'a>(alloc: Global, name: &'a str, help: &'a str) -> Arg<'a>
 }
 
 /// The option for the number of commits after which a schedule is shown.
-pub(crate) fn at<'a>(alloc: Global) -> Arg<'a>
+fn at<'a>(alloc: Global) -> Arg<'a>
     ensures rule { rule_of result ≡ at_rule }
     ensures local { result.global ≡ false }
 {
@@ -86,7 +167,7 @@ pub(crate) fn at<'a>(alloc: Global) -> Arg<'a>
 }
 
 /// The option for the number of commits that an edit was made from.
-pub(crate) fn from<'a>(alloc: Global) -> Arg<'a>
+fn from<'a>(alloc: Global) -> Arg<'a>
     ensures rule { rule_of result ≡ from_rule }
     ensures local { result.global ≡ false }
 {
@@ -98,7 +179,7 @@ pub(crate) fn from<'a>(alloc: Global) -> Arg<'a>
 }
 
 /// The option for the number of retries.
-pub(crate) fn retries<'a>(alloc: Global) -> Arg<'a>
+fn retries<'a>(alloc: Global) -> Arg<'a>
     ensures rule { rule_of result ≡ retries_rule }
     ensures local { result.global ≡ false }
 {
@@ -112,7 +193,7 @@ pub(crate) fn retries<'a>(alloc: Global) -> Arg<'a>
 }
 
 /// The arguments for the scripts.
-pub(crate) fn scripts<'a>(alloc: Global) -> Arg<'a>
+fn scripts<'a>(alloc: Global) -> Arg<'a>
     ensures rule { rule_of result ≡ scripts_rule }
     ensures local { result.global ≡ false }
 {
@@ -124,7 +205,7 @@ pub(crate) fn scripts<'a>(alloc: Global) -> Arg<'a>
 }
 
 /// The arguments for the edits.
-pub(crate) fn edits<'a>(alloc: Global) -> Arg<'a>
+fn edits<'a>(alloc: Global) -> Arg<'a>
     ensures rule { rule_of result ≡ edits_rule }
     ensures local { result.global ≡ false }
 {
