@@ -2,7 +2,7 @@
 ghost use Rattle.std.specs.Prelude.{◌≡◌, ◌<◌, ◌≤◌, [], ◌∷◌, ◌++◌, None, nat_eq, IfOk, OnOk, OnErr, IfSome, IfNone, IsErrOf};
 ghost use Rattle.pit_model.specs.Fitting.{Fits, RevisionsFit, pair_eq};
 ghost use Rattle.pit_num.specs.Refused.{IsRefusedBy};
-ghost use Rattle.pit_keyed.specs.Keyed.{IsFurther, with_read, with_write};
+ghost use Rattle.pit_keyed.specs.Keyed.{IsFurther, at_key, with_read, with_write};
 ghost use Rattle.pit_tx.specs.Refusals.{refusal_of, revision_refusal_of};
 ghost use Rattle.pit_tx.specs.Sets.{known_of, AreSound};
 
@@ -184,7 +184,9 @@ impl<A: Allocator + Copy + Drop> Work<A> {
         } = self;
         reads.clear();
         writes.clear();
-        revises.clear();
+        if !revises.is_empty() {
+            revises.clear();
+        }
         Work {
             planner,
             job,
@@ -254,8 +256,8 @@ impl<A: Allocator + Copy + Drop> Work<A> {
     pub fn known(&self, b: u32) -> Option<Option<u32>>
         ensures { result ≡ known_of self.now b }
     {
-        match self.writes.get(&b) {
-            Some(period) => Some(*period),
+        match self.written(b) {
+            Some(period) => Some(period),
             None => self.reads.get(b),
         }
     }
@@ -350,6 +352,19 @@ impl<A: Allocator + Copy + Drop> Work<A> {
         ensures fit { RevisionsFit self.now.resources self.now.periods self.now.revises }
     {
         &self.revises
+    }
+
+    /// The own write of a block. Most often there is none yet, and then no hash is made.
+    fn written(&self, b: u32) -> Option<Option<u32>>
+        ensures { result ≡ at_key nat_eq self.now.writes b }
+    {
+        if self.writes.is_empty() {
+            return None;
+        }
+        match self.writes.get(&b) {
+            Some(period) => Some(*period),
+            None => None,
+        }
     }
 
     /// Writes a block with a period or none.

@@ -4,6 +4,7 @@ ghost use Rattle.pit_share.specs.declared.blank.TheConstants.{PLANNERS_MAX};
 
 use super::book::{OVER, resumed};
 use super::tiny::{HISTORY, WORTH, empty_desk, tiny};
+use super::tx::has_pairs;
 use pit_book::{Desk, Reply, ResumeFault};
 use pit_model::Instance;
 use pit_num::NumError;
@@ -11,7 +12,6 @@ use pit_run::{
     Gate, InTurnError, Open, Outcome, PlannerRun, Report, RunEnd, RunError, Script, ScriptCause,
     run, run_in_turn,
 };
-use pit_sample::has_pairs;
 use pit_share::{
     Blank, CloseError, OpenError, Planner, PlannerLog, ReadStop, Seat, Session, Transaction,
     Workspace,

@@ -1,7 +1,6 @@
 //! `pit_tx`: what a transaction has read and written.
 use pit_num::NoMemory;
-use pit_sample::has_pairs;
-use pit_tx::{Work, WorkError};
+use pit_tx::{PeriodMap, Work, WorkError};
 use std::alloc::Global;
 use std::process::Abort;
 
@@ -55,4 +54,15 @@ fn assert_filled(rt: &impl Abort, work: &mut Work<Global>) {
     assert!(rt; work.put(3, 2) == Err(WorkError::NoPeriod));
     assert!(rt; has_pairs(work.reads(), &[(3, Some(1))]));
     assert!(rt; has_pairs(work.writes(), &[(2, Some(1)), (3, None)]));
+}
+
+/// Whether a set has these pairs, in this order.
+pub(super) fn has_pairs(set: &PeriodMap<Global>, pairs: &[Pair]) -> bool {
+    for at in 0..pairs.len() {
+        match set.get_index(at) {
+            Some((block, period)) if (*block, *period) == pairs[at] => {}
+            _ => return false,
+        }
+    }
+    set.len() == pairs.len()
 }
