@@ -6,12 +6,18 @@ use std::process::Abort;
 /// How many bytes are asked for, the answer, and the bytes that came.
 type Take = (usize, Result<usize, Failed>, &'static [u8]);
 
+fn is_taken<R: Read + Drop>(input: &mut In<R>, take: Take) -> bool {
+    let (count, answer, bytes) = take;
+    let mut buffer = [0u8; 3];
+    let Some(room) = buffer.get_mut(..count) else {
+        return false;
+    };
+    input.take(room) == answer && buffer.as_slice().starts_with(bytes)
+}
+
 fn assert_takes<R: Read + Drop>(rt: &impl Abort, input: &mut In<R>, takes: &[Take]) {
-    for (count, answer, bytes) in takes {
-        let mut buffer = [0u8; 3];
-        let room = buffer.get_mut(..*count).expect(rt, "room");
-        assert!(rt; input.take(room) == *answer);
-        assert!(rt; buffer.as_slice().starts_with(bytes));
+    for take in takes {
+        assert!(rt; is_taken(input, *take));
     }
 }
 
@@ -62,14 +68,31 @@ fn in_fails_for_good(rt: HostRuntime) {
     assert!(rt; input.into_inner().calls == 2);
 }
 
+/// Texts that are given, and how many bytes of each are taken.
+const GIFTS: &[(&[u8], usize)] = &[(b"one ", 4), (b"", 0), (b"two", 3)];
+
+fn are_given<W: Sink>(out: &mut W) -> bool {
+    for (text, count) in GIFTS {
+        if out.give(text) != Ok(*count) {
+            return false;
+        }
+    }
+    true
+}
+
+fn is_written(out: Out<Vec<u8>>, text: &[u8]) -> bool {
+    let written = out.into_inner();
+    let is = written.as_slice() == text;
+    drop(written);
+    is
+}
+
 #[test]
 fn out_writes_to_a_vector(rt: HostRuntime) {
     let mut out = Out::new(Vec::new(rt.alloc()));
-    let gifts: &[(&[u8], usize)] = &[(b"one ", 4), (b"", 0), (b"two", 3)];
-    for (text, count) in gifts {
-        assert!(rt; out.give(text) == Ok(*count));
-    }
-    assert!(rt; out.into_inner().as_slice() == b"one two".as_slice());
+    let are = are_given(&mut out);
+    let is = is_written(out, b"one two");
+    assert!(rt; are && is);
 }
 
 /// Takes nothing, or answers an error, and counts the calls.

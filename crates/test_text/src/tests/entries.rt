@@ -39,8 +39,7 @@ fn entry_of(rt: &impl Abort, alloc: Global, row: Row) -> Entry<Global> {
 pub(super) fn history_of(rt: &impl Abort, alloc: Global, rows: &[Row]) -> Vec<Entry<Global>> {
     let mut history = Vec::new(alloc);
     for row in rows {
-        let entry = entry_of(rt, alloc, *row);
-        assert!(rt; history.push(entry).is_ok());
+        history.push(entry_of(rt, alloc, *row)).expect(rt, "memory");
     }
     history
 }
@@ -54,14 +53,19 @@ fn is_entry<A: Allocator + Drop>(entry: &Entry<A>, row: Row) -> bool {
         && entry.reply == row.reply
 }
 
-/// The number of entries, where they are those of the first rows.
-pub(super) fn front_of<A: Allocator + Drop>(history: &[Entry<A>], rows: &[Row]) -> i64 {
+/// Whether the entries are those of the first rows.
+fn are_entries<A: Allocator + Drop>(history: &[Entry<A>], rows: &[Row]) -> bool {
     for (entry, row) in history.iter().zip(rows.iter()) {
         if !is_entry(entry, *row) {
-            return -1;
+            return false;
         }
     }
-    if history.len() > rows.len() {
+    history.len() <= rows.len()
+}
+
+/// The number of entries, where they are those of the first rows.
+pub(super) fn front_of<A: Allocator + Drop>(history: &[Entry<A>], rows: &[Row]) -> i64 {
+    if !are_entries(history, rows) {
         return -1;
     }
     history.len() as i64
@@ -227,9 +231,13 @@ const PARTS: &[&[Row]] = &[LOADING, REVISING, GREATEST];
 pub(super) fn long_rows(rt: &impl Abort, alloc: Global, times: u32) -> Vec<Row> {
     let mut rows = Vec::new(alloc);
     for _ in 0..times {
-        for part in PARTS {
-            assert!(rt; rows.extend_from_slice(part).is_ok());
-        }
+        push_parts(rt, &mut rows);
     }
     rows
+}
+
+fn push_parts(rt: &impl Abort, rows: &mut Vec<Row>) {
+    for part in PARTS {
+        rows.extend_from_slice(part).expect(rt, "memory");
+    }
 }

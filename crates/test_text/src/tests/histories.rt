@@ -27,8 +27,10 @@ const GREATEST_TEXT: &str = "{\"format\":2}
 {\"act\":\"commit\",\"job\":0,\"planner\":0,\"reads\":[],\"reply\":\"withdrawn\",\"revises\":[],\"start\":0,\"writes\":[]}
 ";
 
+type Example = (&'static [Row], &'static str);
+
 /// The entries of a history, and its text.
-const EXAMPLES: &[(&[Row], &str)] = &[
+const EXAMPLES: &[Example] = &[
     (&[], "{\"format\":1}\n"),
     (MEETING, MEETING_TEXT),
     (LOADING, LOADING_TEXT),
@@ -51,11 +53,9 @@ pub(super) fn is_written<A: Allocator + Copy + Drop>(
 
 fn assert_written(rt: &impl Abort, alloc: Global, rows: &[Row], text: &str) {
     let history = history_of(rt, alloc, rows);
-    assert!(rt;
-        is_written(alloc, &history, text.as_bytes()) == Ok(true),
-        "{text}"
-    );
+    let answer = is_written(alloc, &history, text.as_bytes());
     drop(history);
+    assert!(rt; answer == Ok(true), "{text}");
 }
 
 /// The text stands for these entries.
@@ -64,12 +64,16 @@ fn assert_entries(rt: &impl Abort, alloc: Global, rows: &[Row], text: &str) {
     assert_read(rt, alloc, History(rows), &[text.as_bytes()], Ok(count));
 }
 
+fn assert_examples(rt: &impl Abort, alloc: Global, examples: &[Example]) {
+    for (rows, text) in examples {
+        assert_written(rt, alloc, rows, text);
+        assert_entries(rt, alloc, rows, text);
+    }
+}
+
 #[test]
 fn examples_are_written_and_read(rt: HostRuntime) {
-    for (rows, text) in EXAMPLES {
-        assert_written(&rt, rt.alloc(), rows, text);
-        assert_entries(&rt, rt.alloc(), rows, text);
-    }
+    assert_examples(&rt, rt.alloc(), EXAMPLES);
 }
 
 /// Keys in another order, white space of each kind, ends of lines with a carriage return, keys twice, of which the last counts, escapes in keys and
@@ -185,13 +189,15 @@ const DEPTHS: &[(usize, LinesCause, LinesCause)] = &[
 /// So many brackets that open, and as many that close.
 fn nested(rt: &impl Abort, alloc: Global, depth: usize) -> Vec<u8> {
     let mut text = Vec::new(alloc);
-    for _ in 0..depth {
-        assert!(rt; text.push(b'[').is_ok());
-    }
-    for _ in 0..depth {
-        assert!(rt; text.push(b']').is_ok());
-    }
+    push_times(rt, &mut text, b'[', depth);
+    push_times(rt, &mut text, b']', depth);
     text
+}
+
+fn push_times(rt: &impl Abort, text: &mut Vec<u8>, byte: u8, times: usize) {
+    for _ in 0..times {
+        text.push(byte).expect(rt, "memory");
+    }
 }
 
 fn assert_nested(rt: &impl Abort, alloc: Global, parts: &[&[u8]], line: u64, cause: LinesCause) {
@@ -206,11 +212,14 @@ const FORMAT: &[u8] = b"{\"format\":1}\n";
 fn nested_to_each_depth(rt: HostRuntime) {
     for (depth, first, later) in DEPTHS {
         let text = nested(&rt, rt.alloc(), *depth);
-        let line = text.as_slice();
-        assert_nested(&rt, rt.alloc(), &[line], 1, *first);
-        assert_nested(&rt, rt.alloc(), &[FORMAT, line], 2, *later);
+        assert_depth(&rt, rt.alloc(), &text, *first, *later);
         drop(text);
     }
+}
+
+fn assert_depth(rt: &impl Abort, alloc: Global, line: &[u8], first: LinesCause, later: LinesCause) {
+    assert_nested(rt, alloc, &[line], 1, first);
+    assert_nested(rt, alloc, &[FORMAT, line], 2, later);
 }
 
 /// What stands side by side doesn't nest.

@@ -4,6 +4,7 @@ use super::memory::{BUILDER, Case, PLACED, assert_each, assert_refusals};
 use super::reading::{Kind, Look};
 use Case::{Read, Written};
 use Kind::{Blocks, History, Model, Precedence, Script, Solution};
+use pit_desk::Entry;
 use pit_lines::to_lines;
 use pit_sample::Size;
 use std::alloc::Global;
@@ -16,10 +17,14 @@ pub(super) type Part = (u32, u32, &'static str, &'static [&'static str]);
 fn push_part(rt: &impl Abort, text: &mut String, part: Part) {
     let (from, to, front, others) = part;
     for number in from..to {
-        assert!(rt; text.push_str(front).is_ok());
-        for other in others {
-            assert!(rt; write!(text, "{number}{other}").is_ok());
-        }
+        text.push_str(front).expect(rt, "memory");
+        push_number(rt, text, number, others);
+    }
+}
+
+fn push_number(rt: &impl Abort, text: &mut String, number: u32, others: &[&str]) {
+    for other in others {
+        assert!(rt; write!(text, "{number}{other}").is_ok());
     }
 }
 
@@ -94,10 +99,11 @@ fn assert_long(
     requests: u64,
 ) {
     let text = text_of(rt, alloc, parts);
-    assert!(rt; text.len() > 8_192);
+    let is_long = text.len() > 8_192;
     let case = Read(kind, text.as_bytes(), Ok(number));
     assert_each(rt, alloc, case, requests);
     drop(text);
+    assert!(rt; is_long);
 }
 
 #[test]
@@ -113,7 +119,7 @@ fn of_long_texts_of_a_pit(rt: HostRuntime) {
 fn of_a_long_solution(rt: HostRuntime) {
     let mut pairs = Vec::new(rt.alloc());
     for b in 0..1_500u32 {
-        assert!(rt; pairs.push((b, 1)).is_ok());
+        pairs.push((b, 1)).expect(&rt, "memory");
     }
     let kind = Solution(LONG, pairs.as_slice());
     let parts: &[Part] = &[(0, 1_500, "", &[" 1\n"])];
@@ -151,25 +157,24 @@ fn text_of_rows(rt: &impl Abort, alloc: Global, rows: &[Row]) -> Vec<u8> {
 fn of_the_text_of_a_history(rt: HostRuntime) {
     let rows = long_rows(&rt, rt.alloc(), 20);
     let history = history_of(&rt, rt.alloc(), &rows);
-    let text = text_of_rows(&rt, rt.alloc(), &rows);
-    assert_refusals(
-        &rt,
-        rt.alloc(),
-        Written(history.as_slice(), text.as_slice()),
-        8,
-    );
-    drop(text);
-    drop(history);
     drop(rows);
+    assert_text(&rt, rt.alloc(), &history);
+    drop(history);
+}
+
+fn assert_text(rt: &impl Abort, alloc: Global, history: &[Entry<Global>]) {
+    let text = to_lines(alloc, history).ok().expect(rt, "memory");
+    assert_refusals(rt, alloc, Written(history, text.as_slice()), 8);
+    drop(text);
 }
 
 /// The same lines by another hand: with a space behind each comma and colon, of which none stands in a text.
 pub(super) fn spaced(rt: &impl Abort, alloc: Global, text: &[u8]) -> Vec<u8> {
     let mut other = Vec::new(alloc);
     for b in text {
-        assert!(rt; other.push(*b).is_ok());
+        other.push(*b).expect(rt, "memory");
         if *b == b',' || *b == b':' {
-            assert!(rt; other.push(b' ').is_ok());
+            other.push(b' ').expect(rt, "memory");
         }
     }
     other

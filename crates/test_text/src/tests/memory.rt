@@ -15,7 +15,7 @@ use pit_refuse::Refusing;
 use pit_sample::{Ending, Heap, TINY_BLOCKS, TINY_SIZE, Trial, line_feeds, refuse_each};
 use pit_script::ScriptCause;
 use pit_text::{Cause, Key, read_model};
-use std::alloc::Global;
+use std::alloc::{Allocator, Global};
 use std::process::Abort;
 
 /// What takes memory, and what comes of it.
@@ -251,10 +251,14 @@ const QUIET: &[(Kind<'static>, u64, &[Text])] = &[
 ];
 
 fn assert_quiet(rt: &impl Abort, alloc: Global, kind: Kind<'_>, requests: u64, rows: &[Text]) {
-    for (text, answer) in rows {
-        let found = requests_of(rt, alloc, Read(kind, *text, *answer));
-        assert!(rt; found == requests, "{found} for {requests} of {text:?}");
+    for row in rows {
+        assert_requests(rt, alloc, kind, requests, *row);
     }
+}
+
+fn assert_requests(rt: &impl Abort, alloc: Global, kind: Kind<'_>, requests: u64, row: Text) {
+    let found = requests_of(rt, alloc, Read(kind, row.0, row.1));
+    assert!(rt; found == requests, "{found} for {requests} of {:?}", row.0);
 }
 
 #[test]
@@ -299,9 +303,22 @@ fn of_a_header_alone(rt: HostRuntime) {
 
 fn assert_alone(rt: &impl Abort, alloc: Global, text: &[u8], blocks: u32, bytes: usize) {
     let heap = Refusing::over_heap(alloc, bytes, 0).expect(rt, "a heap");
-    let builder = read_model(&heap, text).ok().expect(rt, "a pit");
-    assert!(rt; builder.blocks() == blocks);
-    assert!(rt; heap.count().asked == BUILDER);
-    drop(builder);
+    let is = is_alone(&heap, &heap, text, blocks);
     drop(heap);
+    assert!(rt; is);
+}
+
+/// Whether the memory of a builder, which is taken of the heap, was asked for.
+fn is_alone<A: Allocator + Copy + Drop>(
+    heap: Heap<'_>,
+    alloc: A,
+    text: &[u8],
+    blocks: u32,
+) -> bool {
+    let Ok(builder) = read_model(alloc, text) else {
+        return false;
+    };
+    let is = builder.blocks() == blocks && heap.count().asked == BUILDER;
+    drop(builder);
+    is
 }

@@ -16,6 +16,8 @@ use pit_sample::{
     TINY_PRECEDENCE, TINY_SIZE, TINY_SOLUTION,
 };
 use pit_text::{Cause, Key, Lines, upper_bound};
+use std::alloc::Global;
+use std::process::Abort;
 
 /// The small pit, its sections in each order, and with other ends of lines.
 const ORDERS: &[&[&[u8]]] = &[
@@ -42,14 +44,22 @@ const BOUNDS: &[(&[u8], Bounds)] = &[
     (b"0 0 G -2.5", (Some(-2_500_000), None)),
 ];
 
+fn assert_orders(rt: &impl Abort, alloc: Global, orders: &[&[&[u8]]]) {
+    for parts in orders {
+        assert_read(rt, alloc, Model(Look::Amounts), parts, Ok(1));
+    }
+}
+
+fn assert_bounds(rt: &impl Abort, alloc: Global, line: &[u8], bounds: Bounds) {
+    let parts = [TINY_HEADER, LIMITS_LINE, line];
+    assert_read(rt, alloc, Model(Look::First(bounds)), &parts, Ok(1));
+}
+
 #[test]
 fn models(rt: HostRuntime) {
-    for parts in ORDERS {
-        assert_read(&rt, rt.alloc(), Model(Look::Amounts), parts, Ok(1));
-    }
+    assert_orders(&rt, rt.alloc(), ORDERS);
     for (line, bounds) in BOUNDS {
-        let parts = [TINY_HEADER, LIMITS_LINE, *line];
-        assert_read(&rt, rt.alloc(), Model(Look::First(*bounds)), &parts, Ok(1));
+        assert_bounds(&rt, rt.alloc(), line, *bounds);
     }
 }
 
@@ -183,7 +193,9 @@ const MINED: &[Faulty] = &[
 ];
 
 /// What is read, the parts in front of each text, and the texts with their faults.
-const FAULTS: &[(Kind<'static>, &[&[u8]], &[Faulty])] = &[
+type Behind = (Kind<'static>, &'static [&'static [u8]], &'static [Faulty]);
+
+const MODEL_FAULTS: &[Behind] = &[
     (Model(Look::Sum), &[], HEADERS),
     (Model(Look::Sum), &[TINY_HEADER], SECTIONS),
     (Model(Look::Sum), &[TINY_HEADER, LIMITS_LINE], LIMITS),
@@ -197,23 +209,42 @@ const FAULTS: &[(Kind<'static>, &[&[u8]], &[Faulty])] = &[
         &[TINY_HEADER, TINY_OBJECTIVE, TINY_COEFFICIENTS, TINY_LIMITS],
         TWICE,
     ),
+];
+
+const FAULTS: &[Behind] = &[
     (Precedence(TINY_SIZE, Look::Sum), &[], PRECEDENCES),
     (Blocks(TINY_SIZE, Look::Sum), &[], PLACES),
     (Solution(TINY_SIZE, &[]), &[], MINED),
 ];
 
-#[test]
-fn faults(rt: HostRuntime) {
-    for (kind, front, rows) in FAULTS {
-        assert_faults(&rt, rt.alloc(), *kind, front, rows);
+fn assert_each(rt: &impl Abort, alloc: Global, faults: &[Behind]) {
+    for (kind, front, rows) in faults {
+        assert_faults(rt, alloc, *kind, front, rows);
     }
 }
 
 #[test]
+fn faults(rt: HostRuntime) {
+    assert_models(&rt, rt.alloc());
+    assert_each(&rt, rt.alloc(), FAULTS);
+}
+
+fn assert_models(rt: &impl Abort, alloc: Global) {
+    assert_each(rt, alloc, MODEL_FAULTS);
+}
+
+/// Texts of an upper bound, and what each stands for in millionths.
+const UPPERS: &[(&str, Result<Option<i64>, NumError>)] = &[
+    ("4", Ok(Some(4_000_000))),
+    ("+Infinity", Ok(None)),
+    ("-inf", Err(NumError::Malformed)),
+];
+
+#[test]
 fn upper_bounds(rt: HostRuntime) {
-    assert_eq!(rt; upper_bound("4"), Ok(Some(4_000_000)));
-    assert_eq!(rt; upper_bound("+Infinity"), Ok(None));
-    assert_eq!(rt; upper_bound("-inf"), Err(NumError::Malformed));
+    for (text, bound) in UPPERS {
+        assert!(rt; upper_bound(text) == *bound);
+    }
 }
 
 /// Whether the third line is the first that is read, and has these fields.

@@ -85,11 +85,15 @@ fn is_printed(alloc: Global, row: Row<'_>) -> bool {
     is
 }
 
+fn assert_printed(rt: &impl Abort, alloc: Global, rows: &[Row<'_>]) {
+    for row in rows {
+        assert!(rt; is_printed(alloc, *row), "{:?}", row.1);
+    }
+}
+
 #[test]
 fn texts(rt: HostRuntime) {
-    for row in ROWS {
-        assert!(rt; is_printed(rt.alloc(), *row), "{:?}", row.1);
-    }
+    assert_printed(&rt, rt.alloc(), ROWS);
 }
 
 /// Whether a device that takes so much at once, and has this room, gets that much of the text, and stays so.
@@ -109,14 +113,18 @@ fn assert_fronts(rt: &impl Abort, alloc: Global, row: Row<'_>, piece: usize) {
     }
 }
 
+fn assert_each_front(rt: &impl Abort, alloc: Global, rows: &[Row<'_>]) {
+    for row in rows {
+        for piece in [1, 5, 64] {
+            assert_fronts(rt, alloc, *row, piece);
+        }
+    }
+}
+
 // A device that fails behind each byte of the text has got exactly the bytes before, and stays so.
 #[test]
 fn failing_behind_each_byte(rt: HostRuntime) {
-    for row in ROWS {
-        for piece in [1, 5, 64] {
-            assert_fronts(&rt, rt.alloc(), *row, piece);
-        }
-    }
+    assert_each_front(&rt, rt.alloc(), ROWS);
 }
 
 /// The number of blocks of a long schedule, whose text is past two chunks of 8,192 bytes.
@@ -132,7 +140,7 @@ fn period_of(b: u32) -> Option<u32> {
 
 /// Adds the period of a block, and its line, which is formatted by itself.
 fn push(rt: &impl Abort, periods: &mut Vec<Option<u32>>, text: &mut String, b: u32) {
-    assert!(rt; periods.push(period_of(b)).is_ok());
+    periods.push(period_of(b)).expect(rt, "memory");
     if let Some(t) = period_of(b) {
         assert!(rt; writeln!(text, "{b} {t}").is_ok());
     }
@@ -159,8 +167,11 @@ fn past_a_chunk(rt: HostRuntime) {
 }
 
 fn assert_long(rt: &impl Abort, alloc: Global, row: Row<'_>) {
-    assert!(rt; row.1.len() > 16_384);
-    assert!(rt; is_printed(alloc, row));
+    assert!(rt; row.1.len() > 16_384 && is_printed(alloc, row));
+    assert_rooms(rt, alloc, row);
+}
+
+fn assert_rooms(rt: &impl Abort, alloc: Global, row: Row<'_>) {
     for room in ROOMS {
         assert!(rt; is_front(alloc, row, 10_000, *room), "at {room}");
     }

@@ -84,11 +84,15 @@ fn pit_of<A: Allocator + Copy + Drop>(
     answer: Result<Builder<A>, TextError>,
 ) -> Result<Instance<A>, Fault> {
     match answer {
-        Ok(builder) => match builder.build() {
-            Ok(pit) => Ok(pit),
-            Err(_) => Err(in_pit(WANT)),
-        },
+        Ok(builder) => built(builder),
         Err(error) => Err(in_pit(error)),
+    }
+}
+
+fn built<A: Allocator + Copy + Drop>(builder: Builder<A>) -> Result<Instance<A>, Fault> {
+    match builder.build() {
+        Ok(pit) => Ok(pit),
+        Err(_) => Err(in_pit(WANT)),
     }
 }
 
@@ -264,9 +268,21 @@ pub(super) fn read<A: Allocator + Copy + Drop>(
 fn joined(rt: &impl Abort, alloc: Global, parts: &[&[u8]]) -> Vec<u8> {
     let mut text = Vec::new(alloc);
     for part in parts {
-        assert!(rt; text.extend_from_slice(part).is_ok());
+        text.extend_from_slice(part).expect(rt, "memory");
     }
     text
+}
+
+/// A text is read so.
+pub(super) fn assert_text(
+    rt: &impl Abort,
+    alloc: Global,
+    kind: Kind<'_>,
+    text: &[u8],
+    wanted: Answer,
+) {
+    let answer = read(alloc, alloc, kind, text);
+    assert!(rt; answer == wanted, "{answer:?} of {text:?}");
 }
 
 /// A text of these parts is read so.
@@ -278,8 +294,7 @@ pub(super) fn assert_read(
     wanted: Answer,
 ) {
     let text = joined(rt, alloc, parts);
-    let answer = read(alloc, alloc, kind, &text);
-    assert!(rt; answer == wanted, "{answer:?} of {text:?}");
+    assert_text(rt, alloc, kind, &text, wanted);
     drop(text);
 }
 
@@ -296,10 +311,21 @@ pub(super) fn assert_faults(
 ) {
     let front = joined(rt, alloc, front);
     for (texts, line, why) in rows {
-        for text in texts.split(|b| *b == b'|') {
-            let parts = [front.as_slice(), text];
-            assert_read(rt, alloc, kind, &parts, Err((*line, *why)));
-        }
+        assert_fault(rt, alloc, kind, &front, texts, (*line, *why));
     }
     drop(front);
+}
+
+fn assert_fault<'a>(
+    rt: &impl Abort,
+    alloc: Global,
+    kind: Kind<'_>,
+    front: &'a [u8],
+    texts: &'a [u8],
+    fault: Fault,
+) {
+    for text in texts.split(|b| *b == b'|') {
+        let parts = [front, text];
+        assert_read(rt, alloc, kind, &parts, Err(fault));
+    }
 }

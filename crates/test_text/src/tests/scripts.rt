@@ -15,13 +15,13 @@ use pit_num::NumError;
 use pit_refuse::Refusing;
 use pit_sample::{Heap, TINY_BLOCKS, TINY_SIZE};
 use pit_script::{Benches, JOBS_MAX, JobEnd, Script as Jobs, ScriptCause, Step};
-use std::alloc::Global;
+use std::alloc::{Allocator, Global};
 use std::process::Abort;
 
 /// A script over the small pit.
 pub(super) const SCRIPT: Kind<'static> = Script(TINY_SIZE, TINY_BLOCKS);
 
-fn tiny(rt: &impl Abort, alloc: Global) -> Instance<Global> {
+fn tiny<A: Allocator + Copy + Drop>(rt: &impl Abort, alloc: A) -> Instance<A> {
     pit_at(alloc, TINY_SIZE, TINY_BLOCKS)
         .ok()
         .expect(rt, "memory")
@@ -107,12 +107,13 @@ fn of_each_kind(rt: HostRuntime) {
 
 fn assert_jobs(rt: &impl Abort, script: &Jobs<Global>) {
     assert!(rt; script.jobs() == 3);
-    for i in 0..script.jobs() {
-        let (steps, end) = JOBS.get(i as usize).copied().expect(rt, "a job");
-        let job = script.job(i);
-        assert!(rt; job.0 == steps);
-        assert!(rt; job.1 == end);
+    for i in 0..3u32 {
+        assert!(rt; is_job(script, i));
     }
+}
+
+fn is_job(script: &Jobs<Global>, i: u32) -> bool {
+    i < script.jobs() && JOBS.get(i as usize).copied() == Some(script.job(i))
 }
 
 #[test]
@@ -134,11 +135,9 @@ const BENCHES: &[(i64, &[(i64, u32)])] = &[
 
 #[test]
 fn benches(rt: HostRuntime) {
-    let pit = tiny(&rt, rt.alloc());
-    let benches = Benches::of(rt.alloc(), &pit).ok().expect(&rt, "memory");
+    let benches = benches_of(&rt, rt.alloc());
     assert_benches(&rt, &benches);
     drop(benches);
-    drop(pit);
 }
 
 fn assert_benches(rt: &impl Abort, benches: &Benches<Global>) {
@@ -224,8 +223,10 @@ fn the_last_job_that_there_may_be(rt: HostRuntime) {
     drop(jobs);
 }
 
+type Refused = (&'static [u8], u64, ScriptCause);
+
 /// A script, and what is answered of it where a request of the benches is refused: a fault of its first line goes before.
-const REFUSED: &[(&[u8], u64, ScriptCause)] = &[
+const REFUSED: &[Refused] = &[
     (b"begin\nfly", 1, NoMemory),
     (b"\n\nbegin\ncommit", 3, NoMemory),
     (b"fly\nbegin", 1, UnknownWord),
@@ -239,13 +240,18 @@ const REFUSED: &[(&[u8], u64, ScriptCause)] = &[
 
 /// The request of this number is refused.
 fn assert_refused(rt: &impl Abort, alloc: Global, kind: Kind<'_>, number: u64) {
-    for (text, line, cause) in REFUSED {
+    for row in REFUSED {
         let heap = Refusing::over_heap(alloc, BYTES, number).expect(rt, "a heap");
-        let answer = read(&heap, alloc, kind, text);
-        assert!(rt; answer == Err((*line, InScript(*cause))));
-        assert!(rt; heap.count().has_refused() && heap.used() == 0);
+        let is = is_refused(&heap, alloc, kind, *row);
         drop(heap);
+        assert!(rt; is);
     }
+}
+
+fn is_refused(heap: Heap<'_>, json: Global, kind: Kind<'_>, row: Refused) -> bool {
+    let (text, line, cause) = row;
+    let answer = read(heap, json, kind, text);
+    answer == Err((line, InScript(cause))) && heap.count().has_refused() && heap.used() == 0
 }
 
 /// Those of the benches are behind those of the pit, and a script of no byte makes no others.
@@ -267,25 +273,35 @@ const SHARED: &[(&[u8], Answer)] = &[
     (b"begin\nread 1000\n", Err((2, InScript(BlockRange)))),
 ];
 
-fn assert_shared<'a>(rt: &impl Abort, heap: Heap<'a>, benches: &Benches<Heap<'a>>) {
-    let before = heap.count();
+fn are_read<A: Allocator + Copy + Drop>(alloc: A, benches: &Benches<A>) -> bool {
     for (text, answer) in SHARED {
-        let found = jobs_in(Jobs::parse_on(heap, text, benches));
-        assert!(rt; found == *answer);
+        if jobs_in(Jobs::parse_on(alloc, text, benches)) != *answer {
+            return false;
+        }
     }
-    assert!(rt; heap.count() == before);
+    true
+}
+
+/// The benches are in the heap.
+fn assert_shared<A: Allocator + Copy + Drop>(rt: &impl Abort, heap: Heap<'_>, alloc: A) {
+    let benches = benches_of(rt, alloc);
+    let before = heap.count();
+    let are = are_read(alloc, &benches) && heap.count() == before;
+    drop(benches);
+    assert!(rt; are);
+}
+
+fn benches_of<A: Allocator + Copy + Drop>(rt: &impl Abort, alloc: A) -> Benches<A> {
+    let pit = tiny(rt, alloc);
+    let benches = Benches::of(alloc, &pit).ok().expect(rt, "memory");
+    drop(pit);
+    benches
 }
 
 #[test]
 fn memory_is_not_asked_for_over_shared_benches(rt: HostRuntime) {
     let heap = Refusing::over_heap(rt.alloc(), BYTES, 0).expect(&rt, "a heap");
-    let pit = pit_at(&heap, TINY_SIZE, TINY_BLOCKS)
-        .ok()
-        .expect(&rt, "a pit");
-    let benches = Benches::of(&heap, &pit).ok().expect(&rt, "memory");
-    assert_shared(&rt, &heap, &benches);
-    drop(benches);
-    drop(pit);
+    assert_shared(&rt, &heap, &heap);
 }
 
 /// A script that is cut.

@@ -17,16 +17,16 @@ pub(super) struct Facts<'a> {
     refused: &'a [Row],
 }
 
-/// A builder, which is made anew where memory was refused.
-fn begun<'a>(heap: Heap<'a>, size: Size) -> Option<Builder<Heap<'a>>> {
+/// A builder, which is made anew where memory was refused. Here and below `alloc` is the heap.
+fn begun<A: Allocator + Copy + Drop>(heap: Heap<'_>, alloc: A, size: Size) -> Option<Builder<A>> {
     let before = heap.count();
-    if let Ok(builder) = size.builder(heap) {
+    if let Ok(builder) = size.builder(alloc) {
         return Some(builder);
     }
     if !heap.count().has_refused_since(before) {
         return None;
     }
-    size.builder(heap).ok()
+    size.builder(alloc).ok()
 }
 
 /// Whether the facts can be told. One is told again where memory was refused.
@@ -76,39 +76,55 @@ fn has_size<A: Allocator + Copy + Drop>(builder: &Builder<A>, size: Size) -> boo
 }
 
 /// Builds, and builds again where memory was refused.
-fn built_twice<'a>(heap: Heap<'a>, builder: Builder<Heap<'a>>) -> Option<Instance<Heap<'a>>> {
+fn built_twice<A: Allocator + Copy + Drop>(
+    heap: Heap<'_>,
+    builder: Builder<A>,
+) -> Option<Instance<A>> {
     let before = heap.count();
-    let builder = match builder.build() {
-        Ok(pit) => return Some(pit),
-        Err((builder, NoMemory)) => builder,
-    };
-    if !heap.count().has_refused_since(before) {
-        return None;
+    match builder.build() {
+        Ok(pit) => Some(pit),
+        Err((builder, NoMemory)) => built_where(builder, heap.count().has_refused_since(before)),
     }
-    builder.build().ok()
 }
 
-/// The pit of facts, where these are told and refused.
-fn pit_of<'a>(heap: Heap<'a>, facts: Facts<'_>) -> Option<Instance<Heap<'a>>> {
-    let mut builder = begun(heap, facts.size)?;
-    let is = are_told(heap, &mut builder, facts.told)
-        && are_answered(&mut builder, facts.refused)
-        && has_size(&builder, facts.size);
-    if !is {
-        return None;
+fn built_where<A: Allocator + Copy + Drop>(builder: Builder<A>, is: bool) -> Option<Instance<A>> {
+    if is {
+        return built(builder);
     }
-    built_twice(heap, builder)
+    None
+}
+
+fn built<A: Allocator + Copy + Drop>(builder: Builder<A>) -> Option<Instance<A>> {
+    match builder.build() {
+        Ok(pit) => Some(pit),
+        Err(_) => None,
+    }
+}
+
+/// Whether the facts are told and refused.
+fn is_filled<A: Allocator + Copy + Drop>(
+    heap: Heap<'_>,
+    builder: &mut Builder<A>,
+    facts: Facts<'_>,
+) -> bool {
+    are_told(heap, builder, facts.told)
+        && are_answered(builder, facts.refused)
+        && has_size(builder, facts.size)
 }
 
 /// Whether all was told that a pit has. What is read of it takes no memory, nor does the same pit once more.
-fn is_as_told(heap: Heap<'_>, pit: &Instance<Heap<'_>>) -> bool {
+fn is_as_told<A: Allocator + Copy + Drop>(heap: Heap<'_>, pit: &Instance<A>) -> bool {
     let before = heap.count();
+    is_either(pit) && is_again(pit) && heap.count() == before
+}
+
+fn is_again<A: Allocator + Copy + Drop>(pit: &Instance<A>) -> bool {
     let Ok(again) = pit.again() else {
         return false;
     };
-    let is = is_either(pit) && is_either(&again);
+    let is = is_either(&again);
     drop(again);
-    is && heap.count() == before
+    is
 }
 
 fn is_either<A: Allocator + Copy + Drop>(pit: &Instance<A>) -> bool {
@@ -123,15 +139,29 @@ pub(super) fn is_told(heap: Heap<'_>, facts: Facts<'_>) -> Result<bool, NoMemory
     if heap.count().has_refused() {
         return Ok(true);
     }
-    let Some(pit) = pit_of(heap, facts) else {
-        return Ok(false);
-    };
-    let is = is_as_told(heap, &pit);
-    drop(pit);
+    let is = is_built(heap, heap, facts);
     if is && heap.count().has_refused() {
         return Err(NoMemory);
     }
     Ok(is)
+}
+
+/// Whether the facts are told and refused, and the pit of them is built.
+fn is_built<A: Allocator + Copy + Drop>(heap: Heap<'_>, alloc: A, facts: Facts<'_>) -> bool {
+    let Some(mut builder) = begun(heap, alloc, facts.size) else {
+        return false;
+    };
+    let is = is_filled(heap, &mut builder, facts);
+    is_right(heap, built_twice(heap, builder)) && is
+}
+
+fn is_right<A: Allocator + Copy + Drop>(heap: Heap<'_>, pit: Option<Instance<A>>) -> bool {
+    let Some(pit) = pit else {
+        return false;
+    };
+    let is = is_as_told(heap, &pit);
+    drop(pit);
+    is
 }
 
 /// A refusal leaves the pit as it was.
@@ -187,11 +217,11 @@ fn many_facts(rt: &impl Abort, alloc: Global) -> Vec<Fact> {
     for r in 0..LARGE.resources {
         for b in 0..LARGE.blocks {
             let coef = Coef(b, r, r.cast_signed().wrapping_add(1));
-            assert!(rt; facts.push(coef).is_ok());
+            facts.push(coef).expect(rt, "memory");
         }
     }
     for b in 200..220u32 {
-        assert!(rt; facts.push(Preds(b, HUNDRED)).is_ok());
+        facts.push(Preds(b, HUNDRED)).expect(rt, "memory");
     }
     facts
 }
@@ -263,34 +293,42 @@ const QUIET: &[Row] = &[
 ];
 
 /// Empty lists take fewer bytes than there are blocks.
-fn assert_bits<A: Allocator + Copy + Drop>(
-    rt: &impl Abort,
-    heap: Heap<'_>,
-    builder: &mut Builder<A>,
-) {
+fn assert_bits<A: Allocator + Copy + Drop>(rt: &impl Abort, heap: Heap<'_>, alloc: A) {
+    let mut builder = LARGE.builder(alloc).expect(rt, "a builder");
     let before = heap.used();
+    let are = are_empty(&mut builder) && heap.used().saturating_sub(before) < 300;
+    drop(builder);
+    assert!(rt; are);
+}
+
+/// Whether each block may have an empty list.
+fn are_empty<A: Allocator + Copy + Drop>(builder: &mut Builder<A>) -> bool {
     for b in 0..LARGE.blocks {
-        assert!(rt; builder.set_preds(b, &[]).is_ok());
+        if builder.set_preds(b, &[]).is_err() {
+            return false;
+        }
     }
-    assert!(rt; heap.used().saturating_sub(before) < 300);
+    true
+}
+
+fn assert_quiet<A: Allocator + Copy + Drop>(rt: &impl Abort, heap: Heap<'_>, alloc: A) {
+    let mut builder = TINY_SIZE.builder(alloc).expect(rt, "a builder");
+    let before = heap.count();
+    let are = are_answered(&mut builder, QUIET) && heap.count() == before;
+    drop(builder);
+    assert!(rt; are);
 }
 
 /// They ask for no memory.
 #[test]
 fn memory_is_not_asked_for_in_vain(rt: HostRuntime) {
     let heap = Refusing::over_heap(rt.alloc(), BYTES, 0).expect(&rt, "a heap");
-    let mut builder = TINY_SIZE.builder(&heap).expect(&rt, "a builder");
-    let before = heap.count();
-    assert!(rt; are_answered(&mut builder, QUIET));
-    assert!(rt; heap.count() == before);
-    drop(builder);
+    assert_quiet(&rt, &heap, &heap);
 }
 
 /// A block that has no predecessors takes a bit, and no row among those of the others.
 #[test]
 fn is_a_bit_for_an_empty_list(rt: HostRuntime) {
     let heap = Refusing::over_heap(rt.alloc(), BYTES, 0).expect(&rt, "a heap");
-    let mut builder = LARGE.builder(&heap).expect(&rt, "a builder");
-    assert_bits(&rt, &heap, &mut builder);
-    drop(builder);
+    assert_bits(&rt, &heap, &heap);
 }

@@ -17,8 +17,12 @@ use std::process::Abort;
 
 fn assert_words<T: fmt::Display>(rt: &impl Abort, alloc: Global, value: &T, words: &str) {
     let shown = format!(in alloc; "{value}").expect(rt, "memory");
-    assert!(rt; shown.as_str() == words, "{shown} for {words}");
+    assert_same(rt, &shown, words);
     drop(shown);
+}
+
+fn assert_same(rt: &impl Abort, shown: &str, words: &str) {
+    assert!(rt; shown == words, "{shown} for {words}");
 }
 
 fn assert_each<T: fmt::Display>(rt: &impl Abort, alloc: Global, rows: &[(T, &str)]) {
