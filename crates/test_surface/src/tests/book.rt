@@ -5,8 +5,8 @@ use super::tiny::{CHANGED, HISTORY, WORTH, empty_desk, tiny};
 use super::tx::{Call, Pair, work_of};
 use Reply::{Committed, Refused};
 use pit_book::{
-    Act, AuditFault, Desk, DeskError, Entry, EntryReply, LinesCause, Pairs, Refusal, Reply,
-    ResumeFault, Revisions, Stop, audit, from_lines, to_lines,
+    Act, AuditFault, Desk, DeskError, Entry, EntryReply, LinesCause, LinesError, Pairs, Refusal,
+    Reply, ResumeFault, Revisions, Stop, audit, from_lines, to_lines,
 };
 use pit_model::Instance;
 use pit_tx::Work;
@@ -58,10 +58,15 @@ fn a_desk_keeps_its_history(rt: HostRuntime) {
     assert_withdrawn(&rt, rt.alloc(), &mut desk);
     assert_entries(&rt, desk.history());
     assert_lines(&rt, rt.alloc(), desk.history());
+    assert_audited(&rt, rt.alloc(), desk);
+}
+
+fn assert_audited(rt: &impl Abort, alloc: Global, desk: Desk<Global>) {
     let (plan, history) = desk.into_parts();
     drop(plan);
-    assert!(rt; audited(&rt, rt.alloc(), &history) == Ok(WORTH));
+    let answer = audited(rt, alloc, &history);
     drop(history);
+    assert!(rt; answer == Ok(WORTH));
 }
 
 fn assert_answered(rt: &impl Abort, alloc: Global, desk: &mut Desk<Global>) {
@@ -75,22 +80,30 @@ fn reply_of(rt: &impl Abort, desk: &mut Desk<Global>, work: Work<Global>) -> Opt
     assert!(rt; desk.fits(&work));
     match desk.commit(work) {
         Ok(reply) => Some(reply),
-        Err((_work, Stop::Full)) => None,
-        Err((_work, Stop::NoMemory)) => panic!(rt; "no memory"),
+        Err((_work, stop)) => full(rt, stop),
+    }
+}
+
+fn full(rt: &impl Abort, stop: Stop) -> Option<Reply> {
+    match stop {
+        Stop::Full => None,
+        Stop::NoMemory => panic!(rt; "no memory"),
     }
 }
 
 /// A withdrawal changes nothing. What comes behind it finds no room.
 fn assert_withdrawn(rt: &impl Abort, alloc: Global, desk: &mut Desk<Global>) {
     let work = work_of(rt, alloc, (8, &[(3, Some(1))], 2, &[(3, None)]));
-    assert!(rt; desk.fits(&work));
-    let Ok(()) = desk.withdraw(work) else {
-        panic!(rt; "stopped");
-    };
-    assert!(rt; desk.max_entries() == 8);
+    withdraw(rt, desk, work);
     let work = work_of(rt, alloc, (9, &[], 2, &[]));
-    assert!(rt; reply_of(rt, desk, work) == None);
-    assert!(rt; desk.plan().value() == WORTH);
+    let reply = reply_of(rt, desk, work);
+    assert!(rt; reply == None && desk.max_entries() == 8 && desk.plan().value() == WORTH);
+}
+
+fn withdraw(rt: &impl Abort, desk: &mut Desk<Global>, work: Work<Global>) {
+    assert!(rt; desk.fits(&work));
+    let is_done = desk.withdraw(work).is_ok();
+    assert!(rt; is_done);
 }
 
 fn assert_entries(rt: &impl Abort, history: &[Entry<Global>]) {
@@ -98,22 +111,44 @@ fn assert_entries(rt: &impl Abort, history: &[Entry<Global>]) {
     let entry = history.get(6).expect(rt, "an entry");
     assert!(rt; (entry.act, entry.reply) == (Act::Commit, EntryReply::Refused(MISREAD)));
     let entry = history.last().expect(rt, "an entry");
-    assert!(rt; (entry.act, entry.reply) == (Act::Withdraw, EntryReply::Withdrawn));
-    assert!(rt; (entry.planner, entry.job, entry.start) == (1, 8, 2));
-    assert!(rt; entry.reads.items() == [(3, Some(1))].as_slice());
-    assert!(rt; entry.writes.items() == [(3, None)].as_slice());
+    assert!(rt; is_withdrawal(entry));
+}
+
+fn is_withdrawal(entry: &Entry<Global>) -> bool {
+    (entry.act, entry.reply) == (Act::Withdraw, EntryReply::Withdrawn)
+        && (entry.planner, entry.job, entry.start) == (1, 8, 2)
+        && entry.reads.items() == [(3, Some(1))].as_slice()
+        && entry.writes.items() == [(3, None)].as_slice()
 }
 
 /// The first three entries are written as their lines, and these are read as those entries.
 fn assert_lines(rt: &impl Abort, alloc: Global, history: &[Entry<Global>]) {
     let first = history.get(..3).expect(rt, "three entries");
+    assert_written(rt, alloc, first);
+    assert_read(rt, alloc, first);
+}
+
+fn assert_written(rt: &impl Abort, alloc: Global, first: &[Entry<Global>]) {
     let lines = to_lines(alloc, first).expect(rt, "memory");
-    assert!(rt; lines.as_slice() == HISTORY);
+    let is_text = lines.as_slice() == HISTORY;
     drop(lines);
+    assert!(rt; is_text);
+}
+
+fn assert_read(rt: &impl Abort, alloc: Global, first: &[Entry<Global>]) {
     let again = from_lines(alloc, alloc, HISTORY).expect(rt, "a history");
-    let is_same = again.iter().zip(first.iter()).all(|(a, b)| a.is_same(b));
-    assert!(rt; is_same && again.len() == 3);
+    let are_same = again.len() == 3 && are_same(&again, first);
     drop(again);
+    assert!(rt; are_same);
+}
+
+fn are_same(history: &[Entry<Global>], other: &[Entry<Global>]) -> bool {
+    for (a, b) in history.iter().zip(other.iter()) {
+        if !a.is_same(b) {
+            return false;
+        }
+    }
+    true
 }
 
 /// The value to which a history leads on the small pit.
@@ -154,11 +189,11 @@ fn an_audit_finds_what_is_wrong(rt: HostRuntime) {
 fn a_desk_opens_on_a_start(rt: HostRuntime) {
     let desk = match started(&rt, rt.alloc(), tiny(&rt, rt.alloc()), 3, 1) {
         Ok(desk) => desk,
-        Err(DeskError::NoMemory) => panic!(rt; "no memory"),
-        Err(_) => panic!(rt; "refused"),
+        Err(error) => panic!(rt; "{error:?}"),
     };
-    assert!(rt; (desk.plan().value(), desk.history().len()) == (4_545_454_545_455_000_000, 1));
+    let found = (desk.plan().value(), desk.history().len());
     drop(desk);
+    assert!(rt; found == (4_545_454_545_455_000_000, 1));
 }
 
 /// Opens a desk that may have so many entries, on a start of one block in period 1.
@@ -179,17 +214,44 @@ fn started(
 
 #[test]
 fn a_start_or_a_history_may_be_refused(rt: HostRuntime) {
-    let error = started(&rt, rt.alloc(), limited(&rt, rt.alloc()), 0, 100).err();
     let (resource, period) = (0, 1);
-    assert!(rt; error == Some(DeskError::Unmeetable { resource, period }));
-    let error = started(&rt, rt.alloc(), tiny(&rt, rt.alloc()), 1, 100).err();
-    assert!(rt; error == Some(DeskError::BadStart(BEHIND)));
-    let error = started(&rt, rt.alloc(), tiny(&rt, rt.alloc()), 3, 0).err();
-    assert!(rt; error == Some(DeskError::Full));
-    let fault = resumed(&rt, rt.alloc(), HISTORY, 2).err();
-    assert!(rt; fault == Some(ResumeFault::Full));
-    let fault = resumed(&rt, rt.alloc(), CHANGED, 9).err();
-    assert!(rt; fault == Some(ResumeFault::Place { place: 1 }));
+    let error = DeskError::Unmeetable { resource, period };
+    assert_not_started(&rt, rt.alloc(), limited(&rt, rt.alloc()), 0, 100, error);
+    let error = DeskError::BadStart(BEHIND);
+    assert_not_started(&rt, rt.alloc(), tiny(&rt, rt.alloc()), 1, 100, error);
+    assert_not_started(
+        &rt,
+        rt.alloc(),
+        tiny(&rt, rt.alloc()),
+        3,
+        0,
+        DeskError::Full,
+    );
+    assert_not_resumed(&rt, rt.alloc(), HISTORY, 2, ResumeFault::Full);
+    assert_not_resumed(&rt, rt.alloc(), CHANGED, 9, ResumeFault::Place { place: 1 });
+}
+
+fn assert_not_started(
+    rt: &impl Abort,
+    alloc: Global,
+    pit: Instance<Global>,
+    block: u32,
+    max_entries: u32,
+    error: DeskError,
+) {
+    let found = started(rt, alloc, pit, block, max_entries).err();
+    assert!(rt; found == Some(error));
+}
+
+fn assert_not_resumed(
+    rt: &impl Abort,
+    alloc: Global,
+    text: &[u8],
+    max_entries: u32,
+    fault: ResumeFault,
+) {
+    let found = resumed(rt, alloc, text, max_entries).err();
+    assert!(rt; found == Some(fault));
 }
 
 /// A desk that goes on from the lines of a history, and may have so many entries.
@@ -217,10 +279,8 @@ const FAULTY: &[(&[u8], u64, LinesCause)] = &[
 #[test]
 fn lines_may_have_a_fault(rt: HostRuntime) {
     for (text, line, cause) in FAULTY {
-        match from_lines(rt.alloc(), rt.alloc(), text) {
-            Ok(_) => panic!(rt; "no fault"),
-            Err(error) if error.cause == LinesCause::NoMemory => panic!(rt; "no memory"),
-            Err(error) => assert!(rt; (error.line, error.cause) == (*line, *cause)),
-        }
+        let error = from_lines(rt.alloc(), rt.alloc(), text).err();
+        let (line, cause) = (*line, *cause);
+        assert!(rt; error == Some(LinesError { line, cause }));
     }
 }

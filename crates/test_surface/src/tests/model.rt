@@ -8,8 +8,9 @@ use std::process::Abort;
 #[test]
 fn a_pit_is_what_was_told(rt: HostRuntime) {
     let pit = limited(&rt, rt.alloc());
-    assert!(rt; is_limited(&pit));
+    let is = is_limited(&pit);
     drop(pit);
+    assert!(rt; is);
 }
 
 /// Two blocks, the second after the first, in two periods. In period 1 the limit is below zero, and can't be met where nothing is mined.
@@ -42,11 +43,15 @@ fn told(builder: &mut Builder<Global>) -> Result<(), BuildError> {
 
 fn assert_refused(rt: &impl Abort, builder: &mut Builder<Global>) {
     assert!(rt; (builder.blocks(), builder.periods(), builder.resources()) == (2, 2, 1));
-    assert!(rt; builder.set_profit(2, 0) == Err(BlockRange));
-    assert!(rt; builder.set_coef(0, 1, 0) == Err(ResourceRange));
-    assert!(rt; builder.add_limit(0, 2, None, None) == Err(PeriodRange));
-    assert!(rt; builder.set_profit(1, 20_500_000) == Err(Repeated));
-    assert!(rt; builder.add_limit(0, 0, Some(5), Some(4)) == Err(Interval));
+    assert!(rt; are_refused(builder));
+}
+
+fn are_refused(builder: &mut Builder<Global>) -> bool {
+    builder.set_profit(2, 0) == Err(BlockRange)
+        && builder.set_coef(0, 1, 0) == Err(ResourceRange)
+        && builder.add_limit(0, 2, None, None) == Err(PeriodRange)
+        && builder.set_profit(1, 20_500_000) == Err(Repeated)
+        && builder.add_limit(0, 0, Some(5), Some(4)) == Err(Interval)
 }
 
 /// The factor is 10^18 / 1100000.

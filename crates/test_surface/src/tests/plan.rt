@@ -12,11 +12,12 @@ fn a_plan_grows_by_writes(rt: HostRuntime) {
         Err((_pit, NoMemory)) => panic!(rt; "no memory"),
     };
     write(&rt, &mut plan);
-    assert_written(&rt, &plan);
     assert_judged(&rt, &plan);
+    assert_short(&rt, &plan);
     let pit = plan.into_instance();
-    assert!(rt; pit.blocks() == 4);
+    let blocks = pit.blocks();
     drop(pit);
+    assert!(rt; blocks == 4);
 }
 
 /// Blocks 0 and 1 are added in period 0.
@@ -28,13 +29,14 @@ fn write(rt: &impl Abort, plan: &mut Plan<Global>) {
 }
 
 /// Their value is -10 + 20.5, in units of 10^-18, and their load 2 + 2, in millionths.
-fn assert_written(rt: &impl Abort, plan: &Plan<Global>) {
-    assert!(rt; plan.instance().blocks() == 4);
-    assert!(rt; plan.instance().periods() == 2);
-    assert!(rt; plan.instance().resources() == 1);
-    assert!(rt; (plan.period(1), plan.period(3)) == (Some(0), None));
-    assert!(rt; (plan.commits(), plan.version(1), plan.version(3)) == (1, 1, 0));
-    assert!(rt; (plan.load(0, 0), plan.value()) == (4_000_000, 10_500_000_000_000_000_000));
+fn is_written(plan: &Plan<Global>) -> bool {
+    let pit = plan.instance();
+    if pit.blocks() != 4 || pit.periods() != 2 || pit.resources() != 1 {
+        return false;
+    }
+    (plan.period(1), plan.period(3)) == (Some(0), None)
+        && (plan.commits(), plan.version(1), plan.version(3)) == (1, 1, 0)
+        && (plan.load(0, 0), plan.value()) == (4_000_000, 10_500_000_000_000_000_000)
 }
 
 const OVER: Breach = Breach::Over {
@@ -56,8 +58,9 @@ const SHORT: Short = Short {
     limit: 1_000_000,
 };
 
-/// Block 3 may not be put into period 0, nor block 0 be taken away from before block 1. At least 1 is wanted in period 1.
+/// Block 3 may not be put into period 0, nor block 0 be taken away from before block 1.
 fn assert_judged(rt: &impl Abort, plan: &Plan<Global>) {
+    assert!(rt; is_written(plan));
     assert!(rt; plan.instance().blocks() == 4);
     assert!(rt; plan.instance().periods() == 2);
     let None = plan.check() else {
@@ -65,7 +68,12 @@ fn assert_judged(rt: &impl Abort, plan: &Plan<Global>) {
     };
     assert!(rt; plan.judge(&[(3, Some(0))], &[]) == Ok(Some(OVER)));
     assert!(rt; plan.judge(&[(0, None)], &[]) == Ok(Some(BEHIND)));
+}
+
+/// At least 1 is wanted in period 1.
+fn assert_short(rt: &impl Abort, plan: &Plan<Global>) {
     let shorts = plan.shortfalls().expect(rt, "memory");
-    assert!(rt; shorts.as_slice() == [SHORT].as_slice());
+    let is_short = shorts.as_slice() == [SHORT].as_slice();
     drop(shorts);
+    assert!(rt; is_short);
 }

@@ -5,12 +5,12 @@ ghost use Rattle.pit_share.specs.declared.blank.TheConstants.{PLANNERS_MAX};
 use super::book::{OVER, resumed};
 use super::tiny::{HISTORY, WORTH, empty_desk, tiny};
 use super::tx::has_pairs;
-use pit_book::{Desk, Reply, ResumeFault};
+use pit_book::{Desk, Reply};
 use pit_model::Instance;
 use pit_num::NumError;
 use pit_run::{
     Gate, InTurnError, Open, Outcome, PlannerRun, Report, RunEnd, RunError, Script, ScriptCause,
-    run, run_in_turn,
+    ScriptError, run, run_in_turn,
 };
 use pit_share::{
     Blank, CloseError, OpenError, Planner, PlannerLog, ReadStop, Seat, Session, Transaction,
@@ -27,22 +27,54 @@ use std::thread::Threads;
 /// A desk that goes on from a history of three entries is shared by planners, who may not be too many.
 #[test]
 fn planners_share_a_desk(rt: HostRuntime) {
-    let desk = match resumed(&rt, rt.alloc(), HISTORY, 100) {
-        Ok(desk) => desk,
-        Err(ResumeFault::NoMemory) => panic!(rt; "no memory"),
-        Err(_) => panic!(rt; "refused"),
-    };
-    assert!(rt; desk.plan().value() == WORTH);
-    let desk = match shared(&rt, rt.alloc(), desk, 65, &[]) {
-        Ok(_) => panic!(rt; "opened"),
-        Err((desk, OpenError::PlannerCount)) => desk,
-        Err((_desk, OpenError::NoPlace)) => panic!(rt; "no place"),
-        Err((_desk, OpenError::NoMemory)) => panic!(rt; "no memory"),
-    };
+    let desk = resumed_desk(&rt, rt.alloc());
+    let desk = not_shared(&rt, rt.alloc(), desk);
     let answer = shared(&rt, rt.alloc(), desk, 2, &[]);
-    let desk = answer.ok().expect(&rt, "a desk");
-    assert!(rt; (desk.history().len(), desk.plan().commits()) == (5, 3));
+    assert_shared(&rt, answer, (5, 3));
+}
+
+fn resumed_desk(rt: &impl Abort, alloc: Global) -> Desk<Global> {
+    let desk = match resumed(rt, alloc, HISTORY, 100) {
+        Ok(desk) => desk,
+        Err(fault) => panic!(rt; "{fault:?}"),
+    };
+    assert_worth(rt, &desk);
+    desk
+}
+
+fn assert_worth(rt: &impl Abort, desk: &Desk<Global>) {
+    assert!(rt; desk.plan().value() == WORTH);
+}
+
+/// The desk, which comes back where planners are too many.
+fn not_shared<R: Threads + Wait + Abort + Sync>(
+    rt: &R,
+    alloc: Global,
+    desk: Desk<Global>,
+) -> Desk<Global> {
+    match shared(rt, alloc, desk, 65, &[]) {
+        Ok(_) => panic!(rt; "opened"),
+        Err((desk, error)) => {
+            assert_count(rt, error);
+            desk
+        }
+    }
+}
+
+fn assert_count(rt: &impl Abort, error: OpenError) {
+    match error {
+        OpenError::PlannerCount => {}
+        OpenError::NoPlace => panic!(rt; "no place"),
+        OpenError::NoMemory => panic!(rt; "no memory"),
+    }
+}
+
+/// A desk is left with so many entries and commits.
+fn assert_shared(rt: &impl Abort, answer: Shared, counts: (usize, u32)) {
+    let desk = answer.ok().expect(rt, "a desk");
+    let found = (desk.history().len(), desk.plan().commits());
     drop(desk);
+    assert!(rt; found == counts);
 }
 
 /// The desk that a workspace leaves, or the one that comes back where none is opened.
@@ -98,16 +130,30 @@ fn by_hand<S: Session, R: Wait + Drop, W: Wait + Abort>(
     workspace: Workspace<S, R, Global>,
     seats: Vec<Seat<S, Global>>,
 ) -> Desk<Global> {
-    let workspace = match workspace.close(Vec::new(alloc)) {
-        Err((workspace, _, CloseError::Missing { planner: 1 })) => workspace,
-        _ => panic!(rt; "closed"),
-    };
+    let workspace = not_closed(rt, alloc, workspace);
     let logs = logs_of(rt, alloc, &workspace, seats);
     match workspace.close(logs) {
         Ok(closed) => closed.into_desk(),
-        Err((_, _, CloseError::Differs { planner })) => panic!(rt; "another log of {planner}"),
-        Err(_) => panic!(rt; "a log is missing"),
+        Err((_, _, error)) => panic!(rt; "{error:?}"),
     }
+}
+
+fn not_closed<S: Session, R: Wait + Drop>(
+    rt: &impl Abort,
+    alloc: Global,
+    workspace: Workspace<S, R, Global>,
+) -> Workspace<S, R, Global> {
+    match workspace.close(Vec::new(alloc)) {
+        Ok(_) => panic!(rt; "closed"),
+        Err((workspace, _, error)) => {
+            assert_missing(rt, error);
+            workspace
+        }
+    }
+}
+
+fn assert_missing(rt: &impl Abort, error: CloseError) {
+    assert!(rt; error == CloseError::Missing { planner: 1 });
 }
 
 /// Planner 1 has begun when planner 2 commits. It begins anew, and gives that up.
@@ -120,18 +166,31 @@ fn logs_of<S: Session, R: Wait + Drop, W: Wait + Abort>(
     let second = seats.pop().expect(rt, "a seat").sit(workspace);
     let first = seats.pop().expect(rt, "a seat").sit(workspace);
     drop(seats);
-    let first = first.begin(1).ok().expect(rt, "memory");
-    let second = after_commit(rt, second);
-    let first = after_abort(rt, first).begin(2).ok().expect(rt, "memory");
-    let first = first.abandon();
-    let mut logs = Vec::new(alloc);
-    assert!(rt; logs.push(first.finish()).is_ok());
-    assert!(rt; logs.push(second.finish()).is_ok());
-    assert!(rt;
-        logs.iter()
-            .all(|log| log.planner() <= 2 && log.items().len() == 1)
-    );
+    let logs = logs_by(rt, alloc, first, second);
+    assert_logs(rt, &logs);
     logs
+}
+
+fn logs_by<'a, S: Session, R: Wait + Drop, W: Wait + Abort>(
+    rt: &W,
+    alloc: Global,
+    first: Planner<'a, S, R, Global>,
+    second: Planner<'a, S, R, Global>,
+) -> Vec<PlannerLog<S, Global>> {
+    let first = first.begin(1).ok().expect(rt, "memory");
+    let second = after_commit(rt, second).finish();
+    let first = after_abort(rt, first).begin(2).ok().expect(rt, "memory");
+    let first = first.abandon().finish();
+    let mut logs = Vec::new(alloc);
+    logs.push(first).expect(rt, "memory");
+    logs.push(second).expect(rt, "memory");
+    logs
+}
+
+fn assert_logs<S: Session>(rt: &impl Abort, logs: &[PlannerLog<S, Global>]) {
+    for log in logs {
+        assert!(rt; log.planner() <= 2 && log.items().len() == 1);
+    }
 }
 
 /// Planner 2 reads block 3, and puts block 2 in its place.
@@ -139,17 +198,30 @@ fn after_commit<'a, S: Session, R: Wait + Drop, W: Wait + Abort>(
     rt: &W,
     planner: Planner<'a, S, R, Global>,
 ) -> Planner<'a, S, R, Global> {
-    assert!(rt; planner.number() == 2);
+    let number = planner.number();
     let mut transaction = planner.begin(1).ok().expect(rt, "memory");
-    assert!(rt; (transaction.start(), transaction.read(3)) == (2, Ok(Some(1))));
-    assert!(rt; is_filled(&mut transaction));
+    assert_filled(rt, number, &mut transaction);
     match transaction.commit(rt) {
         Ok((planner, reply)) => {
-            assert!(rt; reply == Reply::Committed { number: 3 });
+            assert_third(rt, reply);
             planner
         }
         Err((transaction, _)) => transaction.abandon(),
     }
+}
+
+fn assert_filled<S: Session, R: Wait + Drop>(
+    rt: &impl Abort,
+    number: u32,
+    transaction: &mut Transaction<'_, S, R, Global>,
+) {
+    assert!(rt; number == 2);
+    assert!(rt; (transaction.start(), transaction.read(3)) == (2, Ok(Some(1))));
+    assert!(rt; is_filled(transaction));
+}
+
+fn assert_third(rt: &impl Abort, reply: Reply) {
+    assert!(rt; reply == Reply::Committed { number: 3 });
 }
 
 fn is_filled<S: Session, R: Wait + Drop>(transaction: &mut Transaction<'_, S, R, Global>) -> bool {
@@ -165,17 +237,17 @@ fn after_abort<'a, S: Session, R: Wait + Drop, W: Wait + Abort>(
     rt: &W,
     mut transaction: Transaction<'a, S, R, Global>,
 ) -> Planner<'a, S, R, Global> {
-    assert!(rt; transaction.read(4) == Err(ReadStop::NoBlock));
-    match transaction.read(3) {
-        Err(ReadStop::Moved { block, version }) => assert!(rt; (block, version) == (3, 3)),
-        Err(ReadStop::NoEntry) => panic!(rt; "no entry"),
-        Err(ReadStop::NoMemory) => panic!(rt; "no memory"),
-        _ => panic!(rt; "read"),
-    }
+    assert!(rt; has_moved(&mut transaction));
     match transaction.abort(rt) {
         Ok(planner) => planner,
         Err((transaction, _)) => transaction.abandon(),
     }
+}
+
+fn has_moved<S: Session, R: Wait + Drop>(transaction: &mut Transaction<'_, S, R, Global>) -> bool {
+    let (block, version) = (3, 3);
+    transaction.read(4) == Err(ReadStop::NoBlock)
+        && transaction.read(3) == Err(ReadStop::Moved { block, version })
 }
 
 /// Puts blocks 0 and 1 into period 0, then block 3, which is too much, and thinks better of putting that into period 1.
@@ -186,13 +258,12 @@ const SCRIPT: &[u8] =
 fn a_planner_does_its_script(rt: HostRuntime) {
     let desk = empty_desk(&rt, rt.alloc(), 100);
     let script = script_of(&rt, rt.alloc(), desk.plan().instance());
-    assert!(rt; script.jobs() == 3);
+    let jobs = script.jobs();
     let scripts = [script];
     let answer = shared(&rt, rt.alloc(), desk, 1, &scripts);
     drop(scripts);
-    let desk = answer.ok().expect(&rt, "a desk");
-    assert!(rt; (desk.history().len(), desk.plan().commits()) == (3, 1));
-    drop(desk);
+    assert_shared(&rt, answer, (3, 1));
+    assert!(rt; jobs == 3);
 }
 
 fn script_of(rt: &impl Abort, alloc: Global, pit: &Instance<Global>) -> Script<Global>
@@ -225,9 +296,13 @@ fn desk_of<S: Session, R: Wait + Drop>(
             },
         ) => panic!(rt; "not closed"),
     };
-    assert!(rt; is_run(runs.first(), 3, ("whole", 0)));
+    assert_run(rt, &runs, 3, ("whole", 0));
     drop(runs);
     closed.into_desk()
+}
+
+fn assert_run(rt: &impl Abort, runs: &[PlannerRun<Global>], count: usize, end: (&str, u32)) {
+    assert!(rt; is_run(runs.first(), count, end));
 }
 
 /// Whether planner 1 did so many jobs of the script, and how its run ended.
@@ -278,10 +353,14 @@ fn planners_take_turns(rt: HostRuntime) {
     let answer = run_in_turn(&rt, rt.alloc(), desk, &scripts, 3, &gate);
     drop(scripts);
     let report = answer.ok().expect(&rt, "a report");
-    assert!(rt; report.closed.desk().history().len() == 2);
-    assert!(rt; is_run(report.runs.first(), 2, ("full", 3)));
+    assert_stopped(&rt, &report);
     drop(report);
     assert!(rt; gate.0.load(Ordering::SeqCst) == 22);
+}
+
+fn assert_stopped(rt: &impl Abort, report: &Report<Global>) {
+    assert!(rt; report.closed.desk().history().len() == 2);
+    assert_run(rt, &report.runs, 2, ("full", 3));
 }
 
 #[test]
@@ -321,11 +400,8 @@ fn a_script_may_have_a_fault(rt: HostRuntime) {
 
 fn assert_faults(rt: &impl Abort, alloc: Global, pit: &Instance<Global>) {
     for (text, line, cause) in FAULTY {
-        match Script::parse(alloc, text, pit) {
-            Ok(_) => panic!(rt; "no fault"),
-            Err(error) if error.cause == ScriptCause::JobCount => panic!(rt; "many jobs"),
-            Err(error) if error.cause == ScriptCause::NoMemory => panic!(rt; "no memory"),
-            Err(error) => assert!(rt; (error.line, error.cause) == (*line, *cause)),
-        }
+        let error = Script::parse(alloc, text, pit).err();
+        let (line, cause) = (*line, *cause);
+        assert!(rt; error == Some(ScriptError { line, cause }));
     }
 }

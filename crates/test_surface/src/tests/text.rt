@@ -35,8 +35,8 @@ fn a_pit_and_its_solution_are_read(rt: HostRuntime) {
     let pit = tiny(&rt, rt.alloc());
     assert_read(&rt, rt.alloc(), &pit);
     let error = read_solution(rt.alloc(), b"3 0 1 0.5\n", &pit).err();
-    assert!(rt; is_error(error, 1, Cause::PartBlock));
     drop(pit);
+    assert!(rt; is_error(error, 1, Cause::PartBlock));
 }
 
 /// In the solution block 3 is given as MineLib gives it, and block 2 not at all.
@@ -44,20 +44,19 @@ fn assert_read(rt: &impl Abort, alloc: Global, pit: &Instance<Global>) {
     assert!(rt; pit.blocks() == 4);
     assert!(rt; (pit.profit(1), pit.preds(2)) == (20_500_000, [0, 1].as_slice()));
     assert!(rt; pit.place(3) == Some((1_000_000, 0, 2_000_000)));
-    let solution = match read_solution(alloc, b"3 0 1 1.000000\n1 0\n0 0\n2 0 1 0\n", pit) {
-        Ok(solution) => solution,
-        Err(error) if error.cause == Cause::NoMemory => panic!(rt; "no memory"),
-        Err(_) => panic!(rt; "a fault"),
-    };
-    assert!(rt; solution.as_slice() == [(0, 0), (1, 0), (3, 1)].as_slice());
+    let answer = read_solution(alloc, b"3 0 1 1.000000\n1 0\n0 0\n2 0 1 0\n", pit);
+    let solution = answer.expect(rt, "a solution");
+    let is_read = solution.as_slice() == [(0, 0), (1, 0), (3, 1)].as_slice();
     drop(solution);
+    assert!(rt; is_read);
 }
 
 #[test]
 fn a_solution_is_written(rt: HostRuntime) {
     let mut out = Out::new(Vec::new(rt.alloc()));
-    assert!(rt; write_solution(&mut out, &[Some(0), Some(0), None, Some(1)]) == Ok(()));
-    assert!(rt; is_written(out, b"0 0\n1 0\n3 1\n"));
+    let answer = write_solution(&mut out, &[Some(0), Some(0), None, Some(1)]);
+    let is_text = is_written(out, b"0 0\n1 0\n3 1\n");
+    assert!(rt; answer == Ok(()) && is_text);
 }
 
 /// A text, the line of its first fault, and what is wrong with it.

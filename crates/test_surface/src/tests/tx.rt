@@ -46,12 +46,17 @@ fn filled(work: &mut Work<Global>, reads: &[Pair], writes: &[Pair]) -> Result<()
     Ok(())
 }
 
+/// Whether it knows what was read and written, and refuses what is out of range.
+fn is_kept(work: &mut Work<Global>) -> bool {
+    (work.known(0), work.known(3)) == (None, Some(None))
+        && work.put(4, 0) == Err(WorkError::NoBlock)
+        && work.put(3, 2) == Err(WorkError::NoPeriod)
+}
+
 fn assert_filled(rt: &impl Abort, work: &mut Work<Global>) {
     assert!(rt; (work.planner(), work.job(), work.start()) == (1, 7, 3));
     assert!(rt; (work.blocks(), work.periods()) == (4, 2));
-    assert!(rt; (work.known(0), work.known(3)) == (None, Some(None)));
-    assert!(rt; work.put(4, 0) == Err(WorkError::NoBlock));
-    assert!(rt; work.put(3, 2) == Err(WorkError::NoPeriod));
+    assert!(rt; is_kept(work));
     assert!(rt; has_pairs(work.reads(), &[(3, Some(1))]));
     assert!(rt; has_pairs(work.writes(), &[(2, Some(1)), (3, None)]));
 }
