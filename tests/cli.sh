@@ -8,6 +8,7 @@ if [ $# -ne 1 ] || [ ! -x "$1" ]; then
     exit 2
 fi
 pit=$(realpath "$1")
+here=$(dirname "$(realpath "$0")")
 work=$(mktemp -d)
 trap 'chmod -R u+rwx "$work"; rm -rf "$work"' EXIT
 cd "$work" || exit 2
@@ -849,49 +850,23 @@ grep -qi 'utf-8' err || status=lacking
 : >err
 compare 'which says so' 0 '' ''
 check 'a first word that is not UTF-8' 2 '' "$SOME" $'v\xc3'
-check 'help' 0 "$SOME" '' --help
-check 'help, short' 0 "$SOME" '' -h
-check 'help as a subcommand' 0 "$SOME" '' help
-check 'help on value' 0 "$SOME" '' value --help
-cp out asked
-check 'help value' 0 "$SOME" '' help value
-status=0
-cmp -s out asked || status=differs
-: >out
-compare 'both forms of help say the same' 0 '' ''
-status=0
-grep -q 'MineLib' asked && grep -q 'BLOCK PERIOD' asked && grep -q '^ *pit value ' asked || status=lacking
-compare 'help on value tells the formats and an example' 0 '' ''
-# help_on NAME: what help says of an argument, up to the next one.
-help_on() {
-    awk -v name="<$1>" '$1 == name { on = 1; print; next } /^ *<|^ *-|^$/ { on = 0 } on' asked
+# help NAME WORD..: help is the text of tests/help, word for word.
+help() {
+    local name=$1
+    shift
+    "$pit" "$@" >out 2>err </dev/null
+    status=$?
+    cmp -s out "$here/help/$name.txt" && : >out
+    compare "help by $*" 0 '' ''
 }
-status=0
-help_on MODEL | grep -q 'CPIT model text' && help_on SOLUTION | grep -q 'BLOCK PERIOD' || status=lacking
-compare 'help on value tells of each file under its own name' 0 '' ''
-check 'help on check' 0 "$SOME" '' check --help
-status=0
-grep -q 'over RESOURCE PERIOD LOAD LIMIT' out && grep -q 'numbered' out && grep -q '^Status: 0 ' out || status=lacking
-: >out
-compare 'help on check tells what is printed, and the statuses' 0 '' ''
-check 'help on plan' 0 "$SOME" '' plan --help
-status=0
-grep -q 'begin' out && grep -q 'revise R T V' out && grep -q '^Status: 0 ' out || status=lacking
-for word in --blocks --start --continue --history --in-turn --strict --retries; do
-    grep -q -- "^ *$word " out || status=lacking
+help pit --help
+help pit -h
+help pit help
+for name in value check table diff info show plan replay log merge; do
+    help "$name" "$name" --help
+    help "$name" "$name" -h
+    help "$name" help "$name"
 done
-: >out
-compare 'help on plan tells of scripts, options and statuses' 0 '' ''
-check 'help on replay' 0 "$SOME" '' replay --help
-status=0
-grep -q 'legal ENTRIES COMMITS' out && grep -q 'illegal PLACE' out && grep -q '^Status: 0 ' out || status=lacking
-: >out
-compare 'help on replay tells what is printed, and the statuses' 0 '' ''
-check 'help on log' 0 "$SOME" '' log --help
-status=0
-grep -q 'entry E planner K job J' out && grep -q 'write B OLD NEW' out && grep -q '^ *--writes ' out && grep -q '^Status: 0 ' out || status=lacking
-: >out
-compare 'help on log tells what is printed, its flag, and the statuses' 0 '' ''
 check 'version' 0 'pit 0.1.0' '' --version
 check 'version, short' 0 'pit 0.1.0' '' -V
 check 'version of a subcommand' 2 '' "$SOME" value --version
@@ -1089,11 +1064,6 @@ check 'merge, no edit' 2 '' "$SOME" merge model precedence
 check 'merge, a history to carry on and a start' 2 '' "$SOME" merge --continue fresh --start missing missing missing missing
 check 'merge, a number that is none' 2 '' "$SOME" merge --from -1 model precedence pair
 check 'merge, a number that is too large' 2 '' "$SOME" merge --from 4294967296 model precedence pair
-check 'help on merge' 0 "$SOME" '' merge --help
-status=0
-grep -q 'edit K entry E' out && grep -q 'conflict K B' out && grep -q '^ *--partial ' out && grep -q '^ *--from ' out && grep -q '^Status: 0 ' out || status=lacking
-: >out
-compare 'help on merge tells what is printed, its options, and the statuses' 0 '' ''
 
 # Want of memory: the model is larger than the memory that the program may take.
 truncate -s 512M large
