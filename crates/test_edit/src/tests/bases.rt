@@ -16,10 +16,17 @@ const NOTHING: &str = "{\"format\":1}\n";
 /// More entries than a history of these tests has.
 const FEW: usize = 100;
 
+/// The entries of a history, or none where there was no memory.
+fn read<A: Allocator + Copy + Drop>(
+    alloc: A,
+    json: Global,
+    text: &str,
+) -> Option<Vec<Entry<A>, A>> {
+    from_lines(alloc, json, text.as_bytes()).ok()
+}
+
 fn entries_of(rt: &impl Abort, alloc: Global, text: &str) -> Vec<Entry<Global>> {
-    from_lines(alloc, alloc, text.as_bytes())
-        .ok()
-        .expect(rt, "a history")
+    read(alloc, alloc, text).expect(rt, "a history")
 }
 
 /// The base of a history.

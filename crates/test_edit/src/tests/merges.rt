@@ -7,7 +7,7 @@ mod memory;
 mod rows;
 mod worked;
 
-use pit_desk::{Desk, Entry, audit};
+use pit_desk::{Desk, Entry, Reply, Stop, audit};
 use pit_edit::{Edit, Merging};
 use pit_model::Instance;
 use pit_plan::Plan;
@@ -67,15 +67,23 @@ fn empty_desk<A: Allocator + Copy + Drop>(alloc: A, given: Given) -> Result<Desk
 
 fn fill<A: Allocator + Copy + Drop>(work: &mut Work<A>, call: &Call) -> Result<(), WorkError> {
     for (b, period) in call.0 {
-        match period {
-            Some(t) => work.put(*b, *t)?,
-            None => work.clear(*b)?,
-        }
+        put(work, *b, *period)?;
     }
     for (r, t, upper) in call.1 {
         work.revise(*r, *t, *upper)?;
     }
     Ok(())
+}
+
+fn put<A: Allocator + Copy + Drop>(
+    work: &mut Work<A>,
+    b: u32,
+    period: Option<u32>,
+) -> Result<(), WorkError> {
+    match period {
+        Some(t) => work.put(b, t),
+        None => work.clear(b),
+    }
 }
 
 /// A work of planner 9 for its job 1, which has seen all commits.
@@ -109,12 +117,23 @@ fn filled<A: Allocator + Copy + Drop>(work: Work<A>, call: &Call) -> Result<Work
 }
 
 fn commit<A: Allocator + Copy + Drop>(desk: &mut Desk<A>, work: Work<A>) -> Result<(), Stopped> {
-    if !desk.fits(&work) {
-        return Err(Stopped::Unfit);
+    if desk.fits(&work) {
+        committed(desk.commit(work))
+    } else {
+        drop(work);
+        Err(Stopped::Unfit)
     }
-    match desk.commit(work) {
+}
+
+fn committed<A: Allocator + Copy + Drop>(
+    end: Result<Reply, (Work<A>, Stop)>,
+) -> Result<(), Stopped> {
+    match end {
         Ok(_) => Ok(()),
-        Err(_) => Err(Stopped::NoMemory),
+        Err((work, _)) => {
+            drop(work);
+            Err(Stopped::NoMemory)
+        }
     }
 }
 

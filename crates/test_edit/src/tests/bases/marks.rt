@@ -4,9 +4,8 @@ use BaseFault::{AnotherHistory, BaseMissing};
 use pit_base::BaseFault;
 use pit_desk::Entry;
 use pit_sample::LOADING;
-use std::alloc::{AllocError, Global};
+use std::alloc::Global;
 use std::process::Abort;
-use std::test::Fail;
 
 /// What `show` writes of the first commit.
 const LINE: &str =
@@ -50,14 +49,22 @@ fn answer_with(at: usize, byte: u8) -> Result<u32, BaseFault> {
     Err(BaseMissing)
 }
 
-/// The line with a byte in place of another one, or as it was.
-fn changed(alloc: Global, at: usize, byte: u8) -> Result<Option<Vec<u8>>, AllocError> {
-    let mut text = Vec::from_slice(alloc, LINE.as_bytes())?;
-    if at >= text.len() || text[at] == byte {
-        return Ok(None);
+fn put(text: &mut [u8], at: usize, byte: u8) {
+    if let Some(place) = text.get_mut(at) {
+        *place = byte;
     }
-    text[at] = byte;
-    Ok(Some(text))
+}
+
+/// Whether the line is answered so with another byte at a place, which stays there.
+fn is_answered(
+    alloc: Global,
+    ours: &[Entry<Global>],
+    line: &mut [u8],
+    at: usize,
+    byte: u8,
+) -> bool {
+    put(line, at, byte);
+    answered(alloc, ours, line) == answer_with(at, byte)
 }
 
 /// A digit of a number and of a sum, one of a sum alone, three that are neither, and two ends of lines.
@@ -67,32 +74,32 @@ fn assert_changed(
     rt: &impl Abort,
     alloc: Global,
     ours: &[Entry<Global>],
+    line: &mut [u8],
     at: usize,
-) -> Result<(), Fail> {
+    was: u8,
+) {
     for byte in BYTES {
-        let Some(text) = changed(alloc, at, *byte)? else {
-            continue;
-        };
-        let answer = answered(alloc, ours, &text);
-        drop(text);
-        assert!(rt; answer == answer_with(at, *byte), "{byte} at {at}");
+        if *byte != was {
+            let is = is_answered(alloc, ours, line, at, *byte);
+            assert!(rt; is, "{byte} at {at}");
+        }
     }
-    Ok(())
+    put(line, at, was);
 }
 
-fn assert_changed_each(rt: &impl Abort, alloc: Global, ours: &[Entry<Global>]) -> Result<(), Fail> {
-    for at in 0..LINE.len() {
-        assert_changed(rt, alloc, ours, at)?;
+fn assert_changed_each(rt: &impl Abort, alloc: Global, ours: &[Entry<Global>]) {
+    let mut line = Vec::from_slice(alloc, LINE.as_bytes()).expect(rt, "memory");
+    for (at, was) in LINE.as_bytes().iter().enumerate() {
+        assert_changed(rt, alloc, ours, &mut line, at, *was);
     }
-    Ok(())
+    drop(line);
 }
 
 #[test]
-fn of_other_bytes(rt: HostRuntime) -> Result<(), Fail> {
+fn of_other_bytes(rt: HostRuntime) {
     let ours = entries_of(&rt, rt.alloc(), LOADING);
-    let done = assert_changed_each(&rt, rt.alloc(), &ours);
+    assert_changed_each(&rt, rt.alloc(), &ours);
     drop(ours);
-    done
 }
 
 /// A text, and what it is answered.

@@ -1,8 +1,7 @@
 //! Want of memory, and what is freed after a fault.
-use super::base_of_solution;
 use super::periods::{LEFT, leaves_of_pit};
+use super::{base_of_solution, read};
 use pit_base::BaseFault;
-use pit_lines::from_lines;
 use pit_sample::{Ending, Heap, LOADING, Trial, refuse_each};
 use pit_step::CliFault;
 use std::alloc::{Allocator, Global};
@@ -32,12 +31,14 @@ fn base_of<A: Allocator + Copy + Drop>(
     json: Global,
     line: &str,
 ) -> Result<u32, BaseFault> {
-    let Ok(entries) = from_lines(alloc, json, LOADING.as_bytes()) else {
-        return Err(BaseFault::NoMemory);
-    };
-    let answer = base_of_solution(alloc, &entries, true, None, line.as_bytes());
-    drop(entries);
-    answer
+    match read(alloc, json, LOADING) {
+        Some(entries) => {
+            let answer = base_of_solution(alloc, &entries, true, None, line.as_bytes());
+            drop(entries);
+            answer
+        }
+        None => Err(BaseFault::NoMemory),
+    }
 }
 
 impl Trial for Based {

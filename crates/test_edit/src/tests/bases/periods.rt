@@ -1,7 +1,7 @@
 //! The periods that the texts of schedules leave.
-use super::{FEW, NOTHING};
+use super::{FEW, NOTHING, read};
 use pit_base::{history_periods, schedule_periods};
-use pit_lines::from_lines;
+use pit_desk::Entry;
 use pit_model::Instance;
 use pit_sample::{LOADING, MEETING, REVISING, TINY_SIZE, built};
 use pit_state::{is_history, pairs_of};
@@ -19,13 +19,25 @@ fn left_by_history<A: Allocator + Copy + Drop>(
     pit: &Instance<A>,
     text: &str,
 ) -> Result<Vec<Option<u32>, A>, CliFault> {
-    let Ok(entries) = from_lines(alloc, json, text.as_bytes()) else {
-        return Err(CliFault::NoMemory);
-    };
+    match read(alloc, json, text) {
+        Some(entries) => {
+            let periods = left_by_entries(alloc, pit, &entries);
+            drop(entries);
+            periods
+        }
+        None => Err(CliFault::NoMemory),
+    }
+}
+
+fn left_by_entries<A: Allocator + Copy + Drop>(
+    alloc: A,
+    pit: &Instance<A>,
+    entries: &[Entry<A>],
+) -> Result<Vec<Option<u32>, A>, CliFault> {
     if entries.len() >= FEW {
         return Err(CliFault::NoMemory);
     }
-    history_periods(alloc, Input::Old, pit, &entries)
+    history_periods(alloc, Input::Old, pit, entries)
 }
 
 /// What the pairs of a solution leave.

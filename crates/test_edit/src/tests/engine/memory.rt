@@ -29,10 +29,12 @@ impl Trial for Case {
     }
 }
 
+const CASES: &[Case] = &[MEETS, BASES, SHARED];
+
 /// Texts, facts, the desk with its entries, and of each edit its text, its periods, those of its base, its work, its entry and its lines.
 #[test]
 fn of_three_merges(rt: HostRuntime) {
-    for case in [MEETS, BASES, SHARED] {
-        assert!(rt; refuse_each(rt.alloc(), &case, 40) == Ok(()));
+    for case in CASES {
+        assert!(rt; refuse_each(rt.alloc(), case, 40) == Ok(()));
     }
 }

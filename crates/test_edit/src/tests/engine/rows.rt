@@ -174,10 +174,19 @@ short 0 1 0.000000 1.000000
     },
 ];
 
+const MEETINGS: &[Case] = &[MEETS, LEFT];
+
+const CARRIED_ON: &[Case] = &[NEW, SHARED];
+
+const OTHERS: &[Case] = &[BASES, APART];
+
 #[test]
 fn of_the_small_pit(rt: HostRuntime) {
-    assert_each(&rt, rt.alloc(), &[MEETS, LEFT, BASES, NEW, SHARED, APART]);
-    assert_each(&rt, rt.alloc(), RULES);
+    let alloc = rt.alloc();
+    assert_each(&rt, alloc, MEETINGS);
+    assert_each(&rt, alloc, CARRIED_ON);
+    assert_each(&rt, alloc, OTHERS);
+    assert_each(&rt, alloc, RULES);
 }
 
 /// The solution of `MEETS`, then its report, and then its history, as far as there is room.

@@ -27,17 +27,27 @@ fn all_in(alloc: Global, period: u32) -> Result<Vec<Option<u32>>, AllocError> {
     Ok(wanted)
 }
 
-/// What is told where the first edit has put each block into period 0, and the second one puts it into period 1.
-fn told(alloc: Global) -> Option<String> {
+/// Whether these are the lines where the first edit has put each block into period 0, and the second one puts it into period 1.
+fn are_lines(alloc: Global, lines: &[u8]) -> bool {
     let mut text = String::new(alloc);
+    let is = is_written(&mut text) && lines == text.as_bytes();
+    drop(text);
+    is
+}
+
+fn is_written(text: &mut String) -> bool {
     let head =
         "edit 1 entry 1 changes 1001 left 0 cause - committed 1\nedit 2 entry 2 changes 1001 left 0 cause 1 refused moved 0 1\n";
-    text.push_str(head).ok()?;
+    text.push_str(head).is_ok() && are_written(text) && text.push_str("more 1\n").is_ok()
+}
+
+fn are_written(text: &mut String) -> bool {
     for b in 0..BLOCKS.wrapping_sub(1) {
-        write!(text, "conflict 2 {b} base - now 0 entry 1 wanted 1\n").ok()?;
+        if write!(text, "conflict 2 {b} base - now 0 entry 1 wanted 1\n").is_err() {
+            return false;
+        }
     }
-    text.push_str("more 1\n").ok()?;
-    Some(text)
+    true
 }
 
 fn merge_both(alloc: Global, merging: &mut Merging<Global>) -> Result<(), Stopped> {
@@ -59,13 +69,12 @@ fn merge_both(alloc: Global, merging: &mut Merging<Global>) -> Result<(), Stoppe
 fn is_told(alloc: Global) -> Result<bool, Stopped> {
     let mut merging = begun(alloc, MANY)?;
     let answer = merge_both(alloc, &mut merging);
-    let is_right = match told(alloc) {
-        Some(text) => merging.lines() == text.as_bytes(),
-        None => false,
-    };
+    let is_right = are_lines(alloc, merging.lines());
     drop(merging);
-    answer?;
-    Ok(is_right)
+    match answer {
+        Ok(()) => Ok(is_right),
+        Err(stopped) => Err(stopped),
+    }
 }
 
 #[test]

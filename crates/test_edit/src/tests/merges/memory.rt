@@ -1,6 +1,6 @@
 //! Want of memory: each request of a merge is refused in turn.
-use super::rows::{Row, is_right, merged};
-use super::worked::MEETING;
+use super::rows::{Row, is_row};
+use super::worked::{LATER, MEETING};
 use super::{Given, Stopped};
 use Fact::{Coef, Limit, Preds, Profit};
 use pit_sample::{Ending, Fact, Heap, Trial, refuse_each};
@@ -18,21 +18,9 @@ const RISING: &[Fact] = &[
     Limit(0, 1, Some(1_000_000), Some(4_000_000)),
 ];
 
-#[derive(Drop)]
-struct Run {
-    row: Row,
-}
-
-fn is_row(heap: Heap<'_>, plain: Global, row: &Row) -> Result<bool, Stopped> {
-    let merging = merged(heap, plain, row)?;
-    let answer = is_right(&merging, row);
-    drop(merging);
-    Ok(answer)
-}
-
-impl Trial for Run {
+impl Trial for Row {
     fn ending(&self, heap: Heap<'_>, plain: Global) -> Ending {
-        let answer = is_row(heap, plain, &self.row);
+        let answer = is_row(heap, plain, self);
         if heap.used() != 0 {
             return Ending::Wrong("memory that was not given back");
         }
@@ -45,16 +33,16 @@ impl Trial for Run {
     }
 }
 
+const RISEN: &Row = &Row {
+    given: Given {
+        facts: RISING,
+        ..LATER
+    },
+    ..MEETING
+};
+
 /// The pit, the desk with its calls, the makers of its commits, and of each edit its blocks, its work, its entry and its lines.
 #[test]
 fn of_three_edits(rt: HostRuntime) {
-    let meeting = MEETING;
-    let given = Given {
-        facts: RISING,
-        ..meeting.given
-    };
-    let run = Run {
-        row: Row { given, ..meeting },
-    };
-    assert!(rt; refuse_each(rt.alloc(), &run, 30) == Ok(()));
+    assert!(rt; refuse_each(rt.alloc(), RISEN, 30) == Ok(()));
 }

@@ -43,7 +43,7 @@ fn merge_each<A: Allocator + Copy + Drop>(
 }
 
 /// The merge behind all edits of a row.
-pub(super) fn merged<A: Allocator + Copy + Drop>(
+fn merged<A: Allocator + Copy + Drop>(
     alloc: A,
     plain: Global,
     row: &Row,
@@ -84,10 +84,22 @@ fn are_made<A: Allocator + Drop>(history: &[Entry<A>], before: usize, made: &[Ma
 }
 
 /// Whether a merge stands as the row says.
-pub(super) fn is_right<A: Allocator + Copy + Drop>(merging: &Merging<A>, row: &Row) -> bool {
+fn is_right<A: Allocator + Copy + Drop>(merging: &Merging<A>, row: &Row) -> bool {
     let desk = merging.desk();
     merging.lines() == row.lines.as_bytes()
         && merging.is_whole() == row.is_whole
         && are_made(desk.history(), row.given.calls.len(), row.made)
         && desk.plan().value() == row.value
+}
+
+/// Whether the merge of a row does.
+pub(super) fn is_row<A: Allocator + Copy + Drop>(
+    alloc: A,
+    plain: Global,
+    row: &Row,
+) -> Result<bool, Stopped> {
+    let merging = merged(alloc, plain, row)?;
+    let answer = is_right(&merging, row);
+    drop(merging);
+    Ok(answer)
 }

@@ -1,8 +1,9 @@
 //! Worked merges, byte for byte.
-use super::rows::{Row, Wanted, is_right, merged};
-use super::{Call, Given, Stopped};
+use super::Given;
+use super::rows::{Row, Wanted, is_row};
 use pit_sample::{TINY, TINY_SIZE};
 use std::alloc::Global;
+use std::process::Abort;
 
 const NONE: Given = Given {
     size: TINY_SIZE,
@@ -11,7 +12,7 @@ const NONE: Given = Given {
 };
 
 /// Block 3 in period 1.
-const LATER: Given = Given {
+pub(super) const LATER: Given = Given {
     calls: &[(&[(3, Some(1))], &[])],
     ..NONE
 };
@@ -67,8 +68,8 @@ edit 3 entry 4 changes 1 left 0 cause - committed 3
     value: -5_000_000_000_000_000_000,
 };
 
-/// What they change is refused or left out; or it is refused for the limits or for a precedence, or there is nothing left to do.
-const ROWS: &[Row] = &[
+/// What they change is refused or left out.
+const MEETINGS: &[Row] = &[
     MEETING,
     Row {
         is_partial: true,
@@ -83,6 +84,10 @@ edit 3 entry - changes 0 left 0 cause - nothing
         ],
         ..MEETING
     },
+];
+
+/// The edits are of other bases.
+const OTHERS: &[Row] = &[
     // From the first commit and from the second. The values are -10 + 20.5 + 30 * 0.909090909091, and 5 * 0.909090909091 more.
     Row {
         given: LOADING,
@@ -123,6 +128,10 @@ conflict 3 3 base - now - entry 5 wanted 0
         value: 37_772_727_272_730_000_000,
         ..MEETING
     },
+];
+
+/// They are refused for the limits or for a precedence.
+const RULES: &[Row] = &[
     // Two blocks and a third one are too much for the period. The value is -10 + 20.5.
     Row {
         given: NONE,
@@ -157,6 +166,10 @@ edit 2 entry 3 changes 1 left 0 cause 2 refused precedence 1 0
         value: 0,
         ..MEETING
     },
+];
+
+/// There is nothing left to do.
+const DONE: &[Row] = &[
     // An edit that is its base, and one that the first has made already. The value is 5 * 0.909090909091.
     Row {
         given: NONE,
@@ -191,16 +204,17 @@ conflict 2 3 base - now 0 entry 2 wanted 1
     },
 ];
 
-fn is_row(alloc: Global, row: &Row) -> Result<bool, Stopped> {
-    let merging = merged(alloc, alloc, row)?;
-    let answer = is_right(&merging, row);
-    drop(merging);
-    Ok(answer)
+fn assert_rows(rt: &impl Abort, alloc: Global, rows: &[Row]) {
+    for (at, row) in rows.iter().enumerate() {
+        assert!(rt; is_row(alloc, alloc, row) == Ok(true), "row {at}");
+    }
 }
 
 #[test]
 fn are_merged(rt: HostRuntime) {
-    for (at, row) in ROWS.iter().enumerate() {
-        assert!(rt; is_row(rt.alloc(), row) == Ok(true), "row {at}");
-    }
+    let alloc = rt.alloc();
+    assert_rows(&rt, alloc, MEETINGS);
+    assert_rows(&rt, alloc, OTHERS);
+    assert_rows(&rt, alloc, RULES);
+    assert_rows(&rt, alloc, DONE);
 }
