@@ -73,33 +73,9 @@ fn is_unchanged_where_memory_is_refused(rt: HostRuntime) {
     refuse_each(&rt, rt.alloc(), first, ALL_CALLS, 50);
 }
 
-/// The last call of each row takes memory: for the three sets, for a third pair of one of them, or for an entry.
+/// The last call of each row takes memory: for the three sets, or for an entry. Each set has room for all of the small pit from the start.
 const CALLS: &[&[Doing]] = &[
     &[(1, Begin(7), Start(0))],
-    &[
-        (1, Begin(7), Start(0)),
-        (1, Read(0), Holds(None)),
-        (1, Read(1), Holds(None)),
-        (1, Read(2), Holds(None)),
-    ],
-    &[
-        (1, Begin(7), Start(0)),
-        (1, Put(0, 0), Done),
-        (1, Put(1, 0), Done),
-        (1, Put(3, 1), Done),
-    ],
-    &[
-        (1, Begin(7), Start(0)),
-        (1, Put(0, 0), Done),
-        (1, Put(1, 0), Done),
-        (1, Clear(2), Done),
-    ],
-    &[
-        (1, Begin(7), Start(0)),
-        (1, Revise(0, 0, None), Done),
-        (1, Revise(1, 1, Some(5)), Done),
-        (1, Revise(1, 0, Some(5)), Done),
-    ],
     &[
         (1, Begin(7), Start(0)),
         (1, Read(3), Holds(None)),
@@ -129,7 +105,7 @@ fn of_each_call(rt: HostRuntime) {
 
 /// Of each row what is done past the first so many takes no memory.
 const ROOMY: &[(usize, &[Doing])] = &[
-    // A transaction that is abandoned leaves its memory to the next one of its planner.
+    // A transaction that is abandoned leaves its maps to the next one of its planner.
     (
         3,
         &[
@@ -140,7 +116,7 @@ const ROOMY: &[(usize, &[Doing])] = &[
             (1, Read(2), Holds(None)),
         ],
     ),
-    // A transaction begins with room for as many reads as the one before it had.
+    // And so does one that has ended.
     (
         7,
         &[
