@@ -1139,6 +1139,75 @@ awk '
 : >out
 compare 'plan, eight planners who want one block' 0 '' ''
 
+# told NAME STATUS OUT ERR WORD..: the same as `check`, where standard error is a terminal.
+told() {
+    local wanted=("$1" "$2" "$3" "$4")
+    shift 4
+    "$here/terminal.py" "$pit" "$@" >out 2>err </dev/null
+    status=$?
+    compare "${wanted[@]}"
+}
+
+# Further lines help on a terminal, and only there.
+sed 's/^TYPE:/TYPEX:/' model >typex
+sed 's/20.5/20,5/' model >comma
+sed 's/NBLOCKS: 4/NBLOCKS: 3/' model >three
+printf 'begin\nread 0\n' >open
+MISSING='pit: model line 7: missing TYPE'
+told 'terminal, a misspelt key' 2 '' "$MISSING
+  typex:7: OBJECTIVE_FUNCTION:
+  The header has no line TYPE. Line 2 begins with TYPEX, which no key is." value typex solution
+check 'no terminal, a misspelt key' 2 '' "$MISSING" value typex solution
+told 'terminal, a comma' 2 '' 'pit: model line 9: bad number
+  comma:9: 1 20,5
+  A number holds a comma: write a point, 20.5, and nothing between thousands.' value comma solution
+told 'terminal, a block of another pit' 2 '' 'pit: model line 11: block out of range
+  three:11: 3 5
+  Blocks are numbered from 0 to 2: the model has NBLOCKS 3.' value three solution
+told 'terminal, a model for a solution' 2 '' 'pit: solution line 1: bad number
+  model:1: NAME: Tiny
+  A line is `b t`, a block and its period, or `b d t y`, with a destination and the part of the block. A line of titles can'"'"'t stand above them.' value model model
+told 'terminal, no such file' 3 '' 'pit: cannot read solution
+  nowhere
+  There is no such file.' value model nowhere
+told 'terminal, a folder' 3 '' 'pit: cannot read solution
+  .
+  It is a folder.' value model .
+told 'terminal, a pipe' 2 '' 'pit: solution line 1: field count' value model <(echo 1)
+told 'terminal, a job that never ends' 2 '' 'pit: script 1 line 3: job not ended
+  open:3:
+  The job that begins in line 1 has no end: `commit` or `abort` goes below its lines.' plan model precedence open
+told 'terminal, another file for a history' 2 '' 'pit: history line 1: not json
+  script:1: begin
+  A history begins with {"format":1} or {"format":2}, as `pit plan --history` writes it: is this another file?' replay model precedence script
+told 'terminal, a folder for a history' 3 '' 'pit: cannot write
+  .
+  It is a folder.' plan --continue . model precedence script
+told 'terminal, a history in no folder' 3 '' "pit: cannot write
+  nowhere/used
+  Its folder isn't there." plan --history nowhere/used model precedence script
+flock used.pit-new sleep 60 &
+holder=$!
+who='Another program'
+for _ in {1..100}; do
+    grep -qs " $holder " /proc/locks && who="Process $holder" && break
+    sleep 0.1
+done
+told 'terminal, a history in use' 3 '' "pit: history is in use
+  used
+  $who has it open to write it: wait for that to end, or write another history." plan --history used model precedence script
+pkill -P $holder
+wait $holder
+told 'terminal, value' 0 "$VALUE" '' value model solution
+told 'terminal, check' 0 "value $VALUE
+fine" '' check model precedence solution
+printf 'TYPE: CPIT\nNBLOCKS: 4\nNPERIODS: 2\nNRESOURCE_SIDE_CONSTRAINTS: 0\nDISCOUNT_RATE: 0\nOBJECTIV:\n1 20\n' >passed
+told 'terminal, value of a misspelt section' 0 '0.000000000000000000' "  The model's lines 6 to 7 are passed over: OBJECTIV is no key.
+  The model has no profit: each is 0.
+  The model has no limit." value passed solution
+told 'terminal, table of a misspelt section' 0 "$("$pit" table passed solution)" '' table passed solution
+check 'no terminal, value of a misspelt section' 0 '0.000000000000000000' '' value passed solution
+
 if [ "$failures" -ne 0 ]; then
     echo "$failures failed"
     exit 1

@@ -6,6 +6,9 @@ ghost use Rattle.pit.specs.Ending.{IsCommandStatus, IsStatusOf};
 
 use crate::fault::Fault;
 use pit_cli::{CliFault, Status};
+use pit_num::{Out, write_text};
+use pit_step::Text;
+use std::alloc::Global;
 use std::process::ExitCode;
 
 /// The status where the words of the command line are refused.
@@ -45,4 +48,10 @@ fn with_command(rt: &HostRuntime, error: &clap::Error) -> u8
         return with_fault(rt, &CliFault::CannotWrite);
     }
     0
+}
+
+/// Writes notes behind all else. Whether they could be written changes nothing.
+pub fn note(rt: &HostRuntime, notes: Text<Global>) {
+    let mut out = Out::new(rt.stderr());
+    let _ = write_text(&mut out, notes.into_inner().as_slice());
 }

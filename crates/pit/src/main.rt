@@ -5,6 +5,7 @@ mod ending;
 mod fault;
 mod files;
 mod histories;
+mod looked;
 mod merge_files;
 mod merges;
 mod options;
@@ -18,10 +19,15 @@ mod words;
 
 use clap::error::ErrorKind;
 use fault::Fault;
-use pit_cli::Status;
+use looked::Looked;
+use pit_cli::{CliFault, Status};
 use pit_command::{asked, has_conflict, has_many, matched, refusal};
+use pit_explain::explain;
 use pit_num::Out;
+use pit_step::{Text, empty_text};
 use runs::run;
+use std::alloc::Global;
+use std::io::IsTerminal;
 use std::process::ExitCode;
 use std::sync::Wait;
 use std::thread::Threads;
@@ -29,12 +35,19 @@ use system_disk::SystemDisk;
 
 fn main(rt: HostRuntime) -> ExitCode {
     let _places = streams::hold(&rt);
-    let answer = answer(&rt, &rt);
-    ending::ended(&rt, answer)
+    let mut notes = empty_text(rt.alloc());
+    let answer = answer(&rt, &rt, &mut notes);
+    let status = ending::ended(&rt, answer);
+    ending::note(&rt, notes);
+    status
 }
 
-/// Reads the words of the command line, and does what they ask, with threads where it takes them.
-fn answer<R: Threads + Wait + Sync>(rt: &HostRuntime, threads: &R) -> Result<Status, Fault> {
+/// Reads the words of the command line, and does what they ask, with threads where it takes them. Notes are for people, to be written behind all else.
+fn answer<R: Threads + Wait + Sync>(
+    rt: &HostRuntime,
+    threads: &R,
+    notes: &mut Text<Global>,
+) -> Result<Status, Fault> {
     let words = words::words(rt)?;
     let matches = matched(rt.alloc(), words.as_slice())?;
     let Some((engine, given)) = asked(&matches) else {
@@ -52,7 +65,7 @@ fn answer<R: Threads + Wait + Sync>(rt: &HostRuntime, threads: &R) -> Result<Sta
     let disk = SystemDisk::new(rt);
     let mut out = Out::new(rt.stdout());
     let mut report = Out::new(rt.stderr());
-    Ok(run(
+    let answer = run(
         threads,
         rt.alloc(),
         &disk,
@@ -60,5 +73,22 @@ fn answer<R: Threads + Wait + Sync>(rt: &HostRuntime, threads: &R) -> Result<Sta
         given,
         &mut out,
         &mut report,
-    )?)
+    );
+    note(rt, &answer, &Looked::new(rt, engine, given), notes);
+    Ok(answer?)
+}
+
+/// On a terminal, notes on a fault; or on what a model passes over, where its value was told.
+fn note(
+    rt: &HostRuntime,
+    answer: &Result<Status, CliFault>,
+    looked: &Looked<'_, '_>,
+    notes: &mut Text<Global>,
+) {
+    let is_terminal = rt.stderr().is_terminal();
+    match answer {
+        Err(fault) => explain(rt.alloc(), is_terminal, looked, Some(fault), notes),
+        Ok(_) if looked.tells_value() => explain(rt.alloc(), is_terminal, looked, None, notes),
+        Ok(_) => {}
+    }
 }

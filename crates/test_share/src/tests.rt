@@ -1,4 +1,4 @@
-//! Workspaces over the small pit, with a second resource that no block takes.
+//! Workspaces over the small pit, with a second resource that no block takes; and over a wide one, for sets of many pairs.
 //!
 //! `steps` has what planners do and what that is answered, `places` makes one step, and `playing` makes those of a row in turn, on a heap that
 //! may refuse a request: `rows`, `closing` and `memory` are about that. In `threads` planners work at once.
@@ -45,6 +45,20 @@ fn desk_of<A: Allocator + Copy + Drop>(
         true => Desk::open(alloc, pit, &[(3, 1)], max_entries),
         false => Desk::open(alloc, pit, &[], max_entries),
     };
+    answer.ok().expect(rt, "a desk")
+}
+
+/// More blocks than a set has room for at first, and as many periods.
+const WIDE_SIZE: Size = Size {
+    blocks: 12,
+    periods: 12,
+    resources: 1,
+};
+
+/// A desk of the wide pit, in which each block may be mined in each period.
+fn wide_desk<A: Allocator + Copy + Drop>(rt: &impl Abort, alloc: A) -> Desk<A> {
+    let pit = built(alloc, WIDE_SIZE, &[]).expect(rt, "a pit");
+    let answer = Desk::open(alloc, pit, &[], 100);
     answer.ok().expect(rt, "a desk")
 }
 

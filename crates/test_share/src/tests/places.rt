@@ -53,11 +53,12 @@ impl<'a, R: Wait + Abort + Copy + Drop, A: Allocator + Copy + Drop> Stage<'a, R,
         true
     }
 
-    /// What is held, but of the endings, which may have taken memory; and the planner's number, or what its transaction has.
+    /// What is held, and the planner's number, or what its transaction has. An ending may have taken memory, and a set that grows asks twice and keeps
+    /// what it was given first; so what is held isn't looked at there.
     fn seen_at<'w, S: Session>(&self, place: &Place<'w, S, R, A>, step: Step) -> Seen {
         let used = match step {
-            Step::Commit | Step::Withdraw => 0,
-            _ => self.heap.used(),
+            Step::Begin(_) | Step::Compare(..) | Step::Abandon => self.heap.used(),
+            _ => 0,
         };
         match place {
             Place::Between(planner) => (used, Err(planner.number())),
@@ -68,13 +69,14 @@ impl<'a, R: Wait + Abort + Copy + Drop, A: Allocator + Copy + Drop> Stage<'a, R,
 
 type Seen = (usize, Result<Sets, u32>);
 
-/// The first four of a list. The small pit has room for no more.
-type Four<T> = (Option<T>, Option<T>, Option<T>, Option<T>);
+/// How many there are, and the first four. The small pit has room for no more; where there are more, a row compares them all at its end.
+type Four<T> = (usize, Option<T>, Option<T>, Option<T>, Option<T>);
 
 fn four_of<K: Eq + Hash + Copy, V: Copy, S: BuildHasher, A: Allocator>(
     map: &IndexMap<K, V, S, A>,
 ) -> Four<(K, V)> {
     (
+        map.len(),
         pair_at(map, 0),
         pair_at(map, 1),
         pair_at(map, 2),

@@ -4,7 +4,7 @@ ghost use Rattle.pit_share.specs.declared.blank.TheConstants.{PLANNERS_MAX};
 
 use super::places::{Place, left};
 use super::steps::{Doing, Row, are_entries};
-use super::{assert_legal, desk_of};
+use super::{assert_legal, desk_of, wide_desk};
 use linked_list_allocator::LocalHeap;
 use pit_board::Session;
 use pit_desk::Desk;
@@ -66,17 +66,28 @@ impl<'a, R: Wait + Abort + Copy + Drop, A: Allocator + Copy + Drop> Stage<'a, R,
     }
 
     fn play_row(&self, row: Row) {
+        if row.is_wide {
+            let desk = wide_desk(&self.rt, self.alloc);
+            drop(self.continued(desk, row.doings));
+            return;
+        }
         let desk = desk_of(&self.rt, self.alloc, row.has_start, row.max_entries);
         let desk = self.played(desk, row.doings);
         drop(desk);
     }
 
-    /// What two planners leave. The history is legal, and goes on past the opening entries as by hand.
+    /// What two planners leave in the small pit: the history is legal too.
     pub(super) fn played(&self, desk: Desk<A>, doings: &[Doing]) -> Desk<A> {
+        let desk = self.continued(desk, doings);
+        assert_legal(&self.rt, self.plain, &desk);
+        desk
+    }
+
+    /// What two planners leave. The history goes on past the opening entries as by hand.
+    fn continued(&self, desk: Desk<A>, doings: &[Doing]) -> Desk<A> {
         let opened = desk.history().len();
         let desk = self.left_by(desk, doings);
         self.assert_so(are_entries(desk.history(), opened, doings, 0));
-        assert_legal(&self.rt, self.plain, &desk);
         desk
     }
 

@@ -56,10 +56,12 @@ pub(super) const WITHDRAWN: Answer = Answer::Ends(EntryReply::Withdrawn);
 /// A planner, what it does, and what that is answered.
 pub(super) type Doing = (u32, Step, Answer);
 
-/// A desk on which block 3 may have period 1 at first, how many entries it may have, and what the planners do.
+/// A desk on which block 3 may have period 1 at first, how many entries it may have, and what the planners do. The desk of the wide pit has neither
+/// a start nor another number of entries.
 #[derive(Clone, Copy)]
 pub(super) struct Row {
     pub(super) name: &'static str,
+    pub(super) is_wide: bool,
     pub(super) has_start: bool,
     pub(super) max_entries: u32,
     pub(super) doings: &'static [Doing],
@@ -67,6 +69,7 @@ pub(super) struct Row {
 
 pub(super) const ROW: Row = Row {
     name: "calls in turn",
+    is_wide: false,
     has_start: false,
     max_entries: 100,
     doings: &[],
