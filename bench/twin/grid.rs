@@ -121,18 +121,8 @@ impl W {
             File::create(name).unwrap(),
         ))
     }
-    fn u(&mut self, mut v: u64) {
-        let mut buf = [0u8; 20];
-        let mut i = 20;
-        loop {
-            i -= 1;
-            buf[i] = b'0' + (v % 10) as u8;
-            v /= 10;
-            if v == 0 {
-                break;
-            }
-        }
-        self.0.write_all(&buf[i..]).unwrap();
+    fn u(&mut self, v: u64) {
+        write!(self.0, "{v}").unwrap();
     }
     fn micro(&mut self, v: i64) {
         if v < 0 {
