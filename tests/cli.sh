@@ -300,6 +300,14 @@ scripts=()
 for i in {1..64}; do scripts+=(empty); done
 check 'plan, 64 scripts' 1 '' "$NOTHING" plan model precedence "${scripts[@]}"
 check 'plan, 65 scripts' 2 '' 'pit: planner count' plan model precedence "${scripts[@]}" empty
+# A script of as many jobs as there may be, and of one more.
+yes $'begin\ncommit' | head -n 2000000 >longest
+"$pit" plan model precedence longest >out 2>err </dev/null
+status=$?
+seq 1000000 | sed 's/.*/planner 1 job & committed & tries 1/' | cmp -s - <(head -n 1000000 err) && sed -i 1,1000000d err
+compare 'plan, 1,000,000 jobs' 1 '' "$NOTHING"
+printf 'begin\ncommit\n' >>longest
+check 'plan, 1,000,001 jobs' 2 '' 'pit: script 1 line 2000001: too many jobs' plan model precedence longest
 check 'plan, a bad model' 2 '' 'pit: model line 2: missing TYPE' plan refused refused refused --blocks refused --start refused
 check 'plan, bad precedences' 2 '' 'pit: precedence line 1: bad number' plan model refused refused --blocks refused --start refused
 check 'plan, bad blocks' 2 '' 'pit: blocks line 1: field count' plan model precedence refused --blocks refused --start refused
@@ -315,7 +323,7 @@ check 'check, a limit below zero' 1 'value 0.000000000000000000
 over 0 0 0.000000 -1.000000
 short 0 1 0.000000 1.000000' '' check unmeetable precedence empty
 
-# The greatest numbers of a header are read, and then the rest of it is wanting; the next greater are not.
+# The greatest numbers of a header are read, and then the rest of it is missing; the next greater are not.
 # greatest KEY NUMBER NEXT
 greatest() {
     printf '%s: %s\n' "$1" "$2" >header
@@ -867,8 +875,8 @@ for name in value check table diff info show plan replay log merge; do
     help "$name" "$name" -h
     help "$name" help "$name"
 done
-check 'version' 0 'pit 0.1.0' '' --version
-check 'version, short' 0 'pit 0.1.0' '' -V
+check 'version' 0 'pit 1.0.0' '' --version
+check 'version, short' 0 'pit 1.0.0' '' -V
 check 'version of a subcommand' 2 '' "$SOME" value --version
 
 # Edits that are merged. A, B and C are solutions; h16, h17 and h33 are histories.
@@ -1065,7 +1073,7 @@ check 'merge, a history to carry on and a start' 2 '' "$SOME" merge --continue f
 check 'merge, a number that is none' 2 '' "$SOME" merge --from -1 model precedence pair
 check 'merge, a number that is too large' 2 '' "$SOME" merge --from 4294967296 model precedence pair
 
-# Want of memory: the model is larger than the memory that the program may take.
+# Out of memory: the model is larger than the memory that the program may take.
 truncate -s 512M large
 (
     ulimit -v 200000

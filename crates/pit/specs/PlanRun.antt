@@ -36,7 +36,7 @@ pub record IsUnread (holds : Input → Option (List ℕ)) (input : Input) (fault
 abbrev pub read_step : (Input → Option (List ℕ)) → Input → Step CliFault (Unit {0}) (List ℕ)
 read_step holds input = judge_step (λ _. IsRead holds input) (λ _. IsUnread holds input)
 
--- each in turn; memory may be wanted for the list of them
+-- each in turn; there may be no memory for the list of them
 abbrev pub read_each : (Input → Option (List ℕ)) → List Input → Step CliFault (Unit {0}) (List (List ℕ))
 read_each holds inputs = in_turn (may_step NoMemory) (each (λ number. read_step holds) 1 inputs)
 
@@ -106,8 +106,8 @@ held_run told given options out lines kept IsUntouched =
     (in_turn (run_step (λ is_there. texts_step told.opens told.holds told.meets given is_there) (Unit {0}))
     (run_step (λ texts. plan_run texts options out lines kept) IsUntouched))
 
--- What `plan` does on the texts that the files give. The output of a history that is carried on is made ready before a file is opened, another one once
--- all are read. Before both the other outputs are left alone.
+-- What `plan` does on the texts that the files give. The output of a history that is carried on is made ready before a file is opened, another one
+-- once all are read. Before both the other outputs are left alone.
 abbrev pub plan_by : Bool → Told → ArgMatches → PlanOptions → Writing → Writing → Type 0 → Step CliFault (Unit {0}) Status
 plan_by true told given options out lines IsUntouched =
     in_turn (history_step told.refusal given) (run_step (λ kept. held_run told given options out lines kept IsUntouched) IsUntouched)

@@ -4,7 +4,7 @@ use Rattle.clap.specs.declared.parser.matches.ArgMatches.{ArgMatches}
 use Rattle.pit_job.specs.declared.planner_run.TheConstants.{RETRIES_MAX}
 use Rattle.pit_command.specs.Asked.{IsNumber}
 
--- by the number that the words give, no more than there may be; 3 where they give none
+-- the number that the words give, but no more than there may be; 3 where they give none
 abbrev pub retries_in : Option ℕ → ℕ
 retries_in None = 3
 retries_in (Some n) = if nat_le n RETRIES_MAX then n else RETRIES_MAX

@@ -20,10 +20,13 @@ use std::marker::Model;
 /// The open files of a merge.
 #[derive(Drop)]
 pub struct MergeFiles<F: Read + Drop> {
+    /// The model.
     pub model: In<F>,
+    /// Its precedences.
     pub precedence: In<F>,
     /// What is begun with.
     pub start: Option<In<F>>,
+    /// The edits, in the order of the words.
     pub edits: Vec<In<F>>,
 }
 

@@ -9,7 +9,7 @@ use pit_job::RETRIES_MAX;
 /// The number of retries where the words give none.
 const RETRIES_UNSAID: u32 = 3;
 
-/// The number of retries that the words give, no more than there may be; or 3.
+/// The number of retries that the words give, but at most `RETRIES_MAX`; or 3.
 pub fn retries_of(given: &ArgMatches<'_>) -> u32
     ensures is { IsRetries given.now result }
     ensures few { result ≤ RETRIES_MAX }

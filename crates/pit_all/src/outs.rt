@@ -106,7 +106,7 @@ impl<A: Allocator + Copy + Drop> Outs<A> {
     }
 }
 
-/// Appends a pair, where there is none too many.
+/// Appends a pair, where fewer than `PAIRS_SHOWN` are kept.
 fn keep<A: Allocator + Drop>(
     first: &mut Vec<OutOfOrder, A>,
     pair: OutOfOrder,

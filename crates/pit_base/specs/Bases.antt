@@ -74,7 +74,7 @@ IsPlainFault ours is_resumed (Some asked) (FewCommits commits) = (commits ≡ le
 IsPlainFault ours true None BaseMissing = Unit {0}
 IsPlainFault ours is_resumed from other = ⊥
 
--- there are fewer commits, or they have another sum; or memory is wanted for the sum
+-- there are fewer commits, or they have another sum; or there is no memory for the sum
 abbrev pub IsMarkedFault : List Answered → ℕ × List ℕ → BaseFault → Type 0
 IsMarkedFault ours mark AnotherHistory = (count : ℕ) → IsMarkedBase ours mark count → ⊥
 IsMarkedFault ours mark NoMemory = mark.0 ≤ length (commits_of ours)

@@ -14,6 +14,7 @@ pub enum BaseFault {
     BaseMissing,
     /// There are only so many commits, and fewer than the caller says.
     FewCommits { commits: u32 },
+    /// There was no memory for the line of an entry, whose sum is taken.
     NoMemory,
 }
 

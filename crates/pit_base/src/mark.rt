@@ -8,7 +8,8 @@ use itoa::Buffer;
 use pit_plan::COMMITS_MAX;
 use std::str::from_utf8;
 
-/// What the first line of a solution says of a history, where `show` wrote it: how many commits it has, and the digits of the sum of their entries.
+/// What the first line of a solution says of a history, where `show` wrote that line: how many commits it has, and the digits of the sum of their
+/// entries.
 pub(crate) fn mark_of(text: &[u8]) -> Option<(u32, &[u8])>
     ensures { MatchOption result (IsMarkOf text.now None) (λ mark. IsMark text.now (mark.0, mark.1.now)) }
 {

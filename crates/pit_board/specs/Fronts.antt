@@ -1,4 +1,4 @@
--- What is so of each beginning of the list of commits.
+-- What is so of each prefix of the list of commits.
 use Rattle.std.specs.Prelude.{List, All}
 use Rattle.pit_model.specs.Fitting.{Fits}
 use Rattle.pit_model.specs.Pit.{Pit}

@@ -71,7 +71,7 @@ impl<S: Session, A: Allocator + Copy + Drop> Board<S, A> {
     }
 }
 
-/// Writes each block's slot, from the last write to the first, so that of two writes of one block the first would stand.
+/// Writes each block's slot, from the last write to the first: so the first one would stand, if a block had two.
 fn write_slots<A: Allocator + Copy + Drop>(
     slots: &mut Vec<KeptSlot, A>,
     number: u32,

@@ -1,9 +1,9 @@
 //! The board: what planners see of the commits without a lock.
 //!
-//! The commits of a session are one list. A `Front` is a beginning of it that somebody has seen; of any two fronts one begins the other.
-//! The `Hall` has the desk enter a commit, adds it to the list, and publishes it; it stands behind the lock. Each planner has a `View`: a
-//! place at the board, and the front that it has seen, which only grows. A view shows a block as the whole of what it has seen leaves it, and
-//! waits for nobody. The type of a front keeps that each beginning of it is good under the limits then in force.
+//! The commits of a session are one list. A `Front` is a prefix of it that somebody has seen; of any two fronts one is a prefix of the other. The
+//! `Hall` has the desk enter a commit, adds it to the list, and publishes it; it stands behind the lock. Each planner has a `View`: a place at the
+//! board, and the front that it has seen, which only grows. A view shows a block as the whole of what it has seen leaves it, and waits for nobody.
+//! The type of a front keeps that each prefix of it leaves a good schedule under the limits then in force.
 #![tactic(auto)]
 
 mod board;

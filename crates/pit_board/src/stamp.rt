@@ -39,7 +39,8 @@ impl<S: Session, A: Allocator + Copy + Drop> Stamp<S, A> {
     }
 }
 
-/// An operation of the board: a commit that stands in the list. Or nothing, which takes up the room of one: the writer has that before the commit is entered.
+/// An operation of the board: a commit that stands in the list; or nothing, which takes as much room. The writer appends that one before the commit
+/// is entered.
 #[derive(Drop)]
 pub struct Operation<S: Session, A: Allocator + Copy + Drop> {
     pub(crate) stamp: Option<Stamp<S, A>>,
@@ -54,7 +55,7 @@ impl<S: Session, A: Allocator + Copy + Drop> Model for Operation<S, A> {
     ghost view = { λ o. o.stamp };
 }
 
-// The queue in which the writer keeps operations makes its first room for four where each takes at most so many bytes.
+// The queue in which the writer keeps operations has first room for four, where each takes at most so many bytes.
 const _: () = prove!(size_of::<Operation<Brand, Global>>() <= 1024);
 
 impl<S: Session, A: Allocator + Copy + Drop> Operation<S, A> {

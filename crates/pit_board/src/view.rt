@@ -91,8 +91,8 @@ impl<S: Session, A: Allocator + Copy + Drop> View<S, A> {
         self.front.grow(front);
     }
 
-    /// Looks at the board, and answers how many commits the planner has then seen. Where the reader isn't let in, these are those that it had
-    /// seen. Takes no memory, and waits for nobody.
+    /// Looks at the board, and answers how many commits the planner has then seen. Where the reader isn't let in, it answers how many it had seen
+    /// before. Takes no memory, and waits for nobody.
     pub fn begin(&mut self) -> u32
         ensures seen { IsPrefix self.old.seen self.new.seen }
         ensures start { result ≡ length self.new.seen }
@@ -118,8 +118,8 @@ impl<S: Session, A: Allocator + Copy + Drop> View<S, A> {
         slot
     }
 
-    /// Takes over what the board shows, and looks a block up, if the board has a slot for it. Where the reader isn't let in, or the board is
-    /// behind what was seen, nothing changes. Both ways to the board lead through here, so that a reader's steps are compiled once, and inlined.
+    /// Takes over what the board shows, and looks a block up, if the board has a slot for it. Where the reader isn't let in, or the board is behind
+    /// what was seen, nothing changes. `begin` and `read` both go through here, so that a reader's steps are compiled once, and inlined.
     fn look(&mut self, block: u32) -> Option<Slot>
         ensures slot { IfSome result (λ slot. slot ≡ slot_of self.new.seen block) }
         ensures seen { IsPrefix self.old.seen self.new.seen }

@@ -12,7 +12,7 @@ use Rattle.pit_cli.specs.Planning.{Ran, plan_judged, planners_step}
 use Rattle.pit_output.specs.Outputs.{Keeping, outputs_run, IsUnwritten}
 use Rattle.pit_cli.specs.Output.{outputs_of, ran_end, plan_run}
 
--- behind a run, where memory is not wanting
+-- behind a run, where memory doesn't run out
 pub ran_as : (texts : Texts) (options : PlanOptions) (out lines : Writing) (kept : Option Keeping) (ran : Ran) (result : Result Status CliFault) → (in_turn (plan_judged texts) (planners_step options)).Gives tt ran
     → IsResultOf (outputs_run (is_carried_on texts.beginning) (outputs_of (is_unbegun texts.beginning) ran) (ran_end options.is_strict ran) out lines kept) tt result → IsResultOf (plan_run texts options out lines kept) tt result
 ran_as texts options out lines kept ran (Ok status) (setup, judged, run) p = (setup, judged, (ran, run, (tt, (refl, tt), p)))

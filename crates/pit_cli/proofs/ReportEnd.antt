@@ -29,8 +29,8 @@ Ending = Result Status CliFault
 
 -- ---- a reader of reports
 
--- a line begins; the word before a planner's number, and that number; what is said of it; the word before a job's number, and that number; what is said of
--- the job; the rest of the line
+-- a line begins; the word before a planner's number, and that number; what is said of it; the word before a job's number, and that number; what is
+-- said of the job; the rest of the line
 data Place : Type 0 where
   begins : Place
   word : Place
@@ -56,8 +56,8 @@ worse (Ok status) = Ok Failed
 worse (Err fault) = Err fault
 
 module _ (is_strict : Bool) where
-  -- a line that begins with `s` tells of a shortfall; one of a planner that doesn't go on with `j`, that it stopped; and one of a job that goes on with `r`,
-  -- that it was refused
+  -- a line that begins with `s` tells of a shortfall. One of a planner that doesn't go on with `j` tells that it stopped. One of a job that goes on
+  -- with `r` tells that it was refused.
   abbrev noted : Place → ℕ → Ending → Ending
   noted begins c ending = if c == 115 then worse ending else ending
   noted word c ending = ending

@@ -1,4 +1,4 @@
--- What texts stand for, or where memory is wanted for it.
+-- What texts stand for, or where there is no memory for it.
 use Rattle.std.proofs.Common.{◌≡◌, ◌⊎◌, inl, inr, ℕ, List, [], Option, Some, Result, MatchResult, sym, subst}
 use Rattle.std.proofs.lemmas.Result.{MatchResult-weaker}
 use Rattle.pit_model.specs.Pit.{Pit}
@@ -39,7 +39,7 @@ at_line : (pit : Pit) (bytes : List ℕ) (line : ℕ) → WantsMemoryAt pit byte
 at_line pit bytes line (inl stops) = inl (line, stops)
 at_line pit bytes line (inr none) = inr ([], script-stands pit bytes [] (no_line_stands pit bytes none.0))
 
--- it wants memory
+-- it is out of memory
 pub script-wants : (pit : Pit) (bytes : List ℕ) (error : ScriptError) → error.cause ≡ WantsMemory → IsScriptError pit bytes error → IsScriptStop pit bytes
 script-wants pit bytes error is answered =
     at_line pit bytes error.line

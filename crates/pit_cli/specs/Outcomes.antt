@@ -30,11 +30,11 @@ use Rattle.pit_cli.specs.Output.{outputs_of, ran_end}
 abbrev pub MayRun : Texts → Type 0
 MayRun texts = (setup : Setup) × (plan_judged texts).Gives tt setup
 
--- the first fault of the texts, of the limits, of the beginning or of the number of planners; nothing but these is wanting
+-- the first fault of the texts, of the limits, of the beginning or of the number of planners; only these are looked at
 abbrev pub AreRefused : Texts → CliFault → Type 0
 AreRefused texts fault = (plan_judged texts).Fails tt fault × (fault_status fault ≡ 2)
 
--- the answer says how the planners ended, or that the texts are refused, and not that something was wanting or failed
+-- the answer says how the planners ended, or that the texts are refused, and not that memory or a place couldn't be had, or that something failed
 abbrev pub IsDecisive : Result Status CliFault → Type 0
 IsDecisive (Ok status) = ⊤
 IsDecisive (Err fault) = (fault ≡ Stopped) ⊎ (fault_status fault ≡ 2)
@@ -53,9 +53,9 @@ pub record IsWritten (texts : Texts) (options : PlanOptions) (out lines : Writin
   pub sound : lines.failed ≡ false
   pub history : HasWhole kept (outputs_of (is_unbegun texts.beginning) ran).history
 
--- The history is one of one thread on the pit of the texts, and may have as many entries as a history can. It begins with what they begin with; behind that each
--- committed entry is a job of a planner's script, done on the schedule that the entries before it leave; and each planner's entries and outcomes are
--- those of its script. Where planners take turns, their entries stand in the order of their numbers.
+-- The history is one of one thread on the pit of the texts, and may have as many entries as a history can. It begins with what they begin with;
+-- behind that each committed entry is a job of a planner's script, done on the schedule that the entries before it leave; and each planner's entries
+-- and outcomes are those of its script. Where planners take turns, their entries stand in the order of their numbers.
 pub record IsOneHistory (texts : Texts) (options : PlanOptions) (closed : State) (runs : List RunState) : Type 0 where
   pub opening : Opened
   pub scripts : List (List Job)

@@ -61,7 +61,7 @@ abbrev pub report_text : Pit → List Commit → List RunState → List ℕ
 report_text pit commits runs =
     runs_text runs ++ (codes "value " ++ (value_text (value_of pit (held_period commits)) ++ shorts_text (shortfalls_of pit (held_period commits))))
 
--- a report's text is gathered, or memory is wanting for it; and then it is written
+-- a report's text is gathered, or there is no memory for it; and then it is written
 abbrev pub report_step : List ℕ → Writing → Step CliFault (Unit {0}) (Unit {0})
 report_step text out = in_turn (may_step NoMemory) (write_step out (λ _. text) (λ _. tt {0}))
 
@@ -76,7 +76,7 @@ outputs_of is_new ran = record {
 abbrev pub ran_end : Bool → Ran → Result Status CliFault
 ran_end is_strict ran = ended_of is_strict ran.1 (shortfalls_of ran.0.plan.pit (held_period (commits_of ran.0.history)))
 
--- the outputs are gathered, or memory is wanting for them; and then they are written
+-- the outputs are gathered, or there is no memory for them; and then they are written
 abbrev pub ran_run : Begun → Bool → Writing → Writing → Option Keeping → Ran → Step CliFault (Unit {0}) Status
 ran_run beginning is_strict out lines kept ran =
     in_turn (may_step NoMemory) (outputs_run (is_carried_on beginning) (outputs_of (is_unbegun beginning) ran) (ran_end is_strict ran) out lines kept)

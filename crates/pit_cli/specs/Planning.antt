@@ -19,7 +19,8 @@ use Rattle.pit_cli.specs.declared.plan_options.PlanOptions.{PlanOptions}
 
 -- ---- before the run
 
--- each limit can be met, and a desk opens with a schedule that breaks no rule, or with a legal history; or what is wrong with them, or memory is wanted
+-- each limit can be met, and a desk opens with a schedule that breaks no rule, or with a legal history; or what is wrong with them, or memory runs
+-- out
 abbrev pub desk_judged : Step CliFault Setup Setup
 desk_judged = pass_step (λ setup. IsGoodOpening (pit_in setup) (opening_in setup)) (λ setup. IsDeskFault (pit_in setup) (opening_in setup))
 
@@ -43,7 +44,7 @@ abbrev pub IsNotClosed : Bool → Pit → List Answered → ℕ → ℕ → List
 IsNotClosed true pit opening max_entries retries scripts = (planner : ℕ) × (cause : CloseError) × IsTurnUnclosed pit opening max_entries retries scripts planner cause
 IsNotClosed false pit opening max_entries retries scripts = (logs : List PlannerState) × (cause : CloseError) × IsUnclosed pit opening max_entries retries scripts logs cause
 
--- memory or a place is wanting, or a workspace isn't closed
+-- memory runs out, a place can't be had, or a workspace isn't closed
 abbrev pub IsRunFault : Setup → PlanOptions → CliFault → Type 0
 IsRunFault setup options NoMemory = ⊤
 IsRunFault setup options NoPlace = ⊤

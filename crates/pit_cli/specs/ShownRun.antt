@@ -7,7 +7,7 @@ use Rattle.pit_show.specs.ShowText.{history_comment}
 use Rattle.pit_show.specs.Show.{IsShown}
 use Rattle.pit_output.specs.Outputs.{Outputs}
 
--- over a pit, of its text just this is shown: the comment on its entries up to the last commit, and then the solution that was written
+-- over a pit, just this is shown of its text: the comment on its entries up to the last commit, and then the solution that was written
 pub record IsShownRun (pit : Pit) (history : List Answered) (outputs : Outputs) : Type 0 where
   pub front : List Answered
   pub is_front : IsFront history (length (commits_of history)) front

@@ -45,7 +45,7 @@ IsScriptOf pit bytes = StandsAs (StandsWhole (script_line pit) script_end (cut_o
 abbrev pub IsBadScript : Pit → List ℕ → ScriptError → Type 0
 IsBadScript pit bytes error = FailsWhole (script_line pit) script_end (cut_of bytes) (end_line bytes) error.line error.cause
 
--- memory is wanted at a line, where none so far has a fault, or behind the whole script, which has none
+-- memory runs out at a line, where none so far has a fault, or behind the whole script, which has none
 abbrev pub IsScriptStop : Pit → List ℕ → Type 0
 IsScriptStop pit bytes = ((place : ℕ) × StopsAt (script_line pit) (cut_of bytes) place) ⊎ ((jobs : List Job) × IsScriptOf pit bytes jobs)
 
@@ -58,7 +58,7 @@ IsScriptFault pit number bytes other = ⊥
 abbrev pub script_judged : Pit → ℕ → List ℕ → Step CliFault (Unit {0}) (List Job)
 script_judged pit number bytes = judge_step (λ _. IsScriptOf pit bytes) (λ _. IsScriptFault pit number bytes)
 
--- the scripts, numbered from 1; before that, memory may be wanted for the heights of the pit's blocks
+-- the scripts, numbered from 1; before that, there may be no memory for the heights of the pit's blocks
 abbrev pub scripts_judged : List (List ℕ) → Pit → Step CliFault (Unit {0}) (List (List Job))
 scripts_judged texts pit = in_turn (may_step NoMemory) (each (script_judged pit) 1 texts)
 

@@ -11,9 +11,9 @@ ghost use Rattle.pit_cli.specs.Outcomes.{MayRun, AreRefused, IsDecisive, IsWritt
 use pit_opening::{one_beginning, one_opening};
 use pit_step::{CliFault, Status};
 
-/// A law of plans. Texts may be run, or are refused for one fault, never both and never for two, whatever threads do; each call on them keeps to
-/// that, want of memory aside. The answer says what was written; and where the report's device tells its bytes, they say how the planners ended,
-/// with which status, or that they didn't run. What is left to chance is the run itself, and whether memory or a place is wanting, a device fails, or
+/// A law of plans. Texts may be run, or are refused for one fault: never both, never for two, and whatever threads do. Each call on them keeps to
+/// that, out of memory aside. The answer says what was written. Where the report's device tells its bytes, they say how the planners ended and with
+/// which status, or that they didn't run. Left to chance are the run itself, and whether memory runs out, a place can't be had, a device fails, or
 /// the workspace isn't closed.
 pub fn one_outcome()
     ensures some { (texts : Texts) → MayRun texts ⊎ ((fault : CliFault) × AreRefused texts fault) }
@@ -46,8 +46,8 @@ pub fn one_outcome()
 }
 
 /// A law of plans, for any number of planners: where a plan ended with an answer, or because a planner stopped, what it has written is that of one
-/// closed history of one thread. Each committed entry behind what it began with is a job of a planner's script, done on the schedule that the entries before
-/// it leave; after each entry the schedule is good under the limits then in force; and the value is that of the solution.
+/// closed history of one thread. Each committed entry behind what it began with is a job of a planner's script, done on the schedule that the entries
+/// before it leave; after each entry the schedule is good under the limits then in force; and the value is that of the solution.
 pub fn one_closed_history()
     ensures answered { (texts : Texts) (options : PlanOptions) (out lines : Writing) (kept : Option Keeping) (status : Status)
         → (plan_run texts options out lines kept).Gives tt status → IsOfOneHistory texts options out lines kept (Ok status) }

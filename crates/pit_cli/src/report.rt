@@ -19,8 +19,8 @@ use pit_run::{PlannerRun, Report};
 use pit_step::{CliFault, Status, empty_text, gathered, write_value_lines};
 use std::alloc::Allocator;
 
-/// Writes the report of a run, at once: a line for each job and for each planner that stopped, by rising planner and job, the value, and the
-/// shortfalls. Takes the memory of the lines; nothing is written where that is wanting.
+/// Writes the report of a run at once: a line for each job and for each planner that stopped, by rising planner and job, the value, and the
+/// shortfalls. Takes the memory of the lines; nothing is written where there isn't enough.
 pub fn write_report<A: Allocator + Copy + Drop, B: Allocator + Copy + Drop, W: Sink>(
     alloc: B,
     w: &mut W,
@@ -39,7 +39,7 @@ pub fn write_report<A: Allocator + Copy + Drop, B: Allocator + Copy + Drop, W: S
     }
 }
 
-/// The report's lines, first the one that says that a history is new, and how the run ends.
+/// The report's lines, of which the first may say that the history is new; and how the run ends.
 pub(crate) fn reported<A: Allocator + Copy + Drop, B: Allocator + Copy + Drop>(
     alloc: B,
     report: &Report<A>,

@@ -27,8 +27,8 @@ use std::marker::Brand;
 use std::sync::Wait;
 use std::thread::Threads;
 
-/// Opens a desk with what a plan begins with, for `ENTRIES_MAX` entries, and a workspace on the desk; has planners do the scripts, each in a thread of
-/// its own, and closes the workspace; or, in turn, one workspace for each planner.
+/// Opens a desk with what a plan begins with, for `ENTRIES_MAX` entries, and a workspace on the desk. Has planners do the scripts, each in a thread
+/// of its own, and closes the workspace. Where they take turns, each planner has a workspace of its own.
 pub fn run_scripts<R: Threads + Wait + Sync, A: Allocator + Copy + Drop + Send + Sync>(
     rt: &R,
     alloc: A,

@@ -15,7 +15,9 @@ use std::alloc::{Allocator, Global};
 /// What the texts stand for.
 #[derive(Drop)]
 pub struct Inputs<A: Allocator + Copy + Drop> {
+    /// The pit of the model, the precedences and the places.
     pub pit: Instance<A>,
+    /// What the plan begins with.
     pub opening: Opening<A>,
     /// On this pit, in the order of their planners.
     pub scripts: Vec<Script<A>, A>,

@@ -19,7 +19,7 @@ use std::alloc::{AllocError, Global};
 use std::convert::AsStr;
 
 /// What `--version` prints behind the program's name.
-const VERSION: &str = "0.1.0";
+const VERSION: &str = "1.0.0";
 
 /// `pit`, with one subcommand for each engine.
 fn command<'a>(alloc: Global) -> Result<Command<'a>, AllocError>
@@ -81,8 +81,8 @@ pub fn matched<'a, S: AsStr>(alloc: Global, words: &'a [S]) -> Result<ArgMatches
     pit.try_get_matches_from(words)
 }
 
-/// The parser's error for what it isn't asked: a word that is not UTF-8, no subcommand, words that exclude one another, or too many edits. Or want of
-/// memory.
+/// The parser's error for what the parser itself isn't asked to judge: a word that is not UTF-8, no subcommand, words that exclude one another, or
+/// too many edits. Or that it is out of memory.
 pub fn refusal(alloc: Global, kind: ErrorKind) -> Error
     ensures { (kind_of result ≡ kind) ⊎ (kind_of result ≡ OutOfMemory) }
 {

@@ -39,7 +39,7 @@ module _ (one_history : IsOneHistory) (never_bad : IsNeverBad) (one_fault : IsOn
   one-run : IsDetermined IsSeen (diff_run model old new out) tt
   one-run = in_turn-determined IsSeen (model_step model) (schedules_run old new out) tt (model-determined model told_model) one-schedules
 
-  -- ---- want of memory aside
+  -- ---- out of memory aside
 
   pub seen-outcome : HasOneOutcome NoMemory (want_aside NoMemory (diff_run model old new out))
   seen-outcome = seen_run NoMemory (diff_run model old new out) one-run

@@ -32,8 +32,8 @@ pub fn moves_add_up()
         → all_moved (moves_of blocks periods old new) ≡ length (changes_of blocks old new) }
 {}
 
-/// A law of runs: where devices tell their bytes, these say how a run ended, with which status or with which fault. A run that wrote nothing may
-/// have wanted memory, which no device shows.
+/// A law of runs: where devices tell their bytes, these say how a run ended, with which status or with which fault. A run that wrote nothing may have
+/// been out of memory, which no device shows.
 pub fn one_outcome()
     ensures seen { (model old new : Reading) (out : Writing)
         → IsSome model.before → IsSome old.before → IsSome new.before

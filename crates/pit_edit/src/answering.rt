@@ -67,7 +67,7 @@ fn commit<A: Allocator + Copy + Drop>(
     Ok(answered(desk, makers, reply))
 }
 
-/// What the last entry of a desk says, whose commit was answered so. Its maker is noted, where it made one.
+/// What the last entry of a desk says, whose commit got this reply. Where it made a commit, the entry is noted as its maker.
 fn answered<A: Allocator + Copy + Drop>(
     desk: &Desk<A>,
     makers: &mut Vec<u32, A>,
@@ -116,7 +116,7 @@ fn cause_behind<A: Allocator + Copy + Drop>(
     }
 }
 
-/// Notes the number of an entry that was answered so, if it made a commit. There is room for it.
+/// Notes the number of an entry with this reply, if it made a commit. There is room for it.
 fn note<A: Allocator + Drop>(makers: &mut Vec<u32, A>, reply: Reply, number: u32)
     requires { vec_len makers.old < vec_capacity makers.old }
     ensures { makers.new.items ≡ makers_after makers.old.items number (entry_reply reply) }

@@ -44,7 +44,7 @@ fn is_apart(base: Option<u32>, held: Option<u32>, wanted: Option<u32>) -> bool
     wanted != base && wanted != held
 }
 
-/// Of these blocks those that a commit behind the base of an edit has written, or the others.
+/// Those of these blocks that a commit behind the base of an edit has written; or the others.
 pub(crate) fn part_of<A: Allocator + Copy + Drop>(
     alloc: A,
     plan: &Plan<A>,

@@ -20,7 +20,7 @@ pub fn late_edits()
         → (was_moved (Some reply) ≡ true) ↔ (late_of edit.start (last_number (commits_of before)) blocks ≢ []) }
 {}
 
-/// A law of edits: right behind one that was committed each block that it writes has its period, and each other block has what it had.
+/// A law of edits: right after one that was committed, each block that it writes has the period that it writes, and each other block has what it had.
 pub fn edit_writes()
     ensures written { (before : List Answered) (edit : EditState) (blocks : List ℕ) (number b : ℕ) → Contains blocks b
         → held_period (commits_of (before ++ edit_entry edit blocks (committed number) ∷ [])) b ≡ wanted_of edit b }
@@ -34,8 +34,8 @@ pub fn laid_over_in_order()
         → held_period (commits_of (before ++ entries)) b ≡ laid_over b (held_period (commits_of before) b) entries }
 {}
 
-/// A law of conflicts: each that is told is of a change whose block a commit behind the base has written; and where they are told, of a change that was left
-/// out or of an edit that was moved, each such change is among them. The first 1,000 have a line.
+/// A law of conflicts: each that is told is a change of a block that a commit behind the base has written. They are told where changes may be left
+/// out, or where the edit was refused as moved; then each such change is among them. The first 1,000 have a line.
 pub fn told_conflicts()
     ensures told { (is_partial : Bool) (reply : Option EntryReply) (start : ℕ) (version : ℕ → ℕ) (changes : List ℕ) (b : ℕ)
         → Contains (told_of is_partial reply (late_of start version changes)) b → Contains changes b × (start < version b) }

@@ -20,8 +20,8 @@ use pit_num::NoMemory;
 use std::alloc::Allocator;
 use std::marker::Model;
 
-/// A desk on which edits are merged, the lines that tell of them, and whether each was merged whole. Its type keeps that each commit has the number of
-/// the entry that made it.
+/// A desk on which edits are merged, the lines that tell of them, and whether each was merged whole. Its type keeps that each commit has the number
+/// of the entry that made it.
 #[derive(Drop)]
 pub struct Merging<A: Allocator + Copy + Drop> {
     desk: Desk<A>,
@@ -84,9 +84,9 @@ impl<A: Allocator + Copy + Drop> Merging<A> {
         self.is_whole
     }
 
-    /// Merges an edit: what it changes is committed as one transaction that began at its base. Where `is_partial`, the blocks that a commit behind the
-    /// base has written are left out. On a fault, which is want of memory or that the desk may have no further entry, the merge is good for nothing
-    /// more.
+    /// Merges an edit: what it changes is committed as one transaction that began at its base. Where `is_partial`, the blocks that a commit behind
+    /// the base has written are left out. A fault is that it is out of memory, or that the desk may have no further entry; after it the merge is of
+    /// no more use.
     pub fn merge(&mut self, alloc: A, edit: &Edit<'_>, is_partial: bool) -> Result<(), NoMemory>
         requires { IsEditOn self.old.desk.plan.pit (commits_of self.old.desk.history) edit.now }
         ensures { OnOk result (IsMerged is_partial edit.now self.old self.new) }
@@ -106,7 +106,7 @@ impl<A: Allocator + Copy + Drop> Merging<A> {
         self.tell(alloc, edit.number, review, answer)
     }
 
-    /// Adds the lines of an edit that was answered so.
+    /// Adds the lines of an edit with this answer.
     fn tell(
         &mut self,
         alloc: A,
@@ -139,7 +139,7 @@ fn add_text<A: Allocator + Drop>(
     Ok(())
 }
 
-/// Whether all was merged whole, where it was so far, and this was answered and so many changes were left out.
+/// Whether all was merged whole: whether it was so far, the answer to this edit is no refusal, and no change of it was left out.
 fn is_whole_with(is_whole: bool, reply: Option<EntryReply>, left: u64) -> bool
     ensures { result ≡ (is_whole && (was_granted reply && left == 0)) }
 {

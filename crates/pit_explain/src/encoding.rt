@@ -21,7 +21,7 @@ pub(crate) fn encoding_fault(text: &[u8], number: u64) -> Option<&'static str> {
 const MARK: &str =
     "The file begins with a byte order mark, three bytes that editors don't show: save it without.";
 
-/// The same where a key is missing, which a mark in front of the first one makes another word.
+/// The same where a key is missing. A mark in front of the first key makes that another word.
 pub(crate) fn header_encoding_fault(text: &[u8], error: TextError) -> Option<&'static str> {
     if text.starts_with(b"\xEF\xBB\xBF") {
         return Some(MARK);

@@ -37,7 +37,7 @@ pub(crate) fn write_place<W: fmt::Write>(
     w.write_str("\n")
 }
 
-/// Writes the first 100 bytes, a tab as a blank, and each other byte that can't be printed as `?`.
+/// Writes the first `SHOWN_MAX` bytes, a tab as a blank, and each other byte that can't be printed as `?`.
 pub(crate) fn write_shown<W: fmt::Write>(w: &mut W, bytes: &[u8]) -> fmt::Result {
     for byte in bytes.iter().take(SHOWN_MAX) {
         w.write_char(shown(*byte))?;

@@ -3,7 +3,8 @@ use crate::given::Given;
 use crate::history::{say_illegal, say_lines};
 use crate::script::say_script;
 use crate::text::say_text;
-use pit_step::{CliFault, Input};
+use pit_desk::ENTRIES_MAX;
+use pit_step::{CliFault, INPUT_BYTES_MAX, Input};
 use std::fmt;
 use std::io::ErrorKind;
 
@@ -25,32 +26,41 @@ pub(crate) fn say_fault<G: Given, W: fmt::Write>(
         | CliFault::RevisedLimit(file)
         | CliFault::BaseMissing(file) => {
             write_path(w, given.path(*file))?;
-            w.write_str(sentence_on(fault))
+            write_sentence(w, fault)
         }
         CliFault::LimitBelowZero { .. } => {
             write_path(w, given.path(Input::Model))?;
-            w.write_str(sentence_on(fault))
+            write_sentence(w, fault)
         }
         CliFault::Start(_) => {
             write_path(w, given.path(Input::Start))?;
-            w.write_str(sentence_on(fault))
+            write_sentence(w, fault)
         }
         CliFault::HistoryIsInput => {
             write_path(w, given.history())?;
-            w.write_str(sentence_on(fault))
+            write_sentence(w, fault)
         }
         CliFault::HistoryInUse => say_in_use(w, given),
         CliFault::CannotWrite => say_unwritten(w, given),
+        _ => write_sentence(w, fault),
+    }
+}
+
+/// Writes a sentence on a fault that is about no line.
+fn write_sentence<W: fmt::Write>(w: &mut W, fault: &CliFault) -> fmt::Result {
+    match fault {
+        CliFault::TooLong(_) => writeln!(
+            w,
+            "  An input has at most {} bytes, and a history that is carried on at most {} entries.",
+            INPUT_BYTES_MAX, ENTRIES_MAX
+        ),
         _ => w.write_str(sentence_on(fault)),
     }
 }
 
-/// A sentence on a fault that is about no line.
+/// Such a sentence, where it names no limit of a crate below.
 fn sentence_on(fault: &CliFault) -> &'static str {
     match fault {
-        CliFault::TooLong(_) => {
-            "  An input has at most 4294967296 bytes, and a history that is carried on at most 4294967295 entries.\n"
-        }
         CliFault::LimitBelowZero { .. } => {
             "  Not even the empty schedule keeps an upper limit below zero: look at the limits of this resource and period.\n"
         }

@@ -1,6 +1,8 @@
 //! Looks into a model.
-use pit_num::whole_from_bytes;
+use pit_model::{BLOCKS_MAX, RESOURCES_MAX};
+use pit_num::{PERIODS_MAX, RATE_MAX, whole_from_bytes};
 use pit_text::{Key, Line, Lines, Section, key_of, section_of};
+use std::fmt;
 
 /// The first field of a line.
 pub(crate) fn first_field<'a>(line: Line<'a>) -> &'a [u8] {
@@ -97,15 +99,19 @@ pub(crate) fn section_name(section: Section) -> &'static str {
     }
 }
 
-/// The range of a key's value.
-pub(crate) fn key_range(key: Key) -> &'static str {
+/// Writes the range of a key's value.
+pub(crate) fn write_key_range<W: fmt::Write>(w: &mut W, key: Key) -> fmt::Result {
     match key {
-        Key::Kind => "CPIT",
-        Key::Blocks => "a whole number from 1 to 4194304",
-        Key::Periods => "a whole number from 1 to 1000",
-        Key::Resources => "a whole number from 0 to 64",
-        Key::Rate => "a decimal from 0 to 1000; 0.1 is 10 % a period",
-        Key::Destinations => "1",
-        Key::Generals => "0",
+        Key::Kind => w.write_str("CPIT"),
+        Key::Blocks => write!(w, "a whole number from 1 to {}", BLOCKS_MAX),
+        Key::Periods => write!(w, "a whole number from 1 to {}", PERIODS_MAX),
+        Key::Resources => write!(w, "a whole number from 0 to {}", RESOURCES_MAX),
+        Key::Rate => write!(
+            w,
+            "a decimal from 0 to {}; 0.1 is 10 % a period",
+            RATE_MAX / 1_000_000
+        ),
+        Key::Destinations => w.write_str("1"),
+        Key::Generals => w.write_str("0"),
     }
 }

@@ -7,9 +7,9 @@ use crate::given::Given;
 use crate::model::first_field;
 use crate::text::{NO_MEMORY, NOT_ASCII, TOO_LONG};
 use pit_num::NumError;
-use pit_script::{ScriptCause, ScriptError, Word};
+use pit_script::{JOBS_MAX, SHIFT_MAX, ScriptCause, ScriptError, Word, word_of};
 use pit_step::Input;
-use pit_text::{Fields, Key, Lines, beside};
+use pit_text::{Fields, Key, Lines};
 use std::fmt;
 
 /// Writes where a fault is, and a sentence on it.
@@ -48,8 +48,10 @@ fn say_cause<G: Given, W: fmt::Write>(
         ScriptCause::PeriodRange => write_range(w, given, Key::Periods),
         ScriptCause::Order => say_order(w, text, error.line),
         ScriptCause::NoBench => say_bench(w, given),
-        ScriptCause::JobCount => w.write_str(
-            "A script has at most 1000000 jobs: give the rest to another.",
+        ScriptCause::JobCount => write!(
+            w,
+            "A script has at most {} jobs: give the rest to another.",
+            JOBS_MAX
         ),
         ScriptCause::Unended => say_unended(w, text, error.line),
         ScriptCause::NoMemory => w.write_str(NO_MEMORY),
@@ -59,22 +61,9 @@ fn say_cause<G: Given, W: fmt::Write>(
 const WORDS: &str =
     "A line begins with begin, read, put, clear, shift, bench, revise, commit or abort, in small letters.";
 
-/// The words of a script's lines.
-const BY_WORD: &[(&str, Word)] = &[
-    ("begin", Word::Begin),
-    ("read", Word::Read),
-    ("put", Word::Put),
-    ("clear", Word::Clear),
-    ("shift", Word::Shift),
-    ("bench", Word::Bench),
-    ("revise", Word::Revise),
-    ("commit", Word::Commit),
-    ("abort", Word::Abort),
-];
-
 fn word_at(text: &[u8], number: u64) -> Option<Word> {
     let line = line_at(text, number)?;
-    beside(BY_WORD, Fields::new(line).next()?)
+    word_of(Fields::new(line).next()?)
 }
 
 fn write_word_form<W: fmt::Write>(w: &mut W, text: &[u8], number: u64) -> fmt::Result {
@@ -101,7 +90,8 @@ fn say_number<W: fmt::Write>(w: &mut W, text: &[u8], number: u64, fault: NumErro
         NumError::TooLong => w.write_str(TOO_LONG),
         NumError::TooLarge => write!(
             w,
-            "The line is `{form}`. B, R and T are below 2^32, D is at most 1000 either way, Z and V are below 10^12."
+            "The line is `{form}`. B, R and T are below 2^32, D is at most {} either way, Z and V are below 10^12.",
+            SHIFT_MAX
         ),
     }
 }
@@ -134,7 +124,7 @@ fn open_job(text: &[u8], number: u64) -> Option<u64> {
         if line.number >= number {
             return open;
         }
-        match beside(BY_WORD, first_field(line)) {
+        match word_of(first_field(line)) {
             Some(Word::Begin) => open = Some(line.number),
             Some(Word::Commit | Word::Abort) => open = None,
             _ => {}

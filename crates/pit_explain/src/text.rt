@@ -5,7 +5,7 @@ use crate::excerpt::{line_at, write_place, write_shown};
 use crate::forms::write_form;
 use crate::given::Given;
 use crate::keys::first_about;
-use crate::model::{key_range, line_of_key, line_of_section, unknown_key};
+use crate::model::{line_of_key, line_of_section, unknown_key, write_key_range};
 use pit_model::BuildError;
 use pit_num::{NumError, whole_from_bytes};
 use pit_step::Input;
@@ -82,7 +82,11 @@ fn say_missing<W: fmt::Write>(w: &mut W, text: &[u8], key: Key, error: TextError
 fn say_bad_key<W: fmt::Write>(w: &mut W, text: &[u8], key: Key, number: u64) -> fmt::Result {
     match line_of_key(text, key) {
         Some(first) if first < number => write!(w, "{key} stands in line {first} already."),
-        _ => write!(w, "{key} has one value, {}.", key_range(key)),
+        _ => {
+            write!(w, "{key} has one value, ")?;
+            write_key_range(w, key)?;
+            w.write_str(".")
+        }
     }
 }
 

@@ -4,7 +4,9 @@ ghost use Rattle.pit_file.specs.Inputs.{is_one, is_input};
 /// What a regular file is known by: the number of its device, and its own number there.
 #[derive(Clone, Copy, Debug, PartialEq, Eq)]
 pub struct FileIdentity {
+    /// The number of its device.
     pub device: u64,
+    /// Its own number on that device.
     pub number: u64,
 }
 

@@ -5,7 +5,7 @@ use super::history_file::HistoryFile;
 use super::two_names::TwoNames;
 use pit_num::{Failed, Sink, write_text};
 
-/// An output of a history: a stream, of which a beginning may be written, or a file that stays as it was until all of it is there.
+/// An output of a history: a stream, to which a first part may be written; or a file, which stays as it was until the whole text is there.
 pub trait HistoryOut {
     /// What is known of it.
     ghost state: { Self → OutputState };
@@ -19,6 +19,7 @@ pub trait HistoryOut {
 /// A device as the output of a history.
 #[derive(Drop)]
 pub struct Stream<S: Sink + Drop> {
+    /// The device, which the text is given to at once.
     pub sink: S,
 }
 
@@ -36,7 +37,9 @@ impl<S: Sink + Drop> HistoryOut for Stream<S> {
 /// A stream or a file.
 #[derive(Drop)]
 pub enum HistoryOutput<S: Sink + Drop, P: TwoNames + Drop> {
+    /// A pipe, a terminal or another device: the text goes behind what it holds.
     Stream(Stream<S>),
+    /// A file, which the text replaces whole or not at all.
     File(HistoryFile<P>),
 }
 

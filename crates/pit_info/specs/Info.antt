@@ -49,7 +49,7 @@ pub record IsInfo (with_places : Bool) (pit : Pit) (unknown : List ℕ) (text : 
   pub is_first : MatchOption unmeetable (IsMeetable pit) (IsFirstUnmeetable pit)
   pub says : text ≡ info_text with_places pit unmeetable unknown
 
--- the text, or memory is wanted for it
+-- the text, or there is no memory for it
 abbrev pub told_step : Bool → Step CliFault (Pit × List ℕ) (List ℕ)
 told_step with_places =
     judge_step (λ given text. IsInfo with_places given.0 given.1 text) (λ given fault. fault ≡ NoMemory)

@@ -17,7 +17,7 @@ use pit_share::{Planner, Transaction};
 use std::alloc::Allocator;
 use std::sync::Wait;
 
-/// Does the job with a number in a transaction of its own.
+/// Does job `n` in a transaction of its own.
 pub(crate) fn attempt<
     'a,
     S: Session,

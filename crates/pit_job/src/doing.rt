@@ -90,7 +90,7 @@ fn put<'a, S: Session, R: Wait + Drop, A: Allocator + Copy + Drop>(
     Ok(true)
 }
 
-// In range nothing but want of memory is refused.
+// In range this is refused only where it is out of memory.
 fn clear<'a, S: Session, R: Wait + Drop, A: Allocator + Copy + Drop>(
     t: &mut Transaction<'a, S, R, A>,
     b: u32,
@@ -104,7 +104,7 @@ fn clear<'a, S: Session, R: Wait + Drop, A: Allocator + Copy + Drop>(
     }
 }
 
-// In range nothing but want of memory is refused.
+// In range this is refused only where it is out of memory.
 fn revise<'a, S: Session, R: Wait + Drop, A: Allocator + Copy + Drop>(
     t: &mut Transaction<'a, S, R, A>,
     resource: u32,
@@ -177,7 +177,7 @@ fn look<'a, S: Session, R: Wait + Drop, A: Allocator + Copy + Drop>(
     }
 }
 
-// In range nothing but want of memory is refused.
+// In range this is refused only where it is out of memory.
 fn put_in<'a, S: Session, R: Wait + Drop, A: Allocator + Copy + Drop>(
     t: &mut Transaction<'a, S, R, A>,
     b: u32,

@@ -8,6 +8,7 @@ use pit_desk::{EntryReply, Refusal};
 pub enum JobStop {
     /// The history has as many entries as it may have.
     Full,
+    /// A growth was refused.
     NoMemory,
     /// The planner wasn't let in at the board, or the board was behind what it had seen.
     NoEntry,
@@ -20,23 +21,31 @@ pub enum Tried {
     Moved { block: u32, version: u32 },
     /// The transaction was answered so, and not by Moved.
     Answered(EntryReply),
+    /// The transaction got no reply, for this reason: nothing was entered.
     Stopped(JobStop),
 }
 
 /// How a job ended, after so many tries.
 #[derive(Clone, Copy, Debug, PartialEq, Eq)]
 pub enum Outcome {
+    /// Its last try made the commit of this number, counted from 1.
     Committed { number: u32, tries: u32 },
+    /// It gives up by its last line, or a shift of it failed.
     Withdrawn { tries: u32 },
+    /// Its last try was refused, for this reason: Moved only where no retry was left.
     Refused { refusal: Refusal, tries: u32 },
 }
 
 /// How a planner's run ended. Where it ended before a job, numbered from 1, each job before that has its outcome.
 #[derive(Clone, Copy, Debug, PartialEq, Eq)]
 pub enum RunEnd {
+    /// Each job of the script has its outcome.
     Whole,
+    /// Before this job, since the history has as many entries as it may have.
     Full { job: u32 },
+    /// Before this job, since a growth was refused.
     NoMemory { job: u32 },
+    /// Before this job, since the planner wasn't let in at the board, or the board was behind what it had seen.
     NoEntry { job: u32 },
     /// No thread could be started for it.
     NoThread,

@@ -57,7 +57,7 @@ pub fn run_script<
     (now, outcomes, RunEnd::Whole)
 }
 
-/// Tries the job with a number until it is answered, and not by Moved, at most once more than there are retries.
+/// Tries the job with a number until it gets an answer other than Moved; at most once more than there are retries.
 fn run_job<
     'a,
     S: Session,

@@ -1,4 +1,4 @@
--- Keys, each with a value, in the order of first use, and when a further one may want memory.
+-- Keys, each with a value, in the order of first use, and when a further one may take memory.
 use Rattle.std.specs.Prelude.{◌≡◌, ◌≢◌, ◌+◌, ◌≤◌, ◌++◌, List, [], ◌∷◌, length, Bool, Option, None, is_some, if◌then◌else◌}
 use Rattle.std.specs.Map.{lookup}
 use Rattle.indexmap.specs.IndexMap.{IndexMap, insert_entry, spare}

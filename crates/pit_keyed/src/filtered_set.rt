@@ -9,9 +9,8 @@ use std::alloc::Allocator;
 use std::hash::{BuildHasherDefault, FoldHasher};
 use std::marker::Model;
 
-/// An `IndexMap` of numbers with a filter (Bloom 1970) of two words: for each number `n` that is there bit `n % 64` of the one is set, and bit
-/// `n / 64 % 64` of the other. So a number is looked for only where both its bits are set.
-/// Contracts see it as the list of its pairs.
+/// An `IndexMap` of numbers with a filter (Bloom 1970) of two words: for each number `n` that is there, bit `n % 64` of the first word is set, and
+/// bit `n / 64 % 64` of the second. So a number is looked for only where both its bits are set. Contracts see it as the list of its pairs.
 #[derive(Drop)]
 pub struct FilteredSet<V: Copy, A: Allocator + Copy + Drop> {
     map: IndexMap<u32, V, BuildHasherDefault<FoldHasher>, A>,

@@ -14,7 +14,7 @@ use Rattle.pit_merge.specs.Merge.{desk_step, merge_outputs, merge_status, merge_
 
 module _ (options : MergeOptions) (begun : Prepared) (edits : List Reading) (out lines : Writing) (kept : Option Keeping) where
   module _ (merged : Merged) (is_kept : IsDeskKept merged.merging.desk) (taken : (in_turn (desk_step begun) (through (edit_step options) 1 edits)).Gives tt merged) where
-    -- where memory is not wanting
+    -- where memory doesn't run out
     pub merged_as : (result : Result Status CliFault)
         → IsResultOf (outputs_run begun.is_carried_on (merge_outputs begun.is_new merged) (Ok (merge_status merged.merging.is_whole)) out lines kept) tt result
         → IsResultOf (merge_run options begun edits out lines kept) tt result

@@ -72,7 +72,7 @@ module _ (ground : Ground) (from : Option ℕ) (number : ℕ) (text : List ℕ) 
 
   -- ---- either
 
-  -- memory is wanted behind its text
+  -- memory runs out behind its text
   pub wants : (start : ℕ) (wanted : List (Option ℕ)) (fault : CliFault) → IsWanted ground from text start wanted → fault ≡ NoMemory → IsEditFault ground from number text fault
   wants start wanted fault is none =
       inl (subst (λ (f : CliFault). IsStateFault (input.Edit number) ground.pit text f) (sym none) (state-stop (input.Edit number) ground.pit text is.commits is.stands))

@@ -51,7 +51,7 @@ abbrev pub IsBaseBy : Bool → Ground → Option ℕ → List ℕ → ℕ → Ty
 IsBaseBy true ground from text count = IsSharedBase ground.ours text count
 IsBaseBy false ground from text count = IsSolutionBase ground.ours ground.is_resumed from text count
 
--- nothing says it, or what does is wrong
+-- nothing says it, or what says it is wrong
 abbrev pub IsBaseFaultBy : Bool → Ground → Option ℕ → List ℕ → BaseFault → Type 0
 IsBaseFaultBy true ground from text fault = (fault ≡ RevisedLimit) × IsRevisingText ground.ours text
 IsBaseFaultBy false ground from text fault = IsSolutionBaseFault ground.ours ground.is_resumed from text fault
@@ -81,7 +81,7 @@ pub record IsBaseless (ground : Ground) (from : Option ℕ) (number : ℕ) (text
   pub fails : IsBaseFaultBy (is_history text) ground from text why
   pub fault_is : fault ≡ fault_of (input.Edit number) why
 
--- a fault of the text comes first, and then one of its base; memory may be wanted wherever the text stands for a schedule
+-- a fault of the text comes first, and then one of its base; memory may run out wherever the text stands for a schedule
 abbrev pub IsEditFault : Ground → Option ℕ → ℕ → List ℕ → CliFault → Type 0
 IsEditFault ground from number text fault = IsStateFault (input.Edit number) ground.pit text fault ⊎ IsBaseless ground from number text fault
 

@@ -29,7 +29,7 @@ pub record IsBegun (begun : Prepared) (merged : Merged) : Type 0 where
   pub lines : merged.merging.lines ≡ []
   pub whole : merged.merging.is_whole ≡ true
 
--- none can be opened, or memory is wanted behind it
+-- none can be opened, or memory runs out behind it
 abbrev pub IsNoDesk : Prepared → CliFault → Type 0
 IsNoDesk begun fault = IsDeskFault begun.pit begun.opening fault ⊎ (IsGoodOpening begun.pit begun.opening × (fault ≡ NoMemory))
 
@@ -53,7 +53,7 @@ merge_outputs is_new merged = let desk = merged.merging.desk in record {
 abbrev pub merge_status : Bool → Status
 merge_status is_whole = if is_whole then Fine else Failed
 
--- the outputs are gathered, or memory is wanting for them; and then they are written
+-- the outputs are gathered, or there is no memory for them; and then they are written
 abbrev pub merged_run : Prepared → Writing → Writing → Option Keeping → Merged → Step CliFault (Unit {0}) Status
 merged_run begun out lines kept merged =
     in_turn (may_step NoMemory) (outputs_run begun.is_carried_on (merge_outputs begun.is_new merged) (Ok (merge_status merged.merging.is_whole)) out lines kept)

@@ -21,11 +21,11 @@ pub const EDITS_MAX: usize = 64;
 
 /// Merges edits into what is begun with, each as one transaction of the planner of its number that began at its base. Writes the solution that they
 /// leave, then the report: a line for each edit with its conflicts, the value, and the shortfalls; and then, where there is an output for it, the
-/// history. A history that is carried on is written before the others, and the report begins with a line where it is new. The limits of the pit are
-/// looked at and a history is audited before the first edit is read; then each edit is read, parsed and merged before the next one is looked at. A fault
-/// is the first one; where it isn't that of an output, nothing is written. Answers `Failed` where an edit was refused, or a part of one was left out.
-/// Takes the memory of the desk, of a number for each commit, of one edit and its base, and of the texts; and by `json` that of the JSON value of one
-/// line.
+/// history. A history that is carried on is written before the others, and the report begins with a line where it is new. Before the first edit is
+/// read, the limits of the pit are looked at and a history is audited. Then each edit is read, parsed and merged before the next one is looked at. A
+/// fault is the first one; where it isn't that of an output, nothing is written. Answers `Failed` where an edit was refused, or a part of one was
+/// left out. Takes the memory of the desk, of a number for each commit, of one edit and its base, and of the texts; and by `json` that of the JSON
+/// value of one line.
 pub fn merge<A: Allocator + Copy + Drop, E: Source, W: Sink, L: Sink, H: HistoryOut>(
     alloc: A,
     json: Global,

@@ -4,10 +4,13 @@ use thiserror::Error;
 /// Why a fact is refused by what is known of the pit already. The first that applies is answered, in this order.
 #[derive(Clone, Copy, Debug, PartialEq, Eq, Error)]
 pub enum BuildError {
+    /// A block is not below the number of blocks.
     #[error("block out of range")]
     BlockRange,
+    /// A resource is not below the number of resources.
     #[error("resource out of range")]
     ResourceRange,
+    /// A period is not below the number of periods.
     #[error("period out of range")]
     PeriodRange,
     /// This block's profit, its coefficient of this resource, its predecessors or its place were set before, to whatever value.

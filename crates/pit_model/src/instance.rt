@@ -178,7 +178,7 @@ impl<A: Allocator + Copy + Drop> Instance<A> {
         self.tables.places.place(b)
     }
 
-    /// The resource and the period of the least period, and in it of the least resource, whose upper bound is below zero.
+    /// The first upper bound that is below zero, as its resource and its period: the least such period, and in it the least resource.
     pub fn unmeetable(&self) -> Option<(u32, u32)>
         ensures { MatchOption result (IsMeetable self.now) (IsFirstUnmeetable self.now) }
     {

@@ -81,8 +81,8 @@ fn next(rate: u32, factor: u64) -> u64
     (2 * factor * 1_000_000 + divisor) / (2 * divisor)
 }
 
-/// A law of the factors: the first is 10^12, and each next one is the greatest number whose double, times one and the
-/// rate, is at most the double of the factor before it and one and the rate. So it is the quotient, rounded half up.
+/// A law of the factors: the first is 10^12, and the one after a factor `f` is the greatest `n` with `2 n (1 + rate) <= 2 f + (1 + rate)`. So it is
+/// the quotient `f / (1 + rate)`, rounded half up.
 pub fn factor_is_greatest()
     ensures first { (rate : ℕ) → factor rate 0 ≡ 10 ^ 12 }
     ensures next { (rate t : ℕ) → IsGreatest

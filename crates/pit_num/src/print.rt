@@ -4,7 +4,7 @@ ghost use Rattle.pit_num.specs.Printed.{unsigned_text, fixed_text, WritesText, W
 use super::sink::Sink;
 use itoa::{Buffer, write_digits};
 
-/// A device failed while it was written to. It then holds what it held before and a front of the text.
+/// A device failed while it was written to. It then holds what it held before, and behind that a prefix of the text.
 #[derive(Clone, Copy, Debug, PartialEq, Eq)]
 pub struct WriteFault;
 

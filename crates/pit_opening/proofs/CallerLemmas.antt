@@ -1,4 +1,4 @@
--- For the crates above: a fault of what a plan begins with is of the inputs, or memory is wanted.
+-- For the crates above: a fault of what a plan begins with is of the inputs, or memory runs out.
 use Rattle.std.proofs.Common.{◌≡◌, ◌⊎◌, inl, inr, ℕ, Bool, true, false, List, refl, sym, subst}
 use Rattle.pit_model.specs.Pit.{Pit}
 use Rattle.pit_text.specs.declared.error.TextError.{TextError}
@@ -15,7 +15,7 @@ use Rattle.pit_step.proofs.CallerLemmas.{IsOfInputs}
 use Rattle.pit_opening.specs.Beginnings.{Begun, nothing, scheduled, carried_on, unbegun, IsStartFault, IsOpeningFault}
 use Rattle.pit_opening.specs.Openings.{Opened, started, resumed, IsDeskFault, desk_fault_of}
 
--- it is of the inputs, or memory is wanted
+-- it is of the inputs, or memory runs out
 abbrev pub IsEarly : CliFault → Type 0
 IsEarly fault = IsOfInputs fault ⊎ (fault ≡ cli.NoMemory)
 

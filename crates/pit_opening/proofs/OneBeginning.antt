@@ -1,4 +1,4 @@
--- The text of a beginning stands for one opening, or has one fault, want of memory aside.
+-- The text of a beginning stands for one opening, or has one fault, out of memory aside.
 use Rattle.std.proofs.Common.{◌≡◌, ◌⊎◌, inl, inr, ℕ, Bool, true, false, List, [], refl, sym, ap, ◌∙◌}
 use Rattle.pit_model.specs.Pit.{Pit}
 use Rattle.pit_desk.specs.History.{Answered}

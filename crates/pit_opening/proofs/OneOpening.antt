@@ -1,4 +1,4 @@
--- What a desk is opened with breaks no rule, or is refused for one fault, want of memory aside.
+-- What a desk is opened with breaks no rule, or is refused for one fault, out of memory aside.
 use Rattle.std.proofs.Common.{◌≡◌, ◌≢◌, ◌⊎◌, inl, inr, ℕ, ◌≤◌, List, [], ◌∷◌, length, refl, sym, ap, ◌∙◌, arith}
 use Rattle.std.proofs.lemmas.Bool.Decides.{leb_tells}
 use Rattle.pit_model.specs.Pit.{Pit, IsMeetable, IsFirstUnmeetable}
@@ -55,7 +55,7 @@ desk-due pit start (desk.BadStart breach) some is = refl
 desk-due pit start desk.Full some is = absurd (omega (arith, is.2))
 desk-due pit start desk.NoMemory some is = absurd (some refl)
 
--- a desk's refusal that is of the inputs isn't want of memory
+-- a desk's refusal that is of the inputs isn't out of memory
 desk-in : (why : DeskError) (fault : CliFault) → fault ≡ desk_fault_of why → IsOfInputs fault → why ≢ desk.NoMemory
 desk-in why fault is due same = never_two (sym (ap fault_status is ∙ ap (λ (e : DeskError). fault_status (desk_fault_of e)) same) ∙ due)
 

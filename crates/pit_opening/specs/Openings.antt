@@ -61,7 +61,8 @@ desk_fault_of (desk.BadStart breach) = Start (record { 0 = breach })
 desk_fault_of desk.Full = NoMemory
 desk_fault_of desk.NoMemory = NoMemory
 
--- the first of these that applies: a limit can't be met, the history is too long, or has a wrong place; memory is wanted only where the limits can be met
+-- the first of these that applies: a limit can't be met, the history is too long, or has a wrong place; memory runs out only where the limits can be
+-- met
 abbrev pub IsHistoryRefusal : Pit → Input → List Answered → CliFault → Type 0
 IsHistoryRefusal pit file entries (LimitBelowZero resource period) = IsFirstUnmeetable pit (resource, period)
 IsHistoryRefusal pit file entries (TooLong f) = (f ≡ file) × IsMeetable pit × (ENTRIES_MAX < length entries)

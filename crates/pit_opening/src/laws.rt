@@ -10,7 +10,7 @@ ghost use Rattle.pit_opening.specs.Openings.{Opened, IsGoodOpening, IsDeskFault}
 use pit_desk::{one_desk_error, one_wrong_place};
 use pit_lines::laws::{one_history, one_result};
 
-/// A law of beginnings: the text stands for one opening, or is refused for one fault, never both and never for two, want of memory aside.
+/// A law of beginnings: the text stands for one opening, or is refused for one fault: never both, and never for two, out of memory aside.
 pub fn one_beginning()
     ensures some { (pit : Pit) (begun : Begun)
         → ((opening : Opened) × IsOpeningOf pit begun opening) ⊎ ((fault : CliFault) × (fault_status fault ≡ 2) × IsOpeningFault pit begun fault) }
@@ -24,7 +24,7 @@ pub fn one_beginning()
     one_result();
 }
 
-/// A law of openings: what a desk is opened with breaks no rule, or is refused for one fault, never both and never for two, want of memory aside.
+/// A law of openings: what a desk is opened with breaks no rule, or is refused for one fault: never both, and never for two, out of memory aside.
 pub fn one_opening()
     ensures some { (pit : Pit) (opening : Opened) → IsGoodOpening pit opening ⊎ ((fault : CliFault) × (fault_status fault ≡ 2) × IsDeskFault pit opening fault) }
     ensures apart { (pit : Pit) (opening : Opened) (fault : CliFault) → fault_status fault ≡ 2 → IsGoodOpening pit opening → IsDeskFault pit opening fault → ⊥ }

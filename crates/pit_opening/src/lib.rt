@@ -1,7 +1,7 @@
 //! What a plan begins with, and the desk that it is opened on.
 //!
-//! A plan begins with nothing, with a schedule, or with a history that it carries on. A schedule that is a solution is the first entry of the desk's
-//! history; of one that is a history, and of a history that is carried on, the entries are the desk's, once an audit has found them legal.
+//! A plan begins with nothing, with a schedule, or with a history that it carries on. Where the schedule is a solution, it is the first entry of the
+//! desk's history. Where it is a history, or a history is carried on, its entries are the desk's, once an audit has found them legal.
 #![tactic(auto)]
 
 mod beginning;

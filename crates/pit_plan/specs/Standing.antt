@@ -29,7 +29,7 @@ pub record IsPlanOf (plan : Standing) (commits : List Commit) : Type 0 where
   pub version : (b : ℕ) → b < plan.pit.blocks → version_of plan b ≡ last_number commits b
   pub limit : (r t : ℕ) → r < plan.pit.resources → t < plan.pit.periods → limit_in_force plan r t ≡ limit_of plan.pit commits r t
 
--- a commit was added: whatever the plan stood for, it stands for that and then the commit
+-- a commit was added: the plan stands for what it stood for, and then for the commit
 pub record Adds (old : Standing) (commit : Commit) (new : Standing) : Type 0 where
   pub pit : new.pit ≡ old.pit
   pub stands : (commits : List Commit) → IsPlanOf old commits → IsPlanOf new (commits ++ commit ∷ [])

@@ -1,5 +1,5 @@
 //! The first breach that a schedule would have after writes and revisions, found where these touch it.
-ghost use Rattle.std.specs.Prelude.{◌≡◌, ◌≢◌, ℕ, ◌+◌, ◌*◌, ◌<◌, ◌⊎◌, None, pos, [], length, nat_eq, slice_index_or, IfNone, IfOk, IfErr, IfSome, All};
+ghost use Rattle.std.specs.Prelude.{◌≡◌, ◌≢◌, ℕ, ◌+◌, ◌*◌, ◌<◌, ◌⊎◌, Some, None, pos, [], length, nat_eq, slice_index_or, IfNone, IfOk, IfErr, IfSome, All};
 ghost use Rattle.std.specs.Map.{lookup};
 ghost use Rattle.pit_model.specs.Fitting.{Fits, RevisionsFit, revisions_of};
 ghost use Rattle.pit_num.specs.Least.{ComesBefore, IsLeast};
@@ -211,8 +211,7 @@ fn over_at<L: Limits, A: Allocator + Copy + Drop>(
     ensures { IsLeast ComesBefore (λ p. IsOverAt pit.now (at_cell pit.now (L.limit_in limits.now)) cells.now.entries p
         × (cell_of pit.now p.1 p.0 ≡ (slice_index_or cells.now.entries i (0, pos 0)).0)) result }
 {
-    let cell = cell_at(cells, i);
-    let load = load_in(cells, cell)?;
+    let (cell, load) = cell_at(cells, i);
     let limit = limits.limit(cell)?;
     if load <= i128::from(limit) {
         return None;
@@ -227,13 +226,14 @@ fn load_in<A: Allocator + Copy + Drop>(cells: &Pairs<i128, A>, cell: u32) -> Opt
     cells.get(&cell).copied()
 }
 
-/// The cell at this place.
-fn cell_at<A: Allocator + Copy + Drop>(cells: &Pairs<i128, A>, i: usize) -> u32
+/// The cell at this place, with its load.
+fn cell_at<A: Allocator + Copy + Drop>(cells: &Pairs<i128, A>, i: usize) -> (u32, i128)
     requires { i < length cells.now.entries }
-    ensures { result ≡ (slice_index_or cells.now.entries i (0, pos 0)).0 }
+    ensures cell { result.0 ≡ (slice_index_or cells.now.entries i (0, pos 0)).0 }
+    ensures load { lookup (nat_eq result.0) cells.now.entries ≡ Some result.1 }
 {
     match cells.get_index(i) {
-        Some((cell, _)) => *cell,
-        None => 0,
+        Some((cell, load)) => (*cell, *load),
+        None => unreachable!(),
     }
 }

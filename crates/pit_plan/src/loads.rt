@@ -34,7 +34,7 @@ pub(crate) trait Loads {
         ensures refused { IfErr result (λ e. can_refuse ≡ true) };
 }
 
-/// Adds a block's coefficients to the loads of a period, if there is one, or takes them from these.
+/// Adds a block's coefficients to the loads of a period (`up`), or takes them off; does nothing where there is no period.
 pub(crate) fn shift<L: Loads, A: Allocator + Copy + Drop>(
     pit: &Instance<A>,
     loads: &mut L,
@@ -58,7 +58,7 @@ pub(crate) fn shift<L: Loads, A: Allocator + Copy + Drop>(
         return Ok(());
     };
     for (r, coef) in pit.coefs(b) {
-        loads.add(pit.cell(*r, t), moved(up, *coef))?;
+        loads.add(pit.cell(*r, t), signed(up, *coef))?;
     }
     Ok(())
 }
@@ -71,8 +71,8 @@ pub(crate) fn plus(sum: i128, term: i128) -> i128
     sum + term
 }
 
-/// A coefficient, or its opposite.
-fn moved(up: bool, coef: i64) -> i128
+/// A coefficient with its sign: as it is where it is added (`up`), or its opposite where it is taken off.
+fn signed(up: bool, coef: i64) -> i128
     ensures { result ≡ signed_coef up coef }
 {
     let term = i128::from(coef);

@@ -14,7 +14,7 @@ use pit_model::Instance;
 use pit_num::NoMemory;
 use std::alloc::Allocator;
 
-/// So many moved loads have room from the start.
+/// There is room for so many moved loads from the start.
 const FIRST_ROOM: usize = 8;
 
 /// Loads, over which those that are moved are laid, each by its cell.
@@ -104,7 +104,7 @@ fn move_block<'a, A: Allocator + Copy + Drop>(
     Ok(())
 }
 
-/// Takes each revised cell among those that are moved, with the load that it has.
+/// Adds each revised cell to those that are moved, with the load that it has.
 pub(crate) fn look_at_revised<'a, A: Allocator + Copy + Drop>(
     pit: &Instance<A>,
     revises: &[(u32, u32, Option<i64>)],
@@ -122,7 +122,7 @@ pub(crate) fn look_at_revised<'a, A: Allocator + Copy + Drop>(
     Ok(())
 }
 
-/// Takes a cell among those that are moved, with the load that it has.
+/// Adds a cell to those that are moved, with the load that it has.
 fn look_at<'a, A: Allocator + Copy + Drop>(
     loads: &mut Moved<'a, A>,
     cell: u32,

@@ -15,7 +15,7 @@ use pit_num::NoMemory;
 use std::alloc::Allocator;
 use std::hash::{BuildHasherDefault, FoldHasher};
 
-/// Pairs, each of a number and what is said of it.
+/// Pairs of a number and what is said of it.
 pub(crate) type Pairs<X, A> = IndexMap<u32, X, BuildHasherDefault<FoldHasher>, A>;
 
 /// What is kept of each number, with pairs laid over it.
@@ -36,11 +36,14 @@ impl<'a, A: Allocator + Copy + Drop> Schedule for Overlay<'a, Option<u32>, A> {
     }
 }
 
-/// What the pairs say of a number, else what is kept of it.
+/// What the pairs say of a number, else what is kept of it. Where there are no pairs, no hash is made.
 fn overlaid_item<X: Copy, A: Allocator + Copy + Drop>(kept: &[X], pairs: &Pairs<X, A>, k: u32) -> X
     requires { k < length kept.now }
     ensures { (absent : X) → result ≡ overlaid_item (λ n. slice_index_or kept.now n absent) pairs.now.entries k }
 {
+    if pairs.is_empty() {
+        return kept[k as usize];
+    }
     match pairs.get(&k) {
         Some(value) => *value,
         None => kept[k as usize],

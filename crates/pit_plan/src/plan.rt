@@ -157,8 +157,8 @@ impl<A: Allocator + Copy + Drop> Plan<A> {
         schedule::first_breach(&self.pit, &self.tally, &self.limits)
     }
 
-    /// The first breach that the plan would have after the writes and the revisions. Takes the memory of these, and of the loads that
-    /// they move and revise, so none for no writes and no revisions.
+    /// The first breach that the plan would have after the writes and the revisions. Takes the memory of these, and of the loads that they move and
+    /// revise: so none where there are neither writes nor revisions.
     pub fn judge(
         &self,
         writes: &[(u32, Option<u32>)],

@@ -23,9 +23,9 @@ use std::alloc::Allocator;
 use std::marker::Brand;
 use std::sync::Wait;
 
-/// Does script k as planner k, in this thread and planner after planner, on a desk. Each turn has a workspace of its own on what the turns before
-/// left, which is freed before the next one is opened. On an error all is freed, the desk too. The closed desk has the items of the last planner's
-/// log alone.
+/// Does the scripts in this thread, one planner after another, on a desk: the first script as planner 1, the second as planner 2, and so on. Each
+/// turn has a workspace of its own on what the turns before left, which is freed before the next one is opened. On an error all is freed, the desk
+/// too. The closed desk has the items of the last planner's log alone.
 pub fn run_in_turn<R: Wait, A: Allocator + Copy + Drop, G: Gate>(
     rt: &R,
     alloc: A,
@@ -97,7 +97,7 @@ fn turns<R: Wait, A: Allocator + Copy + Drop, G: Gate>(
     Ok(Report { closed, runs })
 }
 
-/// The turn of the planner whose number is one more, on a desk.
+/// The turn of planner `k + 1`, on a desk.
 fn turn<R: Wait, A: Allocator + Copy + Drop, G: Gate>(
     rt: &R,
     alloc: A,
@@ -186,7 +186,7 @@ fn open_error(error: OpenError) -> InTurnError
     }
 }
 
-/// Has all planners hand in empty logs but the one whose number is one more, who then does the script.
+/// Has each planner but planner `k + 1` hand in an empty log; that one then does the script.
 fn take_turn<S: Session, O: Wait + Drop, R: Wait, A: Allocator + Copy + Drop, G: Gate>(
     rt: &R,
     alloc: A,

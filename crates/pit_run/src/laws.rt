@@ -18,9 +18,9 @@ pub fn each_planner()
         → (run : RunState) × (slice_get runs p ≡ Some run) × RanScript pit retries script (1 + p) (entries_of (1 + p) (drop (length opening) desk.history)) run }
 {}
 
-/// A law of reports: the closed history is one of one thread, in which the committed jobs were done one after another, after the opening: each
-/// committed entry past that is of one of the planners, and made the changes that its own job makes to the schedule after the entries before it.
-/// The stated value is that of the schedule that is left, in units of 10^-18.
+/// A law of reports: the closed history is one of one thread, in which the committed jobs were done one after another, after the opening. Each
+/// committed entry past the opening is of one of the planners, and made the changes that its own job makes to the schedule after the entries before
+/// it. The stated value is that of the schedule that is left, in units of 10^-18.
 pub fn one_after_another()
     ensures one_thread { (pit : Pit) (opening : List Answered) (max_entries retries : ℕ) (scripts : List (List Job)) (desk : State) (runs : List RunState) → IsReport pit opening max_entries retries scripts desk runs
         → IsOfOneThread pit desk.history (value_of pit (held_period (commits_of desk.history))) }

@@ -7,7 +7,9 @@ use std::sync::Wait;
 /// The closed desk, and how each planner's jobs ended, by rising planner.
 #[derive(Drop)]
 pub struct Report<A: Allocator + Copy + Drop> {
+    /// The desk of the closed workspace.
     pub closed: Closed<A>,
+    /// Each planner's run, the first planner's first.
     pub runs: Vec<PlannerRun<A>, A>,
 }
 
@@ -34,6 +36,7 @@ pub enum InTurnError {
     PlannerCount,
     /// A planner got no place at the board.
     NoPlace,
+    /// A growth was refused.
     NoMemory,
     /// The planner's turn has ended, and the workspace was not closed by the logs.
     NotClosed { planner: u32, cause: CloseError },

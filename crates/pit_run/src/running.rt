@@ -15,8 +15,8 @@ use std::alloc::Allocator;
 use std::sync::Wait;
 use std::thread::Threads;
 
-/// Does script k in a thread of its own, as planner k, and closes the workspace. The lists of logs and of runs get their room before the first
-/// thread is started. Where a planner's thread can't be started, the planner is finished here.
+/// Does each script in a thread of its own, the first as planner 1, the second as planner 2, and so on; then closes the workspace. The lists of logs
+/// and of runs get their room before the first thread is started. Where a planner's thread can't be started, the planner is finished here.
 pub fn run<
     S: Session + Send + Sync,
     R: Wait + Drop + Send + Sync,

@@ -59,7 +59,7 @@ impl<'s, S: Session, O: Wait + Drop, A: Allocator + Copy + Drop, R, G> Shared<'s
         }
     }
 
-    /// The script of the planner whose number is one more.
+    /// The script of planner `k + 1`.
     pub(crate) fn script(&self, k: usize) -> &'s Script<A>
         requires { k < length self.now.scripts }
         ensures pit { result.now.pit ≡ S.instance }

@@ -110,7 +110,7 @@ fn start<
     match started {
         Ok(handle) => Ok(handle),
         Err(error) => {
-            // What comes back is the closure, not the seat: called here, it finds its own number and hands in an empty log.
+            // The closure comes back, and not the seat. Called here, it finds its own number and hands in an empty log.
             shared.refused.store(number as u64, Ordering::SeqCst);
             Err((error.value)())
         }

@@ -8,8 +8,11 @@ const RATE: u32 = 100_000;
 /// How many blocks, periods and resources a pit has.
 #[derive(Clone, Copy)]
 pub struct Size {
+    /// The number of blocks.
     pub blocks: u32,
+    /// The number of periods.
     pub periods: u32,
+    /// The number of resources.
     pub resources: u32,
 }
 

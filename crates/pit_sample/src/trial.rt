@@ -1,6 +1,6 @@
 //! Runs of which each request for memory is refused in turn.
+use crate::refusing::Refusing;
 use linked_list_allocator::LocalHeap;
-use pit_refuse::Refusing;
 use std::alloc::Global;
 
 /// An allocator that refuses one request, over a heap of its own.
@@ -14,7 +14,7 @@ const BYTES: usize = 4_194_304;
 pub enum Ending {
     /// As it has to.
     Whole,
-    /// It answered want of memory, and wrote nothing.
+    /// It answered that it is out of memory, and wrote nothing.
     NoMemory,
     /// Neither, and why.
     Wrong(&'static str),
@@ -26,7 +26,7 @@ pub trait Trial {
     fn ending(&self, heap: Heap<'_>, plain: Global) -> Ending;
 }
 
-/// Runs, and runs again where want of memory was answered, which is exactly where the allocator has refused.
+/// Runs, and runs again where it was out of memory, which is exactly where the allocator has refused.
 fn run_twice<T: Trial>(heap: Heap<'_>, plain: Global, trial: &T) -> Result<(), &'static str> {
     let before = heap.count();
     let first = trial.ending(heap, plain);

@@ -1,3 +1,4 @@
+pub mod Between
 pub mod ByHeight
 pub mod CallerLemmas
 pub mod Drafts

@@ -1,4 +1,4 @@
--- No line of a script is judged to want memory.
+-- No line of a script is judged to be out of memory.
 use Rattle.std.proofs.Common.{◌≡◌, ◌≢◌, ℕ, nat_le, Bool, true, false, cond, is_some, length, List, [], ◌∷◌, Result, Ok, Err, Option, Some, None, ap, inl, inr}
 use Rattle.pit_num.specs.Decimal.{whole_of, micro_of}
 use Rattle.pit_num.specs.declared.parse.NumError.{NumError}

@@ -3,6 +3,7 @@ pub mod Numbers
 pub mod Benches
 pub mod Lines
 pub mod Jobs
+pub mod Between
 pub mod Ranges
 pub mod Scripts
 pub mod Inside

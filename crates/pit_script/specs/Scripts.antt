@@ -16,11 +16,11 @@ pub record ScriptState : Type 0 where
 abbrev pub StandsForJobs : Pit → List ℕ → List Job → Type 0
 StandsForJobs pit text jobs = (facts : List ScriptFact) × StandsWhole (script_line pit) script_end (cut_of text) facts × (jobs ≡ jobs_of facts)
 
--- Memory is wanted at a line: neither it nor a line before it has a fault. Or it is wanted at the end of a text that has no line.
+-- Memory runs out at a line: neither it nor a line before it has a fault. Or it runs out at the end of a text that has no line.
 abbrev pub WantsMemoryAt : Pit → List ℕ → ℕ → Type 0
 WantsMemoryAt pit text line = StopsAt (script_line pit) (cut_of text) line ⊎ ((cut_of text ≡ []) × (line ≡ end_line text))
 
--- the first fault of the text, or want of memory
+-- the first fault of the text, or out of memory
 abbrev pub IsScriptError : Pit → List ℕ → ScriptError → Type 0
 IsScriptError pit text error =
     ((error.cause ≡ NoMemory) × WantsMemoryAt pit text error.line)

@@ -10,14 +10,19 @@ pub enum ScriptCause {
     /// No line begins with this word.
     #[error("unknown word")]
     UnknownWord,
+    /// The line has fewer fields behind its word than that takes, or more.
     #[error("field count")]
     FieldCount,
+    /// A field isn't the number that stands at its place.
     #[error("{0}")]
     BadNumber(NumError),
+    /// A block is not below the number of blocks.
     #[error("block out of range")]
     BlockRange,
+    /// A resource is not below the number of resources.
     #[error("resource out of range")]
     ResourceRange,
+    /// A period is not below the number of periods.
     #[error("period out of range")]
     PeriodRange,
     /// A `begin` inside a job, or another line outside one.
@@ -32,16 +37,18 @@ pub enum ScriptCause {
     /// The text ends inside a job.
     #[error("job not ended")]
     Unended,
+    /// A growth was refused.
     #[error("no memory")]
     NoMemory,
 }
 
-/// The first faulty line of a script, counted from 1, and what is wrong with it. Where memory ran out, a line up to which nothing is wrong, or else
-/// the end of a text that has no line.
+/// The first faulty line of a script, counted from 1, and what is wrong with it. Where memory ran out: a line up to which nothing is wrong, or the
+/// end of a text that has no line.
 #[derive(Clone, Copy, Debug, PartialEq, Eq, Error)]
 #[error("line {line}: {cause}")]
 pub struct ScriptError {
     /// At the end of a text: the line of `EOF`, or else one past the last line.
     pub line: u64,
+    /// What is wrong there, or that memory ran out.
     pub cause: ScriptCause,
 }

@@ -1,13 +1,22 @@
-//! A law of the definitions, as the contract of a function that does nothing.
-ghost use Rattle.std.specs.Prelude.{ℕ, List};
+//! Laws of the definitions, each as the contract of a function that does nothing.
+ghost use Rattle.std.specs.Prelude.{◌≡◌, ℕ, List};
 ghost use Rattle.pit_model.specs.Pit.{Pit};
 ghost use Rattle.pit_text.specs.Cutting.{Cut};
-ghost use Rattle.pit_text.specs.Stands.{FailsWhole};
-ghost use Rattle.pit_script.specs.Jobs.{script_line, script_end};
+ghost use Rattle.pit_text.specs.Stands.{FailsWhole, StandsWhole};
+ghost use Rattle.pit_script.specs.Between.{lines_of_jobs};
+ghost use Rattle.pit_script.specs.Jobs.{Job, jobs_of, script_line, script_end};
+ghost use Rattle.pit_script.specs.declared.fact.ScriptFact.{ScriptFact};
 
 use crate::error::ScriptCause;
 
-/// A law of scripts: want of memory is no fault of a text, so where it is answered, it is told apart from each fault.
+/// A law of scripts: to be out of memory is no fault of a text. So that answer is told apart from each fault.
 pub fn no_fault_wants_memory()
     ensures { (pit : Pit) (lines : List Cut) (end place : ℕ) → FailsWhole (script_line pit) script_end lines end place ScriptCause.NoMemory → ⊥ }
+{}
+
+/// A law of scripts: a job is what stands between its `begin` and its end. What the lines of a script say is what its jobs come to written out, one
+/// after another; and jobs that are written out so are read as these jobs.
+pub fn jobs_stand_between()
+    ensures between { (pit : Pit) (lines : List Cut) (facts : List ScriptFact) → StandsWhole (script_line pit) script_end lines facts → facts ≡ lines_of_jobs (jobs_of facts) }
+    ensures written { (jobs : List Job) → jobs_of (lines_of_jobs jobs) ≡ jobs }
 {}

@@ -1,8 +1,8 @@
 //! Scripts: the texts that say what one planner does, job after job.
 //!
-//! A script is cut into lines and fields as every text is. It stands for its jobs, each a list of steps and how the job ends, or has its
-//! first fault; the parser answers exactly that, or want of memory, where the lines so far have no fault. A script keeps the pit that it is for, and
-//! the pit's benches, so each of its jobs is in the ranges of that pit.
+//! A script is cut into lines and fields as every text is. It stands for its jobs, each a list of steps and how the job ends, or has its first fault;
+//! the parser answers exactly that; or that it is out of memory, where the lines so far have no fault. A script keeps the pit that it is for, and the
+//! pit's benches, so each of its jobs is in the ranges of that pit.
 #![tactic(auto)]
 
 mod benches;
@@ -21,4 +21,4 @@ pub use error::{ScriptCause, ScriptError};
 pub use fact::ScriptFact;
 pub use script::Script;
 pub use step::{JOBS_MAX, JobEnd, SHIFT_MAX, Step};
-pub use word::Word;
+pub use word::{Word, word_of};

@@ -48,7 +48,8 @@ impl<A: Allocator + Drop> Model for Script<A> {
 
 impl<A: Allocator + Copy + Drop> Script<A> {
     /// Reads a script over a pit, of which the script keeps a share, with benches of its own. Memory is taken for these, and for its steps and its
-    /// jobs. Want of it is answered only of a line that has no fault, as those before it have none, or of the end of a text that has no line.
+    /// jobs. That it is out of memory is answered only of a line that has no fault, where none before it has one; or of the end of a text that has no
+    /// line.
     pub fn parse(alloc: A, text: &[u8], pit: &Instance<A>) -> Result<Script<A>, ScriptError>
         ensures pit { IfOk result (λ script. script.pit ≡ pit.now) }
         ensures result { MatchResult result (λ script. StandsForJobs pit.now text.now script.jobs) (IsScriptError pit.now text.now) }
@@ -57,7 +58,7 @@ impl<A: Allocator + Copy + Drop> Script<A> {
     }
 
     /// Reads a script over benches, of which the script keeps a share: so one pit's serve many scripts. Memory is taken for its steps and its jobs
-    /// alone; want of it is answered as `parse` answers it.
+    /// alone; that it is out of memory is answered as by `parse`.
     pub fn parse_on(alloc: A, text: &[u8], benches: &Benches<A>) -> Result<Script<A>, ScriptError>
         ensures pit { IfOk result (λ script. script.pit ≡ benches.now) }
         ensures result { MatchResult result (λ script. StandsForJobs benches.now text.now script.jobs) (IsScriptError benches.now text.now) }
@@ -182,7 +183,7 @@ fn first_fault<A: Allocator + Copy + Drop>(text: &[u8], pit: &Instance<A>) -> Sc
     }
 }
 
-/// What is answered of a first line: what is wrong with it, or else want of memory.
+/// What is answered of a first line: what is wrong with it, or else that it is out of memory.
 fn first_cause<A: Allocator + Copy + Drop>(fields: Fields<'_>, pit: &Instance<A>) -> ScriptCause
     ensures { IsCauseOf ScriptCause.NoMemory (fact_in pit.now no_job (fields_left fields.entry)) result }
 {

@@ -42,6 +42,8 @@ pub enum Step {
 /// How a job ends.
 #[derive(Clone, Copy, Debug, PartialEq, Eq)]
 pub enum JobEnd {
+    /// The transaction of the job commits.
     Commit,
+    /// The job gives up: its transaction is withdrawn.
     Abort,
 }

@@ -7,14 +7,23 @@ use pit_text::{beside, is_ascii};
 /// The word that a line of a script begins with.
 #[derive(Clone, Copy, Debug, PartialEq, Eq)]
 pub enum Word {
+    /// `begin`: a job begins.
     Begin,
+    /// `read B`: a block is read.
     Read,
+    /// `put B T`: a block gets a period.
     Put,
+    /// `clear B`: a block loses its period.
     Clear,
+    /// `shift B D`: a block goes so many periods later, or earlier where D is below 0.
     Shift,
+    /// `bench Z T`: each block at a height gets a period.
     Bench,
+    /// `revise R T V`: the upper limit of a resource in a period becomes V, or none where V is infinite.
     Revise,
+    /// `commit`: the job ends, and commits.
     Commit,
+    /// `abort`: the job ends, and gives up.
     Abort,
 }
 
@@ -44,8 +53,9 @@ pub(crate) fn word_in(field: &[u8]) -> Result<Word, ScriptCause>
     Ok(word)
 }
 
+/// The word that a line begins with whose first field this is. A byte above 127 stands in no word.
 #[tactic(auto, unfolding(crate::specs::Words::word_of))]
-fn word_of(field: &[u8]) -> Option<Word>
+pub fn word_of(field: &[u8]) -> Option<Word>
     ensures { result ≡ word_of field.now }
 {
     beside(WORDS, field)

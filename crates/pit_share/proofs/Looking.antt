@@ -123,7 +123,7 @@ with_read-unknown sets b period unknown = by (at_key nat_eq sets.writes b) (at_k
     by None (Some v) is none = absurd (cc (none))
     by None None is none = rw is refl
 
--- in range only want of memory is left
+-- in range the only refusal that is left is out of memory
 pub refusal-none : (sets : Sets) (b : ℕ) (period : Option ℕ) → b < sets.blocks → IfSome period (λ t. t < sets.periods) → refusal_of sets b period ≡ None
 refusal-none sets b None below within =
     let in_range : nat_le sets.blocks b ≡ false = grind (arith, below) in

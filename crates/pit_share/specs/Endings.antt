@@ -10,8 +10,8 @@ use Rattle.pit_desk.specs.declared.reply.EntryReply.TheVariants.{Refused}
 use Rattle.pit_desk.specs.declared.reply.Refusal.TheVariants.{Misread, Ahead}
 use Rattle.pit_share.specs.Planners.{PlannerState}
 
--- The reply is the one that is due after some commits; these, and then the commit that the call makes, if it makes one, begin what the planner
--- has seen afterwards. No read is ever found to be wrong, and the start is found to be ahead only where the planner had seen more commits.
+-- The reply is the one that is due after some commits. These, and then the commit that the call makes, if it makes one, are a prefix of what the
+-- planner has seen afterwards. No read is ever found to be wrong, and the start is found to be ahead only where the planner had seen more commits.
 pub record IsAnswered (pit : Pit) (call : Call) (reply : EntryReply) (old seen : List Commit) : Type 0 where
   pub before : List Commit
   pub due : IsReply pit before call reply

@@ -11,7 +11,7 @@ pub record IsNoted (old : TransactionState) (block : ℕ) (period : Option ℕ) 
   pub period_is : period ≡ held_period (take old.work.start new.planner.seen) block
   pub work : new.work ≡ record old.work { reads = old.work.reads ++ (block, period) ∷ [] }
 
--- a block in range is noted; or nothing changed; or, of what the planner has then seen, its last commit is past the start; or memory was wanted
+-- a block in range is noted; or nothing changed; or, of what the planner has then seen, its last commit is past the start; or memory ran out
 abbrev pub IsLookedUp : TransactionState → ℕ → Result (Option ℕ) ReadStop → TransactionState → Type 0
 IsLookedUp old b (Ok period) new = IsNoted old b period new
 IsLookedUp old b (Err stop.NoBlock) new = ⊥

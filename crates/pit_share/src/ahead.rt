@@ -4,16 +4,16 @@ ghost use Rattle.std.specs.Prelude.{◌<◌, All};
 use pit_model::Instance;
 use std::alloc::Allocator;
 
-/// The most writes that are looked at. A commit of more holds the lock for long in any case, and what the pit has of all its blocks wouldn't stay in
-/// the caches.
+/// The greatest number of writes that are looked at. A commit of more holds the lock for long in any case, and what the pit has of all its blocks
+/// wouldn't stay in the caches.
 const AHEAD_MAX: usize = 32;
 
-/// The most predecessors, and the most successors, of a block that are looked at. A block may have millions, which would empty the caches.
+/// The greatest number of predecessors, and of successors, of a block that are looked at. A block may have millions, which would empty the caches.
 const NEIGHBOURS_MAX: usize = 64;
 
-/// Reads what the pit has of the first written blocks. Under the lock these are read again, and by then they are in the processor's caches: who has
-/// the lock doesn't wait for main memory, so that the other planners wait less. The answer depends on all that was read, so that the compiler can't
-/// leave the look out.
+/// Reads what the pit has of the first written blocks. Under the lock these are read again, and by then they are in the processor's caches. So the
+/// holder of the lock doesn't wait for main memory, and the other planners wait less. The answer depends on all that was read, so that the compiler
+/// can't leave the look out.
 pub(crate) fn look_ahead<A: Allocator + Copy + Drop>(
     pit: &Instance<A>,
     writes: &[(u32, Option<u32>)],

@@ -5,7 +5,7 @@ use pit_desk::{Desk, Entry};
 use std::alloc::Allocator;
 use std::marker::Model;
 
-/// The desk of a workspace that was closed, and the items of its logs. They are freed with it, or by `into_desk`: that takes long, and a program that
+/// The desk of a workspace that was closed, and the items of its logs. They are freed with it, or by `into_desk`. That takes long, and a program that
 /// ends may leave it out. Contracts see it as they see the desk.
 #[derive(Drop)]
 pub struct Closed<A: Allocator + Copy + Drop> {

@@ -7,6 +7,7 @@ pub enum OpenError {
     PlannerCount,
     /// A planner got no place at the board.
     NoPlace,
+    /// A growth was refused.
     NoMemory,
 }
 

@@ -38,7 +38,7 @@ impl<'a, S: Session, R: Wait + Drop, A: Allocator + Copy + Drop> Planner<'a, S, 
         Planner { floor, account }
     }
 
-    /// Its number, counted from 1. What it has seen leaves a good schedule, as does each beginning of that.
+    /// Its number, counted from 1. What it has seen leaves a good schedule, as does each prefix of that.
     pub fn number(&self) -> u32
         ensures number { result ≡ self.now.number }
         ensures lawful { AreLawful S.instance self.now.seen }
@@ -48,7 +48,7 @@ impl<'a, S: Session, R: Wait + Drop, A: Allocator + Copy + Drop> Planner<'a, S, 
     }
 
     /// Begins a transaction for a job, after all commits that the planner sees. Looks at the board for them; where it isn't let in, the transaction
-    /// begins after those that it had seen. Waits for nobody. On want of memory the planner is handed back.
+    /// begins after those that it had seen. Waits for nobody. Where it is out of memory, the planner is handed back.
     pub fn begin(
         self,
         job: u32,

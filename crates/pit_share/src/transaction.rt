@@ -95,8 +95,8 @@ impl<'a, S: Session, R: Wait + Drop, A: Allocator + Copy + Drop> Transaction<'a,
         self.work.revises()
     }
 
-    /// The period of a block: the own write, else what was noted before, else what it held at the start, which is then noted. Any of these may
-    /// be none. The board is looked at for the last alone; waits for nobody. After a refusal each ending is open.
+    /// The period of a block: the own write, else what was noted before, else what it held at the start, which is then noted. Any of these may be
+    /// none. The board is looked at for the last alone. Waits for nobody. After a refusal the transaction may still end in any way.
     pub fn read(&mut self, block: u32) -> Result<Option<u32>, ReadStop>
         ensures sees { SeesOn self.old.planner self.new.planner }
         ensures out { S.instance.blocks ≤ block → (result ≡ Err ReadStop.NoBlock) × (self.new ≡ self.old) }

@@ -26,9 +26,9 @@ pub struct Workspace<S: Session, R: Wait + Drop, A: Allocator + Copy + Drop> {
 }
 
 impl<S: Session, R: Wait + Drop, A: Allocator + Copy + Drop> Workspace<S, R, A> {
-    /// Opens a workspace on a desk, with a seat for each of so many planners, 1 to `PLANNERS_MAX`. The session names the desk's pit, its history
-    /// and its limit of entries, the number of planners, and what is blank. The handle is kept, since who ends the board waits for its readers. On
-    /// a refusal the desk is handed back, and the rest is freed.
+    /// Opens a workspace on a desk, with a seat for each of so many planners, 1 to `PLANNERS_MAX`. The session names the desk's pit, its history and
+    /// its limit of entries, the number of planners, and the blank count and list. The handle is kept, since who ends the board waits for its
+    /// readers. On a refusal the desk is handed back, and the rest is freed.
     pub fn open(
         rt: R,
         alloc: A,

@@ -53,7 +53,7 @@ module _ (at : Option ℕ) (pit : Pit) (text : List ℕ) (entries : List Answere
 pub history-unread : (at : Option ℕ) (pit : Pit) (text : List ℕ) (fault : CliFault) → is_history text ≡ true → IsHistoryFault Schedule text fault → IsShowFault at pit text fault
 history-unread at pit text fault kind is = inl (history-bad Schedule pit text fault kind is)
 
--- of entries that fit, only memory can be wanted
+-- of entries that fit, only memory can run out
 pub fits-wants : (pit : Pit) (entries : List Answered) (fault : CliFault) → EachFits pit entries → IsUnfit Schedule pit entries fault → fault ≡ NoMemory
 fits-wants pit entries (Illegal f place) fits is = absurd (fit-or-unfit pit entries place fits is.1)
 fits-wants pit entries NoMemory fits is = refl

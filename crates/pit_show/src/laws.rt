@@ -26,7 +26,7 @@ pub fn one_front()
     ensures last { (entries : List Answered) (count : ℕ) (before : List Answered) (e : Answered) → IsFront entries count (before ++ e ∷ []) → commits_by e ≡ commit_of e.call ∷ [] }
 {}
 
-/// A law of what is shown: after as many commits as there are it is what is shown where no number is asked for.
+/// A law of what is shown: after as many commits as there are, the same is shown as where no number is asked for.
 pub fn shown_at_all()
     ensures { (pit : Pit) (text answer : List ℕ) (commits : List Commit) → IsStateOf pit text commits
         → IsShown None pit text answer ↔ IsShown (Some (length commits)) pit text answer }
@@ -35,8 +35,8 @@ pub fn shown_at_all()
     one_result();
 }
 
-/// A law of histories: of the text of one whose numbers are in the ranges of their types the comment is shown, on its entries up to the last
-/// commit, and then the solution that all its commits leave. This is shown of each such history whose entries fit the pit.
+/// A law of histories: where the numbers of one are in the ranges of their types, the comment on its entries up to the last commit is shown of its
+/// text, and then the solution that all its commits leave. This is shown of each such history whose entries fit the pit.
 pub fn shown_history()
     ensures is { (pit : Pit) (history : List Answered) (answer : List ℕ) → All IsInRange history → IsShown None pit (history_text history) answer
         → (front : List Answered) × IsFront history (length (commits_of history)) front × (answer ≡ history_comment front ++ left_text pit (commits_of history)) }
@@ -46,8 +46,8 @@ pub fn shown_history()
     one_history();
 }
 
-/// A law of runs: where devices tell their bytes, these say how a run ended. Of a solution that mines no block nothing is written, so that then
-/// they don't show whether memory was wanted.
+/// A law of runs: where devices tell their bytes, these say how a run ended. Of a solution that mines no block nothing is written, and then they
+/// don't show whether memory ran out.
 pub fn one_outcome()
     ensures seen { (at : Option ℕ) (model schedule : Reading) (out : Writing) → IsSome model.before → IsSome schedule.before
         → HasOneOutcome CliFault.NoMemory (want_aside CliFault.NoMemory (show_run at model schedule out)) }

@@ -1,4 +1,4 @@
--- For the crates above: what a text of a schedule determines, which of the two it is, where memory is wanted for it, and the commits of one history
+-- For the crates above: what a text of a schedule determines, which of the two it is, where there is no memory for it, and the commits of one history
 -- behind another.
 pub use Rattle.pit_desk.proofs.Legal.{commits_of-append}
 pub use Rattle.pit_state.proofs.OneState.{state_text, view_text, fit-or-unfit}

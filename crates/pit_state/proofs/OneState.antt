@@ -1,4 +1,4 @@
--- A text of a schedule stands for one list of commits, or has one fault, want of memory aside.
+-- A text of a schedule stands for one list of commits, or has one fault, out of memory aside.
 use Rattle.std.proofs.Common.{◌≡◌, ◌≢◌, ℕ, ◌<◌, Bool, true, false, List, ◌∷◌, length, length-append, get_or, inl, inr, refl, sym, ap, subst, ◌∙◌, arith}
 use Rattle.std.proofs.lemmas.List.{get_or_append_left}
 use Rattle.std.proofs.Math.Seq.{get_or-append_seam}

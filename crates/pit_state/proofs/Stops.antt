@@ -1,4 +1,4 @@
--- Where memory is wanted for what a text stands for.
+-- Where there is no memory for what a text stands for.
 use Rattle.std.proofs.Common.{ℕ, Bool, true, false, List, inr}
 use Rattle.pit_model.specs.Pit.{Pit}
 use Rattle.pit_plan.specs.Schedule.{Commit}

@@ -57,7 +57,7 @@ pub record IsFirstUnfit (pit : Pit) (entries : List Answered) (place : ℕ) : Ty
   pub fits : EachFits pit before
   pub unfit : CallFits pit entry.call → ⊥
 
--- an entry doesn't fit, or memory is wanted
+-- an entry doesn't fit, or memory runs out
 abbrev pub IsUnfit : Input → Pit → List Answered → CliFault → Type 0
 IsUnfit file pit entries (Illegal f place) = (f ≡ file) × IsFirstUnfit pit entries place
 IsUnfit file pit entries NoMemory = Unit {0}
@@ -82,7 +82,7 @@ IsStateFaultBy false = IsSolutionFault
 unfoldable pub IsStateOf : Pit → List ℕ → List Commit → Type 0
 IsStateOf pit text commits = IsStateBy (is_history text) pit text commits
 
--- of the file that is named, a fault of the text, or memory is wanted for what it says
+-- of the file that is named, a fault of the text, or there is no memory for what it says
 unfoldable pub IsStateFault : Input → Pit → List ℕ → CliFault → Type 0
 IsStateFault file pit text fault = IsStateFaultBy (is_history text) file pit text fault
 

@@ -1,4 +1,4 @@
--- For the crates above: a fault that is handed on, what no call does, what devices determine, where memory is wanted behind a text, and numbers below
+-- For the crates above: a fault that is handed on, what no call does, what devices determine, where memory runs out behind a text, and numbers below
 -- one more.
 pub use Rattle.pit_step.proofs.HandedOn.{handed_on, err_handed}
 pub use Rattle.pit_step.proofs.Known.{keeps_itself}

@@ -210,7 +210,7 @@ each-only Kind step only number (item ∷ items) fault (inr p) = each-only Kind 
 
 -- ---- a run
 
--- want of memory aside
+-- out of memory aside
 pub seen_run : {F B : Type 0} (no_memory : F) (run : Step F (Unit {0}) B) → IsDetermined (λ fault. fault ≢ no_memory) run tt → HasOneOutcome no_memory (want_aside no_memory run)
 seen_run no_memory run one = record {
   values = one.values;

@@ -17,7 +17,7 @@ use Rattle.pit_step.proofs.Determined.{IsDetermined, IsDecided, IsShown, IsNever
 
 -- ---- faults
 
--- it isn't want of memory, which no device shows
+-- it isn't out of memory, which no device shows
 abbrev pub IsSeen : CliFault → Type 0
 IsSeen fault = fault ≢ NoMemory
 
@@ -33,7 +33,7 @@ inputs-seen fault due is = never_two (sym (ap fault_status is) ∙ due)
 
 -- ---- the text of an input
 
--- it stands for one value or has one fault, want of memory aside
+-- it stands for one value or has one fault, out of memory aside
 pub record IsOneText {B : Type 0} (Stands : B → Type 0) (IsFault : CliFault → Type 0) : Type 0 where
   pub values : (value other : B) → Stands value → Stands other → value ≡ other
   pub apart : (value : B) (fault : CliFault) → fault ≢ NoMemory → Stands value → IsFault fault → ⊥
@@ -113,7 +113,7 @@ not_too_long source bytes told whole long =
     let same : length bytes ≡ length long.bytes = ap length (same_bytes source.before source.after bytes long.bytes told whole.end whole.taken long.taken) in
     omega (arith, whole.short, long.long)
 
--- ---- the faults of an input, want of memory aside
+-- ---- the faults of an input, out of memory aside
 
 reading_fault : (source : Reading) (file : Input) (fault : CliFault) → fault ≢ NoMemory → IsInputFault source file fault
     → ((fault ≡ CannotRead file) × (source.failed ≡ true)) ⊎ ((fault ≡ TooLong file) × IsTooLong source)

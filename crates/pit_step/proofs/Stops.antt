@@ -1,4 +1,4 @@
--- Where memory is wanted behind a text that stands for a value, and which texts have a fault of their own.
+-- Where memory runs out behind a text that stands for a value, and which texts have a fault of their own.
 use Rattle.std.proofs.Common.{◌≡◌, ◌⊎◌, inl, inr, ℕ, List, Result, MatchResult, sym, refl, subst}
 use Rattle.std.proofs.lemmas.Result.{MatchResult-weaker}
 use Rattle.pit_model.specs.Pit.{Pit}
@@ -32,7 +32,7 @@ pub solution-stop : (pit : Pit) (bytes : List ℕ) (schedule : List (ℕ × ℕ)
 unfolding IsSolutionStop
 solution-stop pit bytes schedule is = inr (is.facts, is.stands)
 
--- ---- where a reader wants memory
+-- ---- where a reader is out of memory
 
 stop_alone : (Stops : Type 0) (Fails : Cause → Type 0) (cause : Cause) → cause ≡ WantsMemory → (Fails WantsMemory → ⊥) → ((cause ≡ WantsMemory) × Stops) ⊎ Fails cause → Stops
 stop_alone Stops Fails cause is never (inl stops) = stops.1
@@ -78,7 +78,7 @@ solution-wants pit bytes error is answered =
           (no_solution_wants pit.blocks pit.periods (cut_of bytes) error.line) answered,
     )
 
--- ---- a value that is made of what a text stands for, or memory is wanted for it
+-- ---- a value that is made of what a text stands for, or there is no memory for it
 
 module _ {A B C : Type 0} (file : Input) (source : Reading) (Stands : A → List ℕ → B → Type 0) (Made : A → List ℕ → C → Type 0) (IsFault : A → List ℕ → CliFault → Type 0) (given : A) where
   made_gives : {X : Type 0} (value_of : X → C) (value : B) (P : X → Type 0) → ((bytes : List ℕ) (x : X) → Stands given bytes value → P x → Made given bytes (value_of x))

@@ -56,14 +56,14 @@ pub record IsTooLong (source : Reading) : Type 0 where
   pub taken : Consumes source.before source.after bytes
   pub sound : source.failed ≡ false
 
--- a fault of reading it; memory is wanted only where bytes have come
+-- a fault of reading it; memory runs out only where bytes have come
 abbrev pub IsInputFault : Reading → Input → CliFault → Type 0
 IsInputFault source file (CannotRead f) = (f ≡ file) × (source.failed ≡ true)
 IsInputFault source file (TooLong f) = (f ≡ file) × IsTooLong source
 IsInputFault source file NoMemory = (source.failed ≡ false) × ((bytes : List ℕ) × (0 < length bytes) × Consumes source.before source.after bytes)
 IsInputFault source file other = ⊥
 
--- a fault of its text, which has this first error, or where memory is wanted for what it says
+-- a fault of its text, which has this first error, or where there is no memory for what it says
 abbrev pub IsTextFault : Input → (TextError → Type 0) → Type 0 → CliFault → Type 0
 IsTextFault file IsBad IsStop (Text f error) = (f ≡ file) × IsBad error
 IsTextFault file IsBad IsStop NoMemory = IsStop

@@ -65,7 +65,7 @@ IsSolutionOf pit bytes = StandsAs (StandsFor (solution_line pit.blocks pit.perio
 abbrev pub IsBadSolution : Pit → List ℕ → TextError → Type 0
 IsBadSolution pit bytes error = FailsFirst (solution_line pit.blocks pit.periods) (cut_of bytes) error.line error.cause
 
--- ---- where memory is wanted for what a text says: at a line, where none so far has a fault, or behind the whole text, which has none
+-- ---- where there is no memory for what a text says: at a line, where none so far has a fault, or behind the whole text, which has none
 
 unfoldable pub IsModelStop : List ℕ → Type 0
 IsModelStop bytes = (place : ℕ) × ModelStops (cut_of bytes) (end_line bytes) place
@@ -104,7 +104,7 @@ IsPlacesFault given bytes = IsTextFault Blocks (IsBadPlaces given bytes) (IsPlac
 abbrev pub IsSolutionFault : Input → Pit → List ℕ → CliFault → Type 0
 IsSolutionFault file pit bytes = IsTextFault file (IsBadSolution pit bytes) (IsSolutionStop pit bytes)
 
--- of a history, the file that is named, which has this first fault, or memory is wanted at a line before which none has one
+-- of a history, the file that is named, which has this first fault, or memory runs out at a line before which none has one
 abbrev pub IsHistoryFault : Input → List ℕ → CliFault → Type 0
 IsHistoryFault file bytes (fault.Lines f error) = (f ≡ file) × HasFirstFault bytes error.line error.cause
 IsHistoryFault file bytes fault.NoMemory = (place : ℕ) × StopsAtLine bytes place

@@ -5,7 +5,8 @@ use Rattle.pit_step.specs.declared.fault.CliFault.TheVariants.{CannotRead, Canno
 use Rattle.pit_step.specs.declared.status.Status.{Status}
 use Rattle.pit_step.specs.declared.status.Status.TheVariants.{Fine, Failed}
 
--- 3: memory, a device, a thread or a place is wanting, or a file is in use; 2: an input, the start or the number of planners is refused
+-- 3: memory runs out, a device fails, a thread or a place can't be had, or a file is in use; 2: an input, the start or the number of planners is
+-- refused
 abbrev pub fault_status : CliFault → ℕ
 fault_status (CannotRead file) = 3
 fault_status CannotWrite = 3

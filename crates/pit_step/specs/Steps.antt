@@ -69,7 +69,8 @@ each {F} {A} {B} step number (item ∷ items) = record {
   IsUntouched = (step number item).IsUntouched × (each step (number + 1) items).IsUntouched;
 }
 
--- For each of a list in turn, numbered from this one on: the first is given what all are given, and each other what the one before it gives.
+-- For each of a list in turn, numbered from this one on: the first item is given what is given to all, and each other item what the one before it
+-- gives.
 abbrev pub through : {F A B : Type 0} → (ℕ → A → Step F B B) → ℕ → List A → Step F B B
 through step number [] = pass_step (λ given. ⊤) (λ given fault. ⊥)
 through step number (item ∷ items) = in_turn (step number item) (through step (number + 1) items)
@@ -78,7 +79,7 @@ through step number (item ∷ items) = in_turn (step number item) (through step 
 abbrev pub IsResultOf : {F A B : Type 0} → Step F A B → A → Result B F → Type 0
 IsResultOf step given result = MatchResult result (step.Gives given) (step.Fails given)
 
--- the step, where its fault isn't want of memory
+-- the step, where its fault isn't out of memory
 abbrev pub want_aside : {F A B : Type 0} → F → Step F A B → Step F A B
 want_aside no_memory step = record {
   Gives = step.Gives;
@@ -86,8 +87,7 @@ want_aside no_memory step = record {
   IsUntouched = step.IsUntouched;
 }
 
--- A run gives a value or has a fault, never both, and never two of either. Want of memory is shown by no device, so it is left out of two
--- faults.
+-- A run gives a value or has a fault, never both, and never two of either. No device shows that memory ran out, so this is left out of two faults.
 pub record HasOneOutcome {F B : Type 0} (no_memory : F) (run : Step F (Unit {0}) B) : Type 0 where
   pub values : (value other : B) → run.Gives tt value → run.Gives tt other → value ≡ other
   pub apart : (value : B) (fault : F) → run.Gives tt value → run.Fails tt fault → ⊥

@@ -10,7 +10,7 @@ use thiserror::Error;
 /// Why an engine gives no answer. The text of a fault is the line that the program prints of it, but for `Stopped`, which has none.
 #[derive(Clone, Copy, Debug, PartialEq, Eq, Error)]
 pub enum CliFault {
-    /// The first fault of the text of an input other than a script or a history, which is never want of memory.
+    /// The first fault of the text of an input other than a script or a history. To be out of memory is none.
     #[error("pit: {file} {error}")]
     Text { file: Input, error: TextError },
     /// The first fault of a script, by its number, counted from 1.
@@ -53,6 +53,7 @@ pub enum CliFault {
     /// A file that can't be opened, or a device that failed.
     #[error("pit: cannot read {0}")]
     CannotRead(Input),
+    /// An output's device failed, or the history's file couldn't be made ready or replaced.
     #[error("pit: cannot write")]
     CannotWrite,
     /// Another program holds the lock of the history's file.
@@ -61,6 +62,7 @@ pub enum CliFault {
     /// The file of the history is one that is read as another input.
     #[error("pit: history is an input")]
     HistoryIsInput,
+    /// A growth was refused.
     #[error("pit: no memory")]
     NoMemory,
     /// A planner can't be given a place to read the schedule from.
@@ -77,8 +79,8 @@ pub enum CliFault {
 impl CliFault {
     ghost use Rattle.pit_step.specs.Statuses.{fault_status};
 
-    /// The status that the program ends with: 2 where an input, the start or the number of planners is refused; 3 where memory, a device, a thread or a
-    /// place is wanting, where the history's file is in use, where a planner stopped, or where the logs don't close the workspace.
+    /// The status that the program ends with: 2 where an input, the start or the number of planners is refused; 3 where memory runs out, a device
+    /// fails, a thread or a place can't be had, the history's file is in use, a planner stopped, or the logs don't close the workspace.
     pub fn status(&self) -> u8
         ensures is { result ≡ fault_status self.now }
         ensures range { (2 ≤ result) × (result ≤ 3) }

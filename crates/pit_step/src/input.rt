@@ -3,13 +3,19 @@ use std::fmt;
 /// An input of the program, by the word that faults name it with.
 #[derive(Clone, Copy, Debug, PartialEq, Eq)]
 pub enum Input {
+    /// The model: header, profits, coefficients and limits.
     Model,
+    /// The predecessors of its blocks.
     Precedence,
+    /// The places of its blocks.
     Blocks,
+    /// What a plan or a merge begins with: a solution or a history.
     Start,
+    /// Of `value` and `check`: blocks with their periods.
     Solution,
     /// By its number, counted from 1.
     Script(u64),
+    /// Of `replay` and `log`; of `plan` and `merge` the one that is carried on.
     History,
     /// Of a view: a solution or a history.
     Schedule,

@@ -1,9 +1,9 @@
 //! What the engines of `pit` are made of: steps, from the bytes of the inputs to the bytes of the answer.
 //!
-//! An engine is a run of steps: it reads its inputs whole from devices, in order, and parses them. What it writes is the text of what its
-//! inputs stand for, or nothing where an input has a fault or memory is wanting; the fault is the first one. `bytes_of` reads an input, and
-//! `builder_of`, `ordered`, `placed`, `built`, `schedule_of` and `history_of` parse one each; `read_pit` and `read_ordered_pit` do both, and
-//! `write_answer` writes. A fault is a `CliFault`, with a variant for each line that the program prints.
+//! An engine is a run of steps: it reads its inputs whole from devices, in order, and parses them. What it writes is the text of what its inputs
+//! stand for, or nothing where an input has a fault or memory runs out; the fault is the first one. `bytes_of` reads an input, and `builder_of`,
+//! `ordered`, `placed`, `built`, `schedule_of` and `history_of` parse one each; `read_pit` and `read_ordered_pit` do both, and `write_answer` writes.
+//! A fault is a `CliFault`, with a variant for each line that the program prints.
 #![tactic(auto)]
 
 mod answer;

@@ -4,7 +4,7 @@ ghost use Rattle.std.specs.Prelude.{◌≡◌, [], IsOk, IfOk};
 use pit_num::{NoMemory, Out, WriteFault};
 use std::alloc::Allocator;
 
-/// A text to which lines are written. Only want of memory can be their fault.
+/// A text to which lines are written. This fails only where it is out of memory.
 pub type Text<A> = Out<Vec<u8, A>>;
 
 /// A text in which nothing is yet. Takes no memory.

@@ -13,7 +13,7 @@ use pit_lines::laws::{one_history, one_result};
 use pit_step::CliFault;
 
 /// A law of rows, where each block that has a period has one of the pit's: the values of all periods add up to the value of the schedule, which is
-/// what the last row has come to; and the numbers of their blocks add up to the number of those that are mined.
+/// the running total in the last row. The numbers of their blocks add up to the number of blocks that are mined.
 pub fn rows_add_up()
     ensures values { (pit : Pit) (schedule : ℕ → Option ℕ) → ((b : ℕ) → b < pit.blocks → IfSome (schedule b) (λ t. t < pit.periods))
         → total (value_in pit schedule) pit.periods ≡ value_of pit schedule }

@@ -58,7 +58,7 @@ fn earned<A: Allocator + Copy + Drop>(pit: &Instance<A>, b: u32, t: u32) -> i128
     i128::from(pit.profit(b)) * i128::from(pit.factor(t))
 }
 
-/// The same with one more block, which earns so much.
+/// The same with one more block, which earns `earned`.
 fn with_block(mined: Mined, earned: i128) -> Mined
     requires blocks { mined.blocks + 1 < 2 ^ 32 }
     requires value { FitsSigned w128 (mined.value +ℤ earned) }

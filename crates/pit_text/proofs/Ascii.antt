@@ -13,7 +13,7 @@ use Rattle.pit_text.specs.Numbers.{is_ascii, whole_field, decimal_field}
 both : (a b : Bool) → a ≡ true → b ≡ true → (a && b) ≡ true
 both a b p q = ap (λ (c : Bool). c && b) p ∙ q
 
-each : (a b : Bool) → (a && b) ≡ true → (a ≡ true) × (b ≡ true)
+pub each : (a b : Bool) → (a && b) ≡ true → (a ≡ true) × (b ≡ true)
 each true b h = (refl, h)
 each false b h = absurd (false≢true h)
 
@@ -78,7 +78,7 @@ decimal_ascii text h =
     sign_ascii text (exponent_ascii text (has_exponent text) refl front parts.1)
 
 -- what is read passed the first test
-passed : {X : Type 0} (good : Bool) (e : NumError) (r : Result X NumError) (x : X) → cond (not good) (Err e) r ≡ Ok x → good ≡ true
+pub passed : {X : Type 0} (good : Bool) (e : NumError) (r : Result X NumError) (x : X) → cond (not good) (Err e) r ≡ Ok x → good ≡ true
 passed true e r x h = refl
 passed false e r x h = cc
 

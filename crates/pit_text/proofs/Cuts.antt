@@ -77,7 +77,7 @@ line_alone text h some =
 
 -- ---- fields
 
-gap_in_front : (b : ℕ) (line : List ℕ) → is_gap b ≡ true → fields_of (b ∷ line) ≡ fields_of line
+pub gap_in_front : (b : ℕ) (line : List ℕ) → is_gap b ≡ true → fields_of (b ∷ line) ≡ fields_of line
 unfolding fields_of
 gap_in_front b line e = simp e
 

@@ -22,7 +22,7 @@ line_stands r fact pit given is same none = ap (λ q. q >>= (λ x. fact_unless (
 pub line_bad : {F G : Type 0} (r : Result F Cause) (cause : Cause) (f : F → Result G Cause) → r ≡ Err cause → (r >>= f) ≡ Err cause
 line_bad r cause f is = ap (λ q. q >>= f) is
 
--- what is answered where the pit refuses a fact, or wants memory for it
+-- what is answered where the pit refuses a fact, or has no memory for it
 due_cause : {F : Type 0} (o : Option BuildError) (r : Result (Unit {0}) BuildError) (e : BuildError) (fact : F) → r ≡ Err e → IsRefusedBy NoMemory r o → IsCauseOf WantsMemory (fact_unless o fact) (cause_of e)
 due_cause None (Ok x) e fact is h = cc
 due_cause None (Err d) e fact is h = let same : e ≡ NoMemory = cc in inl (ap cause_of same, refl)

@@ -2,6 +2,8 @@ pub mod Cuts
 pub mod Feeds
 pub mod GapMasks
 pub mod FirstLine
+pub mod Plain
+pub mod PlainFacts
 pub mod States
 pub mod OneResult
 pub mod Ascii

@@ -13,6 +13,7 @@ use Rattle.pit_model.specs.declared.error.BuildError.TheVariants.{Repeated}
 use Rattle.pit_text.specs.Cutting.{Cut}
 use Rattle.pit_text.specs.Numbers.{whole_field, decimal_field}
 use Rattle.pit_text.specs.Stands.{◌>>=◌, StatesAfter}
+use Rattle.pit_text.specs.Inside.Plain.{ArePair}
 use Rattle.pit_text.specs.Solution.{pair_in_range, whole_or_none, mined_pair, scheduled_pair, period_in, new_to, solution_line, pair_of, schedule_of}
 
 -- ---- in range
@@ -161,3 +162,15 @@ schedule-from_rising blocks periods pairs rises = record {
 pub schedule_of-is_schedule : (blocks periods : ℕ) (period : ℕ → Option ℕ) → ((b t : ℕ) → period b ≡ Some t → t < periods) → IsSchedule blocks periods (schedule_of blocks period)
 unfolding schedule_of
 schedule_of-is_schedule blocks periods period in_time = schedule-from_rising blocks periods (filter_map (pair_of period) (range_with_len 0 blocks)) (rises_on 0 blocks blocks periods period (omega arith) in_time)
+
+-- ---- a plain line
+
+-- two fields schedule what their numbers say, if that is in range
+pub pair-schedules : (blocks periods : ℕ) (fields : List (List ℕ)) (b t : ℕ) (r : Result (ℕ × ℕ) Cause) → ArePair fields b t → r ≡ pair_in_range blocks periods b t → (r >>= (λ pair. Ok (Some pair))) ≡ scheduled_pair blocks periods fields
+unfolding scheduled_pair
+pair-schedules blocks periods fields b t r are is =
+    let said : ℕ → ℕ → Result (Option (ℕ × ℕ)) Cause = λ block period. pair_in_range blocks periods block period >>= (λ pair. Ok (Some pair)) in
+    ap (λ (p : Result (ℕ × ℕ) Cause). p >>= (λ pair. Ok (Some pair))) is
+    ∙ sym (ap (λ (n : Result ℕ Cause). n >>= (λ period. said b period)) are.other)
+    ∙ sym (ap (λ (n : Result ℕ Cause). n >>= (λ block. whole_field are.second >>= (λ period. said block period))) are.one)
+    ∙ sym (ap (λ (fs : List (List ℕ)). scheduled_pair blocks periods fs) are.two)

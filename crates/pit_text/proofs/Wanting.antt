@@ -1,4 +1,4 @@
--- No line is judged to want memory.
+-- No line is judged to be out of memory.
 use Rattle.std.proofs.Common.{◌≡◌, ◌≢◌, ℕ, ℤ, pos, negsuc, ◌==◌, ◌^◌, nat_le, ◌&&◌, Bool, true, false, cond, is_some, List, [], ◌∷◌, length, codes, slice_index_or, option_map, Result, Ok, Err, Option, Some, None, ap, refl, inl, inr}
 use Rattle.std.specs.List.{list_any}
 use Rattle.std.specs.Str.{bytes_eq}

@@ -5,7 +5,7 @@ use Rattle.pit_model.specs.declared.error.BuildError.TheVariants.{BlockRange, Re
 use Rattle.pit_text.specs.declared.error.Cause.{Cause}
 use Rattle.pit_text.specs.declared.error.Cause.TheVariants.{Build, NoMemory as WantsMemory}
 
--- the cause of a refusal; want of memory has one of its own
+-- the cause of a refusal; out of memory has one of its own
 abbrev pub cause_of : BuildError → Cause
 cause_of BlockRange = Build BlockRange
 cause_of ResourceRange = Build ResourceRange

@@ -2,6 +2,8 @@
 pub mod Draft
 pub mod Unlisted
 pub mod Cutting
+pub mod Plain
+pub mod PlainFacts
 pub mod Solution
 pub mod SolutionText
 pub mod Stands

@@ -141,10 +141,10 @@ model_line earlier (first ∷ values) = line_by earlier (section_of first) first
 unfoldable pub model_end : List Fact → Option Cause
 model_end facts = option_map MissingHeader (missing_key facts)
 
--- ---- want of memory
+-- ---- out of memory
 
--- Memory is wanted where the header is whole and no line so far has a fault: at the first section line or a line behind it, or at the end of a
--- text that stands for facts.
+-- Memory runs out where the header is whole and no line so far has a fault: at the first section line or a line behind it, or at the end of a text
+-- that stands for facts.
 abbrev pub ModelStops : List Cut → ℕ → ℕ → Type 0
 ModelStops lines end place =
     ((facts : List Fact) × StandsTo model_line lines place facts × (sections facts ≢ []))

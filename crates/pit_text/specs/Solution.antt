@@ -64,8 +64,8 @@ pair_of period block = option_map (λ t. (block, t)) (period block)
 unfoldable pub schedule_of : ℕ → (ℕ → Option ℕ) → List (ℕ × ℕ)
 schedule_of blocks period = filter_map (pair_of period) (range_with_len 0 blocks)
 
--- Memory is wanted at a line, where neither it nor a line before it has a fault, or at the end, where all lines stand for facts; and one of
--- these lines schedules a block.
+-- Memory runs out at a line, where neither it nor a line before it has a fault, or at the end, where all lines stand for facts; and one of these
+-- lines schedules a block.
 abbrev pub SolutionStops : ℕ → ℕ → List Cut → ℕ → ℕ → Type 0
 SolutionStops blocks periods lines end place =
     (facts : List (Option (ℕ × ℕ)))

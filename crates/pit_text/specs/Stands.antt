@@ -11,7 +11,7 @@ abbrev pub ◌>>=◌ : {A B E : Type 0} → Result A E → (A → Result B E) �
 abbrev pub Judge : Type 0 → Type 0 → Type 0
 Judge F C = List F → List (List ℕ) → Result F C
 
--- how the end of a text is judged: by the facts of all lines; what is wanting, if anything
+-- how the end of a text is judged: by the facts of all lines; what is missing, if anything
 abbrev pub EndTest : Type 0 → Type 0 → Type 0
 EndTest F C = List F → Option C
 
@@ -46,16 +46,16 @@ pub record StandsTo {F C : Type 0} (judge : Judge F C) (lines : List Cut) (place
   pub stands : StandsFor judge (before ++ line ∷ []) facts
   pub number : place ≡ line.number
 
--- Memory is wanted at a line: neither it nor a line before it has a fault.
+-- Memory runs out at a line: neither it nor a line before it has a fault.
 abbrev pub StopsAt : {F C : Type 0} → Judge F C → List Cut → ℕ → Type 0
 StopsAt {F} judge lines place = (facts : List F) × StandsTo judge lines place facts
 
--- The lines stand for the facts, and nothing is wanting at the end.
+-- The lines stand for the facts, and nothing is missing at the end.
 pub record StandsWhole {F C : Type 0} (judge : Judge F C) (end_test : EndTest F C) (lines : List Cut) (facts : List F) : Type 0 where
   pub stands : StandsFor judge lines facts
   pub whole : end_test facts ≡ None
 
--- The fault is that of the end: each line states its fact, and something is wanting.
+-- The fault is that of the end: each line states its fact, and something is missing.
 pub record FailsAtEnd {F C : Type 0} (judge : Judge F C) (end_test : EndTest F C) (lines : List Cut) (end : ℕ) (place : ℕ) (cause : C) : Type 0 where
   pub facts : List F
   pub stands : StandsFor judge lines facts

@@ -4,6 +4,8 @@ mod feed;
 mod fields;
 mod gaps;
 mod lines;
+mod plain;
 
 pub use fields::Fields;
 pub use lines::{Line, Lines};
+pub(crate) use plain::number_before;

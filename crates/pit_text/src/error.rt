@@ -18,18 +18,22 @@ pub enum Cause {
     /// The key came before, or hasn't exactly one value, or one of another form or out of range.
     #[error("bad {0}")]
     BadHeader(Key),
+    /// The model is of another problem than CPIT.
     #[error("not cpit")]
     NotCpit,
     /// More than one destination, or constraints of a general kind.
     #[error("unsupported {0}")]
     Unsupported(Key),
+    /// A section line of this section came before.
     #[error("section twice")]
     SectionTwice,
+    /// The line has fewer fields than its form, or more.
     #[error("field count")]
     FieldCount,
+    /// A field isn't the number that stands at its place.
     #[error("{0}")]
     BadNumber(NumError),
-    /// What is known of the pit refuses the fact. It is never for want of memory.
+    /// What is known of the pit refuses the fact. Its refusal is never `NoMemory`.
     #[error("{0}")]
     Build(BuildError),
     /// A precedence line has another number of predecessors than it says.
@@ -41,6 +45,7 @@ pub enum Cause {
     /// A limit is neither at most, nor at least, nor between.
     #[error("bad limit kind")]
     BadKind,
+    /// A growth was refused.
     #[error("no memory")]
     NoMemory,
 }
@@ -72,7 +77,8 @@ impl From<AllocFailed<u32>> for Cause {
 #[derive(Clone, Copy, Debug, PartialEq, Eq, Error)]
 #[error("line {line}: {cause}")]
 pub struct TextError {
-    /// For what is wanting at the end of a text, and for memory that is wanted there: the line of `EOF`, or else one past the last line.
+    /// For what is missing at the end of a text, and where memory ran out there: the line of `EOF`, or else one past the last line.
     pub line: u64,
+    /// What is wrong there, or that memory ran out.
     pub cause: Cause,
 }

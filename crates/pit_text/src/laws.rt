@@ -19,7 +19,7 @@ pub fn one_result<F, C>()
         → HasOneResult (StandsWhole judge end_test lines) (FailsWhole judge end_test lines end) }
 {}
 
-/// A law of texts: no fault of a text is want of memory. So where a reader answers that, it has stopped for it.
+/// A law of texts: to be out of memory is no fault of a text. So a reader answers it only where it has stopped for it.
 pub fn no_fault_wants_memory()
     ensures model { (lines : List Cut) (end place : ℕ) → FailsWhole model_line model_end lines end place Cause.NoMemory → ⊥ }
     ensures precedence { (given : Pit) (lines : List Cut) (place : ℕ) → FailsFirst (precedence_line given) lines place Cause.NoMemory → ⊥ }

@@ -1,7 +1,7 @@
 //! MineLib's texts (2013): how they are cut into lines and fields, and which facts or which first fault they stand for.
 //!
-//! Contracts see a text as its list of lines that are read. A text stands for exactly one result, as `one_result` says of every
-//! kind of text at once, and each reader answers that result, or want of memory.
+//! Contracts see a text as its list of lines that are read. A text stands for exactly one result, as `one_result` says of every kind of text at once,
+//! and each reader answers that result, or that it is out of memory.
 #![tactic(auto)]
 
 mod blocks;

@@ -1,17 +1,20 @@
 //! Model texts: their headers and their sections.
-ghost use Rattle.std.specs.Prelude.{◌≡◌, ◌≢◌, ◌∷◌, ◌++◌, [], List, Ok, Err, None, Some, MatchResult, ◌⊎◌};
+ghost use Rattle.std.specs.Prelude.{◌≡◌, ◌≢◌, ◌∷◌, ◌++◌, [], List, Ok, Err, None, Some, IfSome, MatchResult, ◌⊎◌};
 ghost use Rattle.pit_text.specs.Cutting.{cut_of, end_line};
 ghost use Rattle.pit_text.specs.Left.{fields_left, lines_left, end_left};
 ghost use Rattle.pit_text.specs.Stands.{StandsWhole, FailsWhole};
 ghost use Rattle.pit_text.specs.Inside.Stands.{IsReadTo, IsCauseOf};
 ghost use Rattle.pit_text.specs.SectionFacts.{with_section_fact};
-ghost use Rattle.pit_text.specs.Model.{Fact, in_section, section_fact_line, model_line, model_end, pit_of, ModelStops};
+ghost use Rattle.pit_text.specs.Model.{Fact, in_section, section_fact_line, new_section_fact, model_line, model_end, pit_of, ModelStops};
+ghost use Rattle.pit_text.specs.declared.model.section.Section.{Section};
+ghost use Rattle.pit_text.specs.Inside.PlainFacts.{IsSaid};
 ghost use Rattle.pit_text.specs.Inside.Draft.{IsDraft, IsHeader, IsHeaderFact, IsBody, HasHeader};
 
 mod bound;
 mod draft;
 mod header;
 mod key;
+mod plain;
 mod section;
 mod section_fact;
 
@@ -21,6 +24,7 @@ pub use bound::upper_bound;
 use draft::Draft;
 pub use key::{Key, key_of};
 use pit_model::Builder;
+use plain::next_said;
 pub use section::{Section, section_of};
 pub use section_fact::SectionFact;
 use section_fact::{add, section_fact_of};
@@ -45,8 +49,8 @@ pub fn read_model<A: Allocator + Copy + Drop>(
             cause: Cause::NoMemory,
         });
     };
-    while let Some(line) = lines.next() {
-        if let Err(cause) = read_line(&mut draft, &mut builder, line.fields) {
+    while let Some((line, said)) = next_said(&mut lines, draft.section()) {
+        if let Err(cause) = read_line(&mut draft, &mut builder, line.fields, said) {
             return Err(TextError {
                 line: line.number,
                 cause,
@@ -56,7 +60,7 @@ pub fn read_model<A: Allocator + Copy + Drop>(
     Ok(builder)
 }
 
-/// The lines of the header, and the first section line where there is one. With them the number of that line, or else of the end line.
+/// Reads the lines of the header, and the first section line where there is one. Returns with them the number of that line, or else of the end line.
 fn read_header(lines: &mut Lines<'_>) -> Result<(Draft, u64), TextError>
     ensures { MatchResult result
         (λ read. (facts : List Fact) × IsReadTo model_line (lines_left lines.old) (lines_left lines.new) facts × IsHeader facts read.0
@@ -103,8 +107,40 @@ fn read_header_line(draft: &mut Draft, mut fields: Fields<'_>) -> Result<(), Cau
     }
 }
 
-/// A line behind the first section line.
+/// A line behind the first section line, of which it may be known what it says.
 fn read_line<A: Allocator + Copy + Drop>(
+    draft: &mut Draft,
+    builder: &mut Builder<A>,
+    fields: Fields<'_>,
+    said: Option<SectionFact>,
+) -> Result<(), Cause>
+    requires begun { draft.old.section ≢ None }
+    requires said { IfSome said (λ fact. (s : Section) × (draft.old.section ≡ Some s) × IsSaid s (fields_left fields) fact) }
+    ensures { (facts : List Fact) → IsBody facts draft.old builder.old → MatchResult result
+        (λ _. (fact : Fact) × (model_line facts (fields_left fields.entry) ≡ Ok fact) × IsBody (facts ++ fact ∷ []) draft.new builder.new × (draft.new.section ≢ None))
+        (λ cause. IsCauseOf Cause.NoMemory (model_line facts (fields_left fields.entry)) cause) }
+{
+    match said {
+        Some(fact) => add_said(builder, fact),
+        None => general_line(draft, builder, fields),
+    }
+}
+
+/// What a line of a section is known to say.
+fn add_said<A: Allocator + Copy + Drop>(
+    builder: &mut Builder<A>,
+    said: SectionFact,
+) -> Result<(), Cause>
+    ensures { (facts : List Fact) → builder.old ≡ pit_of facts → MatchResult result
+        (λ _. (new_section_fact facts said ≡ Ok (in_section said)) × (builder.new ≡ with_section_fact builder.old said))
+        (λ cause. IsCauseOf Cause.NoMemory (new_section_fact facts said) cause) }
+{
+    add(builder, said)?;
+    Ok(())
+}
+
+/// A line behind the first section line, by its fields.
+fn general_line<A: Allocator + Copy + Drop>(
     draft: &mut Draft,
     builder: &mut Builder<A>,
     mut fields: Fields<'_>,

@@ -1,4 +1,4 @@
-ghost use Rattle.std.specs.Prelude.{◌≡◌, ◌==◌, ℕ, List, length, Ok, Err, IsOk, OnErr, MatchResult, ◌⊎◌};
+ghost use Rattle.std.specs.Prelude.{◌≡◌, ◌==◌, ℕ, List, length, Ok, Err, IsOk, IfOk, IfSome, OnErr, MatchResult, ◌⊎◌};
 ghost use Rattle.pit_text.specs.Cutting.{cut_of};
 ghost use Rattle.pit_text.specs.Left.{fields_left};
 ghost use Rattle.pit_text.specs.Stands.{StandsFor, StopsAt, FailsFirst};
@@ -10,10 +10,11 @@ use super::cutting::{Fields, Lines};
 use super::error::{Cause, TextError};
 use super::number::whole;
 use pit_model::{BuildError, Builder};
+use pit_num::NoMemory;
 use std::alloc::Allocator;
 
-/// Reads the predecessors of blocks into a pit. The allocator is for the list of one line. Want of memory is answered only where the line has no
-/// fault. After a fault the pit is freed.
+/// Reads the predecessors of blocks into a pit. The allocator is for the list of one line. That it is out of memory is answered only where the line
+/// has no fault. After a fault the pit is freed.
 pub fn read_precedence<A: Allocator + Copy + Drop, B: Allocator + Copy + Drop>(
     alloc: B,
     text: &[u8],
@@ -25,8 +26,8 @@ pub fn read_precedence<A: Allocator + Copy + Drop, B: Allocator + Copy + Drop>(
 {
     let mut listed = Vec::new(alloc);
     let mut lines = Lines::new(text);
-    while let Some(line) = lines.next() {
-        if let Err(cause) = read_line(&mut builder, &mut listed, line.fields) {
+    while let Some((line, known)) = lines.next_listed(&mut listed) {
+        if let Err(cause) = read_line(&mut builder, &mut listed, line.fields, known) {
             return Err(TextError {
                 line: line.number,
                 cause,
@@ -36,17 +37,20 @@ pub fn read_precedence<A: Allocator + Copy + Drop, B: Allocator + Copy + Drop>(
     Ok(builder)
 }
 
-/// A line, whose predecessors are left in the list. Where there is no memory for them, the line is judged without it.
+/// A line, whose predecessors are left in the list. They may be there, and the block be known; or memory was wanted for them. Where there is no
+/// memory for them, the line is judged without it.
 fn read_line<A: Allocator + Copy + Drop, B: Allocator + Drop>(
     builder: &mut Builder<A>,
     listed: &mut Vec<u32, B>,
     fields: Fields<'_>,
+    known: Result<Option<u32>, NoMemory>,
 ) -> Result<(), Cause>
+    requires { IfOk known (λ found. IfSome found (λ block. preds_line (fields_left fields) ≡ Ok (block, listed.old.items))) }
     ensures { MatchResult result
         (λ _. (fact : ℕ × List ℕ) × (preds_fact builder.old (fields_left fields.entry) ≡ Ok fact) × (builder.new ≡ with_preds_fact builder.old fact))
         (λ cause. IsCauseOf Cause.NoMemory (preds_fact builder.old (fields_left fields.entry)) cause) }
 {
-    match add_line(builder, listed, fields) {
+    match add_line(builder, listed, fields, known) {
         Ok(()) => Ok(()),
         Err(cause) if cause == Cause::NoMemory => {
             judge(builder, fields)?;
@@ -56,21 +60,54 @@ fn read_line<A: Allocator + Copy + Drop, B: Allocator + Drop>(
     }
 }
 
-/// Adds a line, whose predecessors are left in the list. Memory may be wanted before all of the line is judged.
+/// Adds a line, whose predecessors are left in the list. Memory may run out before all of the line is judged.
 fn add_line<A: Allocator + Copy + Drop, B: Allocator + Drop>(
     builder: &mut Builder<A>,
     listed: &mut Vec<u32, B>,
     fields: Fields<'_>,
+    known: Result<Option<u32>, NoMemory>,
 ) -> Result<(), Cause>
+    requires { IfOk known (λ found. IfSome found (λ block. preds_line (fields_left fields) ≡ Ok (block, listed.old.items))) }
     ensures result { MatchResult result
         (λ _. (fact : ℕ × List ℕ) × (preds_fact builder.old (fields_left fields.entry) ≡ Ok fact) × (builder.new ≡ with_preds_fact builder.old fact))
         (λ cause. (cause ≡ Cause.NoMemory) ⊎ (preds_fact builder.old (fields_left fields.entry) ≡ Err cause)) }
     ensures err { OnErr result (builder.new ≡ builder.old) }
 {
-    let (block, rest) = block_and_rest(fields)?;
-    wholes(listed, rest)?;
+    let block = listed_block(listed, fields, known)?;
     builder.set_preds(block, listed.as_slice())?;
     Ok(())
+}
+
+/// The block of a line, whose predecessors are left in the list.
+fn listed_block<B: Allocator + Drop>(
+    listed: &mut Vec<u32, B>,
+    fields: Fields<'_>,
+    known: Result<Option<u32>, NoMemory>,
+) -> Result<u32, Cause>
+    requires { IfOk known (λ found. IfSome found (λ block. preds_line (fields_left fields) ≡ Ok (block, listed.old.items))) }
+    ensures { MatchResult result
+        (λ block. preds_line (fields_left fields.entry) ≡ Ok (block, listed.new.items))
+        (λ cause. (cause ≡ Cause.NoMemory) ⊎ (preds_line (fields_left fields.entry) ≡ Err cause)) }
+{
+    match known {
+        Ok(Some(block)) => Ok(block),
+        Ok(None) => general_block(listed, fields),
+        Err(_) => Err(Cause::NoMemory),
+    }
+}
+
+/// The same, by the fields.
+fn general_block<B: Allocator + Drop>(
+    listed: &mut Vec<u32, B>,
+    fields: Fields<'_>,
+) -> Result<u32, Cause>
+    ensures { MatchResult result
+        (λ block. preds_line (fields_left fields.entry) ≡ Ok (block, listed.new.items))
+        (λ cause. (cause ≡ Cause.NoMemory) ⊎ (preds_line (fields_left fields.entry) ≡ Err cause)) }
+{
+    let (block, rest) = block_and_rest(fields)?;
+    wholes(listed, rest)?;
+    Ok(block)
 }
 
 /// The block of a line and its predecessors, which are as many as it says.

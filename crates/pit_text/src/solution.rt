@@ -4,6 +4,7 @@ ghost use Rattle.pit_text.specs.Cutting.{cut_of, end_line};
 ghost use Rattle.pit_text.specs.Left.{fields_left};
 ghost use Rattle.pit_text.specs.Stands.{StandsFor, FailsFirst};
 ghost use Rattle.pit_text.specs.Solution.{pair_in_range, mined_pair, scheduled_pair, solution_line, period_in, schedule_of, SolutionStops};
+ghost use Rattle.pit_text.specs.Inside.Plain.{ArePair};
 ghost use Rattle.pit_text.specs.Inside.Solution.{AreSlots};
 
 use super::cutting::{Fields, Lines};
@@ -68,8 +69,8 @@ fn read_slots<A: Allocator + Drop>(
 {
     let mut slots = Vec::new(alloc);
     let mut lines = Lines::new(text);
-    while let Some(line) = lines.next() {
-        if let Err(cause) = read_line(&mut slots, line.fields, blocks, periods) {
+    while let Some((line, pair)) = lines.next_pair() {
+        if let Err(cause) = read_line(&mut slots, line.fields, pair, blocks, periods) {
             return Err(TextError {
                 line: line.number,
                 cause,
@@ -79,19 +80,22 @@ fn read_slots<A: Allocator + Drop>(
     Ok((slots, lines.end_line()))
 }
 
+/// A line, of which a pair of whole numbers may be known.
 fn read_line<A: Allocator + Drop>(
     slots: &mut Vec<Option<u32>, A>,
     fields: Fields<'_>,
+    pair: Option<(u32, u32)>,
     blocks: u32,
     periods: u32,
 ) -> Result<(), Cause>
-    requires { (slots.old.items ≡ []) ⊎ (length slots.old.items ≡ blocks) }
+    requires pair { IfSome pair (λ numbers. ArePair (fields_left fields) numbers.0 numbers.1) }
+    requires slots { (slots.old.items ≡ []) ⊎ (length slots.old.items ≡ blocks) }
     ensures { (facts : List (Option (ℕ × ℕ))) → AreSlots blocks facts slots.old.items → MatchResult result
         (λ _. (fact : Option (ℕ × ℕ)) × (solution_line blocks periods facts (fields_left fields.entry) ≡ Ok fact) × AreSlots blocks (facts ++ fact ∷ []) slots.new.items)
         (λ cause. ((cause ≡ Cause.NoMemory) × ((pair : ℕ × ℕ) × (solution_line blocks periods facts (fields_left fields.entry) ≡ Ok (Some pair))))
         ⊎ (solution_line blocks periods facts (fields_left fields.entry) ≡ Err cause)) }
 {
-    let (block, period) = match scheduled_pair(fields, blocks, periods) {
+    let (block, period) = match scheduled_pair(fields, pair, blocks, periods) {
         Ok(Some(pair)) => pair,
         Ok(None) => return Ok(()),
         Err(cause) => return Err(cause),
@@ -123,9 +127,29 @@ fn make_slots<A: Allocator + Drop>(
     Ok(())
 }
 
-/// The block and the period that a line schedules, both in range, if it does.
-#[tactic(auto, unfolding(crate::specs::Solution::scheduled_pair))]
+/// The block and the period that a line schedules, both in range, if it does. A pair that is known is all that the line says.
 fn scheduled_pair(
+    fields: Fields<'_>,
+    pair: Option<(u32, u32)>,
+    blocks: u32,
+    periods: u32,
+) -> Result<Option<(u32, u32)>, Cause>
+    requires { IfSome pair (λ numbers. ArePair (fields_left fields) numbers.0 numbers.1) }
+    ensures value { result ≡ scheduled_pair blocks periods (fields_left fields.entry) }
+    ensures in_range { IfOk result (λ fact. IfSome fact (λ pair. (pair.0 < blocks) × (pair.1 < periods))) }
+{
+    let Some((block, period)) = pair else {
+        return general_pair(fields, blocks, periods);
+    };
+    match pair_in_range(blocks, periods, block, period) {
+        Ok(pair) => Ok(Some(pair)),
+        Err(cause) => Err(cause),
+    }
+}
+
+/// The same, by the fields.
+#[tactic(auto, unfolding(crate::specs::Solution::scheduled_pair))]
+fn general_pair(
     mut fields: Fields<'_>,
     blocks: u32,
     periods: u32,

@@ -10,7 +10,7 @@ use pit_num::{Sink, WriteFault, write_text};
 /// The bytes of the longest line: a number of twenty digits, a space, one of ten, and a line feed.
 const LINE_MAX: usize = 32;
 
-/// The bytes that are gathered before a device is given them.
+/// How many bytes are gathered before they are given to a device.
 const CHUNK: usize = 8192;
 
 /// Writes a schedule as a solution: for each block that has a period, by rising block, a line `b t`. Takes no memory.

@@ -15,7 +15,7 @@ use std::alloc::Allocator;
 use std::hash::{BuildHasherDefault, FoldHasher};
 use std::marker::Model;
 
-/// So many pairs of each set have room from the start.
+/// There is room for so many pairs of each set from the start.
 const FIRST_ROOM: usize = 2;
 
 /// Blocks, each with a period or none.

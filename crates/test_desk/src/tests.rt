@@ -26,8 +26,7 @@ use large::Asked;
 use pit_desk::{AuditFault, Desk, DeskError, Entry, ResumeFault, audit};
 use pit_model::Instance;
 use pit_plan::Plan;
-use pit_refuse::{Count, Refusing};
-use pit_sample::{Fact, Heap, Size, built};
+use pit_sample::{Count, Fact, Heap, Refusing, Size, built};
 use std::alloc::{Allocator, Global};
 use std::process::Abort;
 use stories::Story;
@@ -98,7 +97,7 @@ fn refuse_each(rt: &impl Abort, alloc: Global, between: (u64, u64), run: Run<'_>
     panic!(rt; "never whole");
 }
 
-/// The fault is want of memory, which was refused.
+/// The fault is that it is out of memory, which was refused.
 fn assert_refused(rt: &impl Abort, heap: Heap<'_>, before: Count, is_no_memory: bool) {
     assert!(rt; is_no_memory);
     assert!(rt; heap.count().has_refused_since(before));

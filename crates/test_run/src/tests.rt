@@ -2,12 +2,13 @@
 //!
 //! A `Row` is a desk, the scripts of its planners, and what they leave: the lines of the report, which tell what became of each job, and the text of the
 //! history. `rows` has planners who run at once, and `turns` those who take turns; in `planning` a run begins as the program has it begin; and in `memory`
-//! each request for memory is refused in turn.
+//! each request for memory is refused in turn. `cli` has whole plans, from texts to outputs.
 ghost use Rattle.std.specs.Prelude.{◌≡◌, ◌≤◌, ◌<◌, All, length};
 ghost use Rattle.pit_job.specs.declared.planner_run.TheConstants.{RETRIES_MAX};
 ghost use Rattle.pit_share.specs.Opening.{AreSeats};
 ghost use Rattle.pit_share.specs.declared.blank.TheConstants.{PLANNERS_MAX};
 
+mod cli;
 mod memory;
 mod planning;
 mod rows;
@@ -21,10 +22,10 @@ use pit_lines::to_lines;
 use pit_model::Instance;
 use pit_num::Out;
 use pit_plan::Plan;
-use pit_plan_sample::Reading;
-use pit_refuse::{Count, Refusing};
 use pit_run::{PlannerRun, Report, RunError, run};
-use pit_sample::{Fact, LOADING, TINY, TINY_PLACES, TINY_SIZE, built, line_feeds};
+use pit_sample::{
+    Count, Fact, LOADING, Reading, Refusing, TINY, TINY_PLACES, TINY_SIZE, built, line_feeds,
+};
 use pit_script::Script;
 use pit_share::{Blank, Seat, Workspace};
 use pit_step::CliFault;
@@ -246,7 +247,7 @@ fn play<
     (before, report)
 }
 
-/// A run, and where no thread was started for want of memory another by what was handed back.
+/// A run; and where no thread was started, since there was no memory, another one by what was handed back.
 fn run_twice<
     S: Session + Send + Sync,
     O: Wait + Drop + Send + Sync,
@@ -284,7 +285,7 @@ fn run_twice<
     }
 }
 
-/// How many planners stopped for want of memory.
+/// How many planners stopped out of memory.
 fn stopped<A: Allocator + Copy + Drop>(runs: &[PlannerRun<A>]) -> u32 {
     let mut count: u32 = 0;
     for run in runs {

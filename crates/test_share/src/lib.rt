@@ -1,4 +1,4 @@
-//! The tests of `pit_share`, in a crate of their own: a crate that has tests is proved a second time with them.
+//! The tests of `pit_share` and `pit_board`, in a crate of their own: a crate that has tests is proved a second time with them.
 #![tactic(auto)]
 
 #[cfg(test)]

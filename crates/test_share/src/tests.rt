@@ -2,8 +2,10 @@
 //!
 //! `steps` has what planners do and what that is answered, `places` makes one step, and `playing` makes those of a row in turn, on a heap that
 //! may refuse a request: `rows`, `closing` and `memory` are about that. In `threads` planners work at once.
+//! `board` is about halls, with no planner.
 ghost use Rattle.std.specs.Prelude.{◌<◌};
 
+mod board;
 mod closing;
 mod memory;
 mod places;
@@ -15,8 +17,7 @@ mod threads;
 use pit_desk::{Desk, Entry, audit};
 use pit_model::Instance;
 use pit_plan::Plan;
-use pit_plan_sample::Reading;
-use pit_sample::{Size, TINY, TINY_SIZE, built};
+use pit_sample::{Reading, Size, TINY, TINY_SIZE, built};
 use std::alloc::{Allocator, Global};
 use std::process::Abort;
 

@@ -3,10 +3,11 @@
 //! `numbers` and `devices` are about `pit_num`, and `printed` about what it and `pit_text` print. `small` and `told` are about `pit_model`, `pits` about
 //! `pit_text`, `scripts` about `pit_script`, and `entries` and `histories` about `pit_lines`. The others are about all of these: `reading` reads a text
 //! of any kind, `cut` cuts texts behind each byte, `words` has the words of faults, and in `memory` and `long` each request for memory is refused in
-//! turn.
+//! turn. `refusing` is about the allocator that refuses, and `file` about a history's file.
 mod cut;
 mod devices;
 mod entries;
+mod file;
 mod histories;
 mod long;
 mod memory;
@@ -14,6 +15,7 @@ mod numbers;
 mod pits;
 mod printed;
 mod reading;
+mod refusing;
 mod scripts;
 mod small;
 mod told;

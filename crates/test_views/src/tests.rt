@@ -4,12 +4,16 @@
 //! calls the engine. The modules that are named after commands have what these write. The others are about all commands: `worked` has the examples,
 //! `changed` the histories of which one thing is changed, `cut` those that are cut off, `faults` the lines of faults, `devices` those that fail, and
 //! `memory` and `long` each request for memory refused in turn. `reading` and `steps` are about the parts that engines are made of.
+//!
+//! Two modules are about other things, with rows of their own: `edit` about merges, and `explain` about what is said of faults.
 mod all;
 mod changed;
 mod cut;
 mod devices;
 mod diff;
+mod edit;
 mod engines;
+mod explain;
 mod faults;
 mod info;
 mod log;

@@ -24,7 +24,7 @@ pub record Stamped : Type 0 where
   pub before : List Commit
   pub after : List Commit
 
--- a board that shows so many commits as were before takes it in; nothing is taken in of nothing
+-- a board that shows as many commits as there were before takes the commit in; of nothing, nothing is taken in
 abbrev pub taken_in : List Commit → Option Stamped → List Commit
 taken_in shown None = shown
 taken_in shown (Some stamp) = if length shown == length stamp.before then stamp.after else shown

@@ -8,7 +8,7 @@ use Rattle.pit_step.specs.declared.fault.CliFault.{CliFault}
 use Rattle.pit_step.specs.declared.fault.CliFault.TheVariants.{PlannerCount, NoMemory, NoPlace, NotClosed}
 use Rattle.pit_cli.specs.Planning.{IsNotClosed}
 
--- the number of planners is looked at first; then memory or a place may be wanting, or a workspace isn't closed
+-- the number of planners is looked at first; then memory may run out, a place can't be had, or a workspace isn't closed
 abbrev pub IsFaultOn : Bool → Pit → List Answered → ℕ → ℕ → List (List Job) → CliFault → Type 0
 IsFaultOn is_in_turn pit opening max_entries retries scripts PlannerCount = IsPlannerCount (length scripts) → ⊥
 IsFaultOn is_in_turn pit opening max_entries retries scripts NoMemory = IsPlannerCount (length scripts)

@@ -16,7 +16,7 @@ pub record IsByEntries (ground : Ground) (entries : List Answered) (start : ℕ)
   pub left : AreLeft ground.pit.blocks (commits_of entries) wanted
   pub base : IsHistoryBase ground.ours entries start
 
--- an entry doesn't fit, or memory is wanted; or each fits, and a later one revises a limit
+-- an entry doesn't fit, or memory runs out; or each fits, and a later one revises a limit
 abbrev pub IsEntriesFault : Ground → Input → List Answered → CliFault → Type 0
 IsEntriesFault ground file entries fault =
     IsUnfit file ground.pit entries fault ⊎ (EachFits ground.pit entries × IsRevising ground.ours entries × (fault ≡ fault_of file RevisedLimit))
@@ -25,7 +25,7 @@ pub record IsBySchedule (ground : Ground) (from : Option ℕ) (schedule : List (
   pub left : AreLeft ground.pit.blocks (commits_of_schedule schedule) wanted
   pub base : IsSolutionBase ground.ours ground.is_resumed from text start
 
--- memory is wanted, or the base isn't known
+-- memory runs out, or the base isn't known
 abbrev pub IsScheduleFault : Ground → Option ℕ → Input → List ℕ → CliFault → Type 0
 IsScheduleFault ground from file text fault =
     (fault ≡ NoMemory) ⊎ ((why : BaseFault) × IsSolutionBaseFault ground.ours ground.is_resumed from text why × (fault ≡ fault_of file why))

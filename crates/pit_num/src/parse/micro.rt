@@ -39,7 +39,7 @@ const PLACES: usize = 6;
 /// A number of so many digits before its point and `PLACES` behind it is below the limit as it stands.
 const PLAIN_DIGITS: usize = 12;
 
-/// In millionths, a whole number and a fraction of so many decimal places.
+/// A whole number and a fraction of so many decimal places, in millionths.
 #[inline]
 fn plain_magnitude(whole: u64, fraction: u64, places: usize) -> u64
     requires whole { whole < 10 ^ PLAIN_DIGITS }
@@ -51,7 +51,7 @@ fn plain_magnitude(whole: u64, fraction: u64, places: usize) -> u64
     whole * 1_000_000 + fraction * place_value(places)
 }
 
-/// The last of some decimal places, in millionths.
+/// The value of the last of so many decimal places, in millionths.
 #[inline]
 fn place_value(places: usize) -> u64
     requires { places ≤ PLACES }

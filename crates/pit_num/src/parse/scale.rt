@@ -44,7 +44,7 @@ fn significand_value(whole: &[u8], fraction: &[u8]) -> u128
     digits_value(whole) * 10u128.pow(fraction.len() as u32) + digits_value(fraction)
 }
 
-/// In millionths, n times ten to `raises` over ten to `lowers`, where that is below the limit.
+/// `n * 10^raises / 10^lowers` in millionths, where that is below the limit.
 fn scaled(n: u128, raises: u32, lowers: u32) -> Option<u64>
     requires small { n < 10 ^ DIGITS_MAX }
     requires raises { raises < 10 ^ EXPONENT_DIGITS_MAX }

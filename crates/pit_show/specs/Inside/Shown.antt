@@ -23,7 +23,7 @@ pub record AreEntriesShown (at : Option ℕ) (pit : Pit) (entries : List Answere
   pub enough : shown_count at (commits_of entries) ≤ length (commits_of entries)
   pub shown : IsFrontShown pit entries (shown_count at (commits_of entries)) answer
 
--- one doesn't fit, or there are too few commits, or memory is wanted
+-- one doesn't fit, or there are too few commits, or memory runs out
 abbrev pub AreNotShown : Option ℕ → Pit → List Answered → CliFault → Type 0
 AreNotShown at pit entries fault = IsUnfit Schedule pit entries fault ⊎ (EachFits pit entries × IsTooFew at (commits_of entries) fault)
 
@@ -32,6 +32,6 @@ pub record ArePairsShown (at : Option ℕ) (pit : Pit) (pairs : List (ℕ × ℕ
   pub enough : shown_count at (commits_of_schedule pairs) ≤ length (commits_of_schedule pairs)
   pub says : answer ≡ left_text pit (take (shown_count at (commits_of_schedule pairs)) (commits_of_schedule pairs))
 
--- there are enough commits, and memory is wanted; or there are too few
+-- there are enough commits, and memory runs out; or there are too few
 abbrev pub IsWantOrFew : Option ℕ → List Commit → CliFault → Type 0
 IsWantOrFew at commits fault = ((fault ≡ NoMemory) × (shown_count at commits ≤ length commits)) ⊎ IsTooFew at commits fault

@@ -9,6 +9,6 @@ pub record IsReadTo {F C : Type 0} (judge : Judge F C) (lines left : List Cut) (
   pub cut : lines ≡ done ++ left
   pub stands : StandsFor judge done facts
 
--- what is answered of a line that is judged so, where its fact isn't added: want of memory, if it states one, or else what is wrong with it
+-- what is answered of a line that is judged so, where its fact isn't added: out of memory, if it states one, or else what is wrong with it
 abbrev pub IsCauseOf : {F C : Type 0} → C → Result F C → C → Type 0
 IsCauseOf no_memory judged cause = ((cause ≡ no_memory) × IsOk judged) ⊎ (judged ≡ Err cause)

@@ -8,7 +8,8 @@ use std::simd::prelude::*;
 /// How many bytes are looked at in one go.
 const LANES: usize = 16;
 
-/// The place of the first gap among so many bytes of a text, or their number. Bytes behind them are loaded too, and don't matter.
+/// The place of the first gap among so many bytes of a text; where none of these is a gap, how many they are. Bytes behind them are loaded too, and
+/// don't matter.
 pub(crate) fn gap_within(text: &[u8], len: usize) -> usize
     requires { len ≤ length text.now }
     ensures place { result ≡ position_or_len is_gap (take len text.now) }

@@ -1,4 +1,4 @@
-//! Want of memory where a plan of the large pit is made, judged, read and listed.
+//! Out of memory where a plan of the large pit is made, judged, read and listed.
 use super::memory::large_revises;
 use super::plans::{Command, apply, judge, lists};
 use super::{Pair, Revision, Run, assert_refused, load_and_limits, refuse_each};

@@ -1,4 +1,4 @@
-//! Want of memory at desks: each request of a story is refused in turn.
+//! Out of memory at desks: each request of a story is refused in turn.
 use super::calls::Call::{Commit, Revise, Withdraw};
 use super::calls::Due::{Committed, Late, Over, Withdrawn};
 use super::calls::Row;
@@ -6,8 +6,7 @@ use super::stories::{Story, TINY_STORY};
 use super::worked::NOTHING;
 use super::{Pair, Revision, Run, refuse_each};
 use pit_desk::Act;
-use pit_plan_sample::Reading;
-use pit_sample::{Fact, LARGE_SIZE, large_facts, large_schedule};
+use pit_sample::{Fact, LARGE_SIZE, Reading, large_facts, large_schedule};
 use std::alloc::Global;
 use std::process::Abort;
 

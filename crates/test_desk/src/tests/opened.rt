@@ -7,8 +7,7 @@ use super::worked::NOTHING;
 use super::{Run, desk_over, is_whole, open};
 use pit_desk::{Act, Desk, DeskError};
 use pit_plan::Breach;
-use pit_plan_sample::Reading;
-use pit_sample::{Fact, Size, TINY, TINY_SIZE, built};
+use pit_sample::{Fact, Reading, Size, TINY, TINY_SIZE, built};
 use std::alloc::Global;
 use std::process::Abort;
 

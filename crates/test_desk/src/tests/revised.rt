@@ -4,7 +4,7 @@ use super::calls::Due::{Committed, Late, Over, Withdrawn};
 use super::calls::Row;
 use super::worked::{AFTER_TWO_BLOCKS, NOTHING, THIRD_BLOCK, TWO_BLOCKS, Worked, play_all};
 use pit_desk::Act;
-use pit_plan_sample::Reading;
+use pit_sample::Reading;
 
 /// Block 3 under a limit that is raised for it, which can't be lowered then.
 pub(super) const RAISING: &[Row<'static>] = &[

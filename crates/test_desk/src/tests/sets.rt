@@ -3,8 +3,7 @@ use super::calls::new_work;
 use super::{BYTES, Pair, Run, assert_refused, refuse_each};
 use pit_model::{BLOCKS_MAX, RESOURCES_MAX};
 use pit_num::PERIODS_MAX;
-use pit_refuse::Refusing;
-use pit_sample::{Heap, Size, TINY_SIZE, has_pairs};
+use pit_sample::{Heap, Refusing, Size, TINY_SIZE, has_pairs};
 use pit_tx::{LimitMap, PeriodMap, Work, WorkError};
 use std::alloc::{Allocator, Global};
 use std::process::Abort;
@@ -159,7 +158,7 @@ fn of<A: Allocator + Copy + Drop>(work: &Work<A>) -> (u32, u32, u32) {
 /// How many blocks there are, and changes of a kind.
 const COUNT: u32 = 1_000;
 
-/// Of two resources each may be revised so often.
+/// How many periods there are: in each the limits of two resources may be revised.
 const PERIODS: u32 = 500;
 
 const SIZE: Size = Size {

@@ -12,8 +12,7 @@ use pit_desk::{
 };
 use pit_model::Instance;
 use pit_plan::Plan;
-use pit_plan_sample::Reading;
-use pit_sample::{Fact, Heap, OFFSET, OFFSET_SIZE, Size, TINY, TINY_SIZE, built};
+use pit_sample::{Fact, Heap, OFFSET, OFFSET_SIZE, Reading, Size, TINY, TINY_SIZE, built};
 use pit_tx::Work;
 use std::alloc::Allocator;
 use std::process::Abort;

@@ -4,8 +4,7 @@ use super::calls::Due::{Ahead, Committed, Late, Misread, Moved, Over, Withdrawn}
 use super::calls::Row;
 use super::stories::{Story, TINY_STORY};
 use super::{Run, is_whole};
-use pit_plan_sample::Reading;
-use pit_sample::{OFFSET, OFFSET_SIZE};
+use pit_sample::{OFFSET, OFFSET_SIZE, Reading};
 use std::alloc::Global;
 use std::process::Abort;
 

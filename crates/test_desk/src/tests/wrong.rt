@@ -5,8 +5,7 @@ use super::stories::{Story, TINY_STORY, Then};
 use super::worked::NOTHING;
 use super::{Run, is_whole};
 use pit_desk::Act;
-use pit_plan_sample::Reading;
-use pit_sample::{Size, TINY_SIZE};
+use pit_sample::{Reading, Size, TINY_SIZE};
 
 /// The second call has a block, a period or a resource that the pit of two blocks has not.
 const WRONG: &[Story<'static>] = &[

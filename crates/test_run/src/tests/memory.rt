@@ -3,8 +3,8 @@ use super::turns::taken;
 use super::{Heap, assert_legal, counted, empty_desk, stopped};
 use pit_desk::{EntryReply, Refusal};
 use pit_job::{Open, Outcome, RunEnd};
-use pit_refuse::{Count, Refusing};
 use pit_run::{InTurnError, PlannerRun, Report};
+use pit_sample::{Count, Refusing};
 use std::alloc::{Allocator, Global};
 use std::process::Abort;
 use std::sync::Wait;
@@ -120,7 +120,7 @@ fn in_turn<R: Wait + Abort>(rt: &R, alloc: Global, heap: &Heap, texts: &[&[u8]])
     before
 }
 
-/// The history is legal, and at most one planner has stopped, for want of memory.
+/// The history is legal, and at most one planner has stopped, out of memory.
 fn assert_report<A: Allocator + Copy + Drop>(
     rt: &impl Abort,
     alloc: Global,

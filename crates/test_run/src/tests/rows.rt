@@ -1,9 +1,8 @@
 //! Worked runs of planners at once: what becomes of each job, and the entries.
 use super::{EMPTY, NOTHING, Row, THREE, assert_row, desk_of, is_told, report_of, written};
 use pit_job::{Gate, Open};
-use pit_refuse::Refusing;
 use pit_run::Report;
-use pit_sample::{LOADING, MEETING, REVISING};
+use pit_sample::{LOADING, MEETING, REVISING, Refusing};
 use pit_step::CliFault;
 use std::alloc::Global;
 use std::process::Abort;
@@ -225,7 +224,7 @@ fn assert_alone<R: Threads + Wait + Abort + Sync>(rt: &R, alloc: Global, row: &R
     drop(report);
 }
 
-/// Whether memory for a report is wanted only where the request with this number was refused, and then nothing is written.
+/// Whether there is no memory for a report only where the request with this number was refused, and then nothing is written.
 fn is_without_memory(alloc: Global, number: u64, report: &Report<Global>) -> bool {
     let heap = Refusing::new(alloc, number);
     let (answer, text) = written(&heap, alloc, report);

@@ -5,8 +5,8 @@ use super::{
 };
 use pit_desk::Desk;
 use pit_job::Open;
-use pit_refuse::{Count, Refusing};
 use pit_run::{InTurnError, Report, run_in_turn};
+use pit_sample::{Count, Refusing};
 use std::alloc::{Allocator, Global};
 use std::process::Abort;
 use std::sync::Wait;

@@ -1,4 +1,4 @@
-//! Want of memory, and calls that take none.
+//! Out of memory, and calls that take none.
 use super::desk_of;
 use super::playing::{count_of, heap_of};
 use super::steps::{Answer, Doing, FIRST, ROW, Row, SECOND, Step, WITHDRAWN};

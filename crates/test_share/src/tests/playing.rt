@@ -8,8 +8,7 @@ use super::{assert_legal, desk_of, wide_desk};
 use linked_list_allocator::LocalHeap;
 use pit_board::Session;
 use pit_desk::Desk;
-use pit_plan_sample::Reading;
-use pit_refuse::{Count, Refusing};
+use pit_sample::{Count, Reading, Refusing};
 use pit_share::{Blank, CloseError, OpenError, PlannerLog, Seat, Workspace, one_shared_history};
 use std::alloc::{Allocator, Global};
 use std::marker::Brand;
@@ -183,7 +182,7 @@ impl<'a, R: Wait + Abort + Copy + Drop, A: Allocator + Copy + Drop> Stage<'a, R,
         )
     }
 
-    /// Does these, and again what was not done for want of memory, which is once at most.
+    /// Does these, and does again what there was no memory for, which is once at most.
     fn play_all<'w, S: Session>(
         &self,
         mut places: Places<'w, S, R, A>,

@@ -45,7 +45,7 @@ fn assert_pieces(rt: &impl Abort, alloc: Global, whole: &[u8], kind: Kind<'_>, p
     assert!(rt; is_whole);
 }
 
-// A body is the dearer to prove the more tables it holds, so each has one of its own.
+// The more tables a body holds, the longer it takes to prove, so each has a body of its own.
 fn assert_model(rt: &impl Abort, alloc: Global) {
     let kind = Model(Look::Sum);
     assert_pieces(rt, alloc, TINY_MODEL, kind, pits::MODEL);

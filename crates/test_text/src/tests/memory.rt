@@ -11,8 +11,7 @@ use Why::{InHistory, InPit, InScript};
 use pit_desk::Entry;
 use pit_lines::LinesCause;
 use pit_num::NoMemory;
-use pit_refuse::Refusing;
-use pit_sample::{Ending, Heap, TINY_BLOCKS, TINY_SIZE, Trial, line_feeds, refuse_each};
+use pit_sample::{Ending, Heap, Refusing, TINY_BLOCKS, TINY_SIZE, Trial, line_feeds, refuse_each};
 use pit_script::ScriptCause;
 use pit_text::{Cause, Key, read_model};
 use std::alloc::{Allocator, Global};
@@ -34,7 +33,7 @@ pub(super) enum Case<'a> {
 /// The bytes of a heap, of which no call takes half.
 pub(super) const BYTES: usize = 4_194_304;
 
-/// Whether memory is wanted for a line of the text, and of a history for one of its entries.
+/// Whether this is out of memory at a line of the text, and of a history at one of its entries.
 fn is_want(fault: Fault, text: &[u8]) -> bool {
     let (line, why) = fault;
     match why {
@@ -63,7 +62,7 @@ fn is_read(
     }
 }
 
-/// Whether that comes of it, or want of memory.
+/// Whether that comes of it, or it is out of memory.
 fn is_so(heap: Heap<'_>, plain: Global, case: Case<'_>) -> Result<bool, NoMemory> {
     match case {
         Factor(rate, period, wanted) => is_factor(heap, rate, period, wanted),
@@ -224,10 +223,16 @@ DISCOUNT_RATE: 0.1
 /// A number of predecessors that isn't that of the line takes no memory.
 const COUNTS: &[Text] = &[
     (b"3 3\n", Err((1, InPit(CountWrong)))),
-    (b"3 3 0 1\n", Err((1, InPit(CountWrong)))),
+    (b"3  3 0 1\n", Err((1, InPit(CountWrong)))),
     (b"3 4000000000\n", Err((1, InPit(CountWrong)))),
     (b"3 4000000000 0 1 2\n", Err((1, InPit(CountWrong)))),
     (b"3 4294967295 0 1 2\n", Err((1, InPit(CountWrong)))),
+];
+
+/// A plain line takes memory for the predecessors that came, and none for those that it only announces.
+const CAME: &[Text] = &[
+    (b"3 3 0 1\n", Err((1, InPit(CountWrong)))),
+    (b"3 999999999 0 1 2\n", Err((1, InPit(CountWrong)))),
 ];
 
 /// Texts for which no reader takes memory, and the requests of what they are read into. A line of places is judged first; a line that mines nothing
@@ -235,6 +240,7 @@ const COUNTS: &[Text] = &[
 const QUIET: &[(Kind<'static>, u64, &[Text])] = &[
     (Model(Look::Sum), 0, HEADERS),
     (Precedence(TINY_SIZE, Look::Sum), BUILDER, COUNTS),
+    (Precedence(TINY_SIZE, Look::Sum), BUILDER + 1, CAME),
     (
         Blocks(TINY_SIZE, Look::Sum),
         BUILDER,

@@ -46,7 +46,7 @@ pub(super) enum Look {
     Long,
 }
 
-/// Want of memory for what a text is read into.
+/// Out of memory for what a text is read into.
 const WANT: TextError = TextError {
     line: 0,
     cause: Cause::NoMemory,

@@ -6,15 +6,14 @@ use super::reading::{Faulty, Kind, assert_faults, assert_read, jobs_in, pit_at, 
 use super::{Answer, Why};
 use Kind::Script;
 use ScriptCause::{
-    BadNumber, BlockRange, FieldCount, JobCount, NoBench, NoMemory, NotAscii, Order, PeriodRange,
+    BadNumber, BlockRange, FieldCount, NoBench, NoMemory, NotAscii, Order, PeriodRange,
     ResourceRange, Unended, UnknownWord,
 };
 use Why::InScript;
 use pit_model::Instance;
 use pit_num::NumError;
-use pit_refuse::Refusing;
-use pit_sample::{Heap, TINY_BLOCKS, TINY_SIZE};
-use pit_script::{Benches, JOBS_MAX, JobEnd, Script as Jobs, ScriptCause, Step};
+use pit_sample::{Heap, Refusing, TINY_BLOCKS, TINY_SIZE};
+use pit_script::{Benches, JobEnd, Script as Jobs, ScriptCause, Step};
 use std::alloc::{Allocator, Global};
 use std::process::Abort;
 
@@ -211,18 +210,6 @@ fn faults(rt: HostRuntime) {
     assert_faults(&rt, rt.alloc(), SCRIPT, &[b"begin\n"], STEPS);
 }
 
-/// The number of jobs of the greatest script, and of one more.
-#[test]
-fn the_last_job_that_there_may_be(rt: HostRuntime) {
-    let jobs = text_of(&rt, rt.alloc(), &[(0, JOBS_MAX, "begin\ncommit\n", &[])]);
-    let count = i64::from(JOBS_MAX);
-    assert_read(&rt, rt.alloc(), SCRIPT, &[jobs.as_bytes()], Ok(count));
-    let parts: [&[u8]; 2] = [jobs.as_bytes(), b"begin\ncommit\n"];
-    let fault = (2_000_001, InScript(JobCount));
-    assert_read(&rt, rt.alloc(), SCRIPT, &parts, Err(fault));
-    drop(jobs);
-}
-
 type Refused = (&'static [u8], u64, ScriptCause);
 
 /// A script, and what is answered of it where a request of the benches is refused: a fault of its first line goes before.
@@ -267,7 +254,7 @@ fn each_request_of_benches_is_refused(rt: HostRuntime) {
     drop(places);
 }
 
-/// Scripts that take no memory over benches that are there.
+/// Scripts that take no memory where the benches are there already.
 const SHARED: &[(&[u8], Answer)] = &[
     (b"", Ok(0)),
     (b"begin\nread 1000\n", Err((2, InScript(BlockRange)))),

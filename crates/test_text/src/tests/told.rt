@@ -4,8 +4,7 @@ use super::small::is_small;
 use Fact::{Coef, Limit, Place, Preds, Profit};
 use pit_model::{BuildError, Builder, Instance, RESOURCES_MAX};
 use pit_num::NoMemory;
-use pit_refuse::Refusing;
-use pit_sample::{Fact, Heap, Size, TINY, TINY_PLACES, TINY_SIZE, tell};
+use pit_sample::{Fact, Heap, Refusing, Size, TINY, TINY_PLACES, TINY_SIZE, tell};
 use std::alloc::{Allocator, Global};
 use std::process::Abort;
 

@@ -14,9 +14,9 @@ use Input::{Blocks, History, Model, New, Old, Precedence, Schedule, Solution};
 use LinesCause::Shape;
 use Status::{Failed, Fine};
 use pit_lines::{LinesCause, LinesError};
-use pit_refuse::Refusing;
 use pit_sample::{
-    Broken, Ending, Heap, LOADING, MEETING, REVISING, TINY_SOLUTION, TINY_VALUE, Trial, refuse_each,
+    Broken, Ending, Heap, LOADING, MEETING, REVISING, Refusing, TINY_SOLUTION, TINY_VALUE, Trial,
+    refuse_each,
 };
 use pit_step::{CliFault, Input, ReadError, Status};
 use pit_text::{Cause, Key, TextError};

@@ -14,10 +14,11 @@ returns g c =
     let pit = c.args.pit.now in
     let cells = c.args.cells.now.entries in
     let lim = g.L.Limits.limit_in c.args.limits.now in
-    let cell = c.cell_at-cell.result in
-    let key : cell ≡ (get_or cells c.args.i (0, pos 0)).0 = c.cell_at-cell.ensures in
-    let value : lookup (nat_eq cell) cells ≡ Some c.in_ok-load.load = sym c.load_in.ensures ∙ c.in_ok-load.was in
-    let fails : is_within c.in_ok-load.load (Some c.in_ok-limit.limit) ≡ false = search rules in
+    let cell = c.cell_at-cell.result.0 in
+    let load = c.cell_at-cell.result.1 in
+    let key : cell ≡ (get_or cells c.args.i (0, pos 0)).0 = c.cell_at-cell.ensures.cell in
+    let value : lookup (nat_eq cell) cells ≡ Some load = c.cell_at-cell.ensures.load in
+    let fails : is_within load (Some c.in_ok-limit.limit) ≡ false = search rules in
     subst (λ (k : ℕ). IsLeastOf ComesBefore (λ p. IsOverAt pit (at_cell pit lim) cells p × (cell_of pit p.1 p.0 ≡ k)) (cell / c.resources.result, cell % c.resources-2.result)) key
-    (cell-over pit lim cells cell c.resources.result c.resources-2.result c.in_ok-load.load c.in_ok-limit.limit c.resources.ensures c.resources-2.ensures
+    (cell-over pit lim cells cell c.resources.result c.resources-2.result load c.in_ok-limit.limit c.resources.ensures c.resources-2.ensures
     (c.requires.cells cell (ap (λ (v : Option ℤ). is_some v) value)) value (sym c.limit.ensures ∙ c.in_ok-limit.was) fails)

@@ -21,9 +21,9 @@ add-requires-clause-room g c =
     let t = c.in-Some.t in
     let sound = subst (AreCoefs pit.resources) is c.coefs-r-items.ensures.sound in
     let within = subst (λ (xs : List (ℕ × ℤ)). k < length xs) is c.loop-r-test.true in
-    let moved : to_z w128 (of_z w128 c.moved.result) ≡ signed_coef c.args.up (get_or (coefs_of pit c.args.b) k (0, pos 0)).1 = search rules in
+    let signed : to_z w128 (of_z w128 c.signed.result) ≡ signed_coef c.args.up (get_or (coefs_of pit c.args.b) k (0, pos 0)).1 = search rules in
     let cell : c.cell.result ≡ cell_of pit (get_or (coefs_of pit c.args.b) k (0, pos 0)).0 t = c.cell.ensures.cell ∙ ap (λ (xs : List (ℕ × ℤ)). cell_of pit (get_or xs k (0, pos 0)).0 t) is in
-    rw (moved, cell)
+    rw (signed, cell)
     (room-more pit (at_cell pit (g.L.Loads.load_in c.args.loads.now)) (at_cell pit (g.L.Loads.load_in c.loop-r.loads)) c.args.b t c.args.up k (0, pos 0) (once-from_rising _ sound.rising) within
     (sound.in_range k (0, pos 0) within)
     (subst (λ (p : Option ℕ). IfSome p (λ u. (r : ℕ) → r < pit.resources → FitsSigned w128 (at_cell pit (g.L.Loads.load_in c.args.loads.now) r u +ℤ signed_coef c.args.up (coef_of pit c.args.b r)))) c.in-Some.is c.requires.room)
@@ -39,10 +39,10 @@ loop-r-preserved g c =
     let within = subst (λ (xs : List (ℕ × ℤ)). k < length xs) is c.loop-r-test.true in
     let pair = get_or (coefs_of pit c.args.b) k (0, pos 0) in
     let lr = sound.in_range k (0, pos 0) within in
-    let moved : to_z w128 (of_z w128 c.moved.result) ≡ signed_coef c.args.up pair.1 = search rules in
+    let signed : to_z w128 (of_z w128 c.signed.result) ≡ signed_coef c.args.up pair.1 = search rules in
     let cell : c.cell.result ≡ cell_of pit pair.0 t = c.cell.ensures.cell ∙ ap (λ (xs : List (ℕ × ℤ)). cell_of pit (get_or xs k (0, pos 0)).0 t) is in
     let raises = subst (λ (n : ℕ). Raises (g.L.Loads.load_in c.loop-r.loads) n (signed_coef c.args.up pair.1) (g.L.Loads.load_in c.add.new.self)) cell
-    (subst (λ (z : ℤ). Raises (g.L.Loads.load_in c.loop-r.loads) c.cell.result z (g.L.Loads.load_in c.add.new.self)) moved c.in_ok-add.ensures.raises) in
+    (subst (λ (z : ℤ). Raises (g.L.Loads.load_in c.loop-r.loads) c.cell.result z (g.L.Loads.load_in c.add.new.self)) signed c.in_ok-add.ensures.raises) in
     record {
       sound = c.in_ok-add.ensures.sound;
       stays = c.in_ok-add.ensures.stays ∙ c.loop-r.invariant.stays;

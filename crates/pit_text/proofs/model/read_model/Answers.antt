@@ -24,7 +24,7 @@ loop-line-preserved g c =
     let read = c.in_default-read_line.ensures was.0 was.2 in
     record {
       begun = λ none. absurd (read.3 none);
-      facts = (_, read_more model_line (cut_of c.args.text.now) (lines_left c.loop-line.lines) (lines_left c.next.new.self) (cut_seen c.in-Some.line) was.0 read.0 was.1 c.in-Some.ensures.steps.0 read.1, read.2);
+      facts = (_, read_more model_line (cut_of c.args.text.now) (lines_left c.loop-line.lines) (lines_left c.next_said.new.lines) (cut_seen c.in-Some.line) was.0 read.0 was.1 c.in-Some.ensures.steps.0 read.1, read.2);
     }
 
 pub returns : goal.returns
@@ -32,7 +32,7 @@ returns g c =
     let was = c.loop-line.invariant.facts in (
       was.0,
       record {
-        stands = read_all model_line (cut_of c.args.text.now) (lines_left c.loop-line.lines) was.0 was.1 c.in_default-next.ensures.steps.0.0;
+        stands = read_all model_line (cut_of c.args.text.now) (lines_left c.loop-line.lines) was.0 was.1 c.in_default-next_said.ensures.steps.0.0;
         whole = end_is was.0 None was.2.whole;
       },
       was.2.says,
@@ -53,10 +53,10 @@ returns-in-Err g c =
             wanting.0,
             inl (
               was.0 ++ stated.0 ∷ [],
-              read_stands model_line (cut_of c.args.text.now) (lines_left c.loop-line.lines) (lines_left c.next.new.self) line was.0 stated.0 was.1 c.in-Some.ensures.steps.0 stated.1,
-              begun-more was.0 stated.0 c.loop-line.draft was.2.keeps (λ none. no_line (lines_left c.loop-line.lines) line (lines_left c.next.new.self) (c.loop-line.invariant.begun none) c.in-Some.ensures.steps.0),
+              read_stands model_line (cut_of c.args.text.now) (lines_left c.loop-line.lines) (lines_left c.next_said.new.lines) line was.0 stated.0 was.1 c.in-Some.ensures.steps.0 stated.1,
+              begun-more was.0 stated.0 c.loop-line.draft was.2.keeps (λ none. no_line (lines_left c.loop-line.lines) line (lines_left c.next_said.new.lines) (c.loop-line.invariant.begun none) c.in-Some.ensures.steps.0),
             ),
           )
       | inr wrong ↦
-          inr (inl (read_fails model_line (cut_of c.args.text.now) (lines_left c.loop-line.lines) (lines_left c.next.new.self) line was.0 c.in-Err.cause was.1 c.in-Some.ensures.steps.0 wrong))
+          inr (inl (read_fails model_line (cut_of c.args.text.now) (lines_left c.loop-line.lines) (lines_left c.next_said.new.lines) line was.0 c.in-Err.cause was.1 c.in-Some.ensures.steps.0 wrong))
     ]

@@ -19,7 +19,7 @@ loop-line-preserved g c =
     let read = c.in_default-read_line.ensures in
     let given : Pit = c.args.builder in (
       _,
-      read_more (precedence_line given) (cut_of c.args.text.now) (lines_left c.loop-line.lines) (lines_left c.next.new.self) (cut_seen c.in-Some.line) was.0 read.0 was.1 c.in-Some.ensures.steps.0
+      read_more (precedence_line given) (cut_of c.args.text.now) (lines_left c.loop-line.lines) (lines_left c.next_listed.new.self) (cut_seen c.in-Some.line) was.0 read.0 was.1 c.in-Some.ensures.steps.0
           (line_of_pit-is with_preds_fact preds_fact given c.loop-line.builder was.0 (fields_left c.in-Some.line.fields) _ was.2 read.1),
       read.2 ∙ ap (λ (p : Pit). with_preds_fact p read.0) was.2 ∙ sym (pit_with-more with_preds_fact given was.0 read.0),
     )
@@ -29,6 +29,6 @@ returns-in-Err g c =
     let was = c.loop-line.invariant in
     let given : Pit = c.args.builder in
     let fields = fields_left c.in-Some.line.fields in
-    read_stops NoMemory (precedence_line given) (cut_of c.args.text.now) (lines_left c.loop-line.lines) (lines_left c.next.new.self) (cut_seen c.in-Some.line) was.0 c.in-Err.cause was.1 c.in-Some.ensures.steps.0
+    read_stops NoMemory (precedence_line given) (cut_of c.args.text.now) (lines_left c.loop-line.lines) (lines_left c.next_listed.new.self) (cut_seen c.in-Some.line) was.0 c.in-Err.cause was.1 c.in-Some.ensures.steps.0
     (subst (λ (r : Result (ℕ × List ℕ) Cause). IsCauseOf NoMemory r c.in-Err.cause)
     (sym (line_of_pit-is with_preds_fact preds_fact given c.loop-line.builder was.0 fields (preds_fact c.loop-line.builder fields) was.2 refl)) c.in-Err.ensures)

@@ -24,7 +24,7 @@ loop-line-preserved g c =
       end = c.in-Some.ensures.steps.1 ∙ c.loop-line.invariant.end;
       facts = (
         _,
-        read_more (solution_line c.args.blocks c.args.periods) (cut_of c.args.text.now) (lines_left c.loop-line.lines) (lines_left c.next.new.self) (cut_seen c.in-Some.line) was.0 read.0 was.1 c.in-Some.ensures.steps.0 read.1,
+        read_more (solution_line c.args.blocks c.args.periods) (cut_of c.args.text.now) (lines_left c.loop-line.lines) (lines_left c.next_pair.new.self) (cut_seen c.in-Some.line) was.0 read.0 was.1 c.in-Some.ensures.steps.0 read.1,
         read.2,
       );
     }
@@ -39,11 +39,11 @@ returns-in-Err g c =
         wanting.0,
         (
           was.0 ++ Some wanting.1.0 ∷ [],
-          inl (read_stands judge (cut_of c.args.text.now) (lines_left c.loop-line.lines) (lines_left c.next.new.self) line was.0 (Some wanting.1.0) was.1 c.in-Some.ensures.steps.0 wanting.1.1),
+          inl (read_stands judge (cut_of c.args.text.now) (lines_left c.loop-line.lines) (lines_left c.next_pair.new.self) line was.0 (Some wanting.1.0) was.1 c.in-Some.ensures.steps.0 wanting.1.1),
           schedules_some was.0 wanting.1.0,
         ),
       )
-      | inr wrong ↦ inr (read_fails judge (cut_of c.args.text.now) (lines_left c.loop-line.lines) (lines_left c.next.new.self) line was.0 c.in-Err.cause was.1 c.in-Some.ensures.steps.0 wrong)
+      | inr wrong ↦ inr (read_fails judge (cut_of c.args.text.now) (lines_left c.loop-line.lines) (lines_left c.next_pair.new.self) line was.0 c.in-Err.cause was.1 c.in-Some.ensures.steps.0 wrong)
     ]
 
 pub returns : goal.returns

@@ -1,0 +1,16 @@
+use Rattle.std.proofs.Common.{Ok, refl, subst}
+use Rattle.std.proofs.lemmas.Result.{err_from_is_err_and}
+use Rattle.pit_num.specs.Refused.{IsRefusedBy}
+use Rattle.pit_model.specs.Pit.{Pit}
+use Rattle.pit_model.specs.declared.error.BuildError.TheVariants.{NoMemory}
+use Rattle.pit_text.specs.SectionFacts.{section_fact_refusal}
+use Rattle.pit_text.specs.Model.{in_section, pit_of}
+use Rattle.pit_text.proofs.Dues.{line_due}
+use Rattle.pit_text.proofs.model.add_said.Goals as goal
+
+pub returns-in_err-add : goal.returns-in_err-add
+returns-in_err-add g c = λ facts says.
+    let p = err_from_is_err_and c.from_residual.result c.from_residual.ensures.1 in
+    rw (p.1, p.2)
+    (line_due (Ok c.args.said) c.args.said (λ e. section_fact_refusal (pit_of facts) e) in_section c.add.result c.in_err-add.field-0.0 refl c.in_err-add.was
+    (subst (λ (pit : Pit). IsRefusedBy NoMemory c.add.result (section_fact_refusal pit c.args.said)) says c.add.ensures.cause))

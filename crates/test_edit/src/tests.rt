@@ -1,3 +1,0 @@
-mod bases;
-mod engine;
-mod merges;

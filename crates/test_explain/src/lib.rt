@@ -1,5 +1,0 @@
-//! The tests of `pit_explain`: no contract says what it writes.
-#![tactic(auto)]
-
-#[cfg(test)]
-mod tests;
