@@ -9,6 +9,7 @@ use pit_book::{
     Reply, ResumeFault, Revisions, Stop, audit, from_lines, to_lines,
 };
 use pit_model::Instance;
+use pit_plan::Plan;
 use pit_tx::Work;
 use std::alloc::Global;
 use std::process::Abort;
@@ -77,10 +78,19 @@ fn assert_answered(rt: &impl Abort, alloc: Global, desk: &mut Desk<Global>) {
 }
 
 fn reply_of(rt: &impl Abort, desk: &mut Desk<Global>, work: Work<Global>) -> Option<Reply> {
-    assert!(rt; desk.fits(&work));
-    match desk.commit(work) {
+    if !desk.fits(&work) {
+        panic!(rt; "of another pit");
+    }
+    replied(rt, desk.commit(work))
+}
+
+fn replied(rt: &impl Abort, answer: Result<Reply, (Work<Global>, Stop)>) -> Option<Reply> {
+    match answer {
         Ok(reply) => Some(reply),
-        Err((_work, stop)) => full(rt, stop),
+        Err((work, stop)) => {
+            drop(work);
+            full(rt, stop)
+        }
     }
 }
 
@@ -101,8 +111,12 @@ fn assert_withdrawn(rt: &impl Abort, alloc: Global, desk: &mut Desk<Global>) {
 }
 
 fn withdraw(rt: &impl Abort, desk: &mut Desk<Global>, work: Work<Global>) {
-    assert!(rt; desk.fits(&work));
-    let is_done = desk.withdraw(work).is_ok();
+    if !desk.fits(&work) {
+        panic!(rt; "of another pit");
+    }
+    let answer = desk.withdraw(work);
+    let is_done = answer.is_ok();
+    drop(answer);
     assert!(rt; is_done);
 }
 
@@ -137,12 +151,15 @@ fn assert_written(rt: &impl Abort, alloc: Global, first: &[Entry<Global>]) {
 
 fn assert_read(rt: &impl Abort, alloc: Global, first: &[Entry<Global>]) {
     let again = from_lines(alloc, alloc, HISTORY).expect(rt, "a history");
-    let are_same = again.len() == 3 && are_same(&again, first);
+    let are_same = are_same(&again, first);
     drop(again);
     assert!(rt; are_same);
 }
 
 fn are_same(history: &[Entry<Global>], other: &[Entry<Global>]) -> bool {
+    if history.len() != other.len() {
+        return false;
+    }
     for (a, b) in history.iter().zip(other.iter()) {
         if !a.is_same(b) {
             return false;
@@ -153,31 +170,43 @@ fn are_same(history: &[Entry<Global>], other: &[Entry<Global>]) -> bool {
 
 /// The value to which a history leads on the small pit.
 fn audited(rt: &impl Abort, alloc: Global, history: &[Entry<Global>]) -> Result<i128, AuditFault> {
+    assert!(rt; history.len() < 100);
     let pit = tiny(rt, alloc);
     let None = pit.unmeetable() else {
         panic!(rt; "unmeetable");
     };
-    assert!(rt; history.len() < 100);
-    let plan = audit(alloc, pit, history)?;
+    match audit(alloc, pit, history) {
+        Ok(plan) => Ok(worth_of(plan)),
+        Err(fault) => Err(fault),
+    }
+}
+
+fn worth_of(plan: Plan<Global>) -> i128 {
     let value = plan.value();
     drop(plan);
-    Ok(value)
+    value
 }
 
 /// An entry by hand, whose reply isn't due to it.
-#[test]
-fn an_audit_finds_what_is_wrong(rt: HostRuntime) {
-    let entry = Entry {
+fn entry_of(alloc: Global) -> Entry<Global> {
+    Entry {
         planner: 1,
         job: 1,
         start: 0,
-        reads: Pairs::new(Vec::new(rt.alloc())),
-        writes: Pairs::new(Vec::new(rt.alloc())),
-        revises: Revisions::new(Vec::new(rt.alloc())),
+        reads: Pairs::new(Vec::new(alloc)),
+        writes: Pairs::new(Vec::new(alloc)),
+        revises: Revisions::new(Vec::new(alloc)),
         act: Act::Commit,
         reply: EntryReply::Committed { number: 2 },
-    };
-    match audited(&rt, rt.alloc(), &[entry]) {
+    }
+}
+
+#[test]
+fn an_audit_finds_what_is_wrong(rt: HostRuntime) {
+    let history = [entry_of(rt.alloc())];
+    let answer = audited(&rt, rt.alloc(), &history);
+    drop(history);
+    match answer {
         Ok(_) => panic!(rt; "legal"),
         Err(AuditFault::Place { place }) => assert!(rt; place == 1),
         Err(AuditFault::NoMemory) => panic!(rt; "no memory"),
@@ -208,7 +237,10 @@ fn started(
     assert!(rt; pit.periods() > 1);
     match Desk::open(alloc, pit, &[(block, 1)], max_entries) {
         Ok(desk) => Ok(desk),
-        Err((_pit, error)) => Err(error),
+        Err((pit, error)) => {
+            drop(pit);
+            Err(error)
+        }
     }
 }
 

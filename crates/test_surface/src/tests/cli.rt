@@ -158,48 +158,61 @@ fn each_plan_is_made(rt: HostRuntime) {
 }
 
 fn is_planned<R: Threads + Wait + Abort + Sync>(rt: &R, alloc: Global, row: Planned) -> bool {
-    let (begins, is_in_turn, script, status, lines) = row;
-    let input = input_of(rt, alloc, begins, script);
-    let options = PlanOptions {
-        retries: 3,
-        is_in_turn,
-        is_strict: true,
-    };
+    let (_, _, _, status, lines) = row;
     let mut solution = Out::new(Vec::new(alloc));
     let mut report = Out::new(Vec::new(alloc));
     let mut history = Some(Stream {
         sink: Out::new(Vec::new(alloc)),
     });
-    let answer = plan(
-        rt,
-        alloc,
-        alloc,
-        input,
-        options,
-        &mut solution,
-        &mut report,
-        &mut history,
-    );
+    let answer = planned(rt, alloc, row, &mut solution, &mut report, &mut history);
     let is_solution = is_written(solution, b"0 0\n1 0\n3 1\n");
     let is_report = is_written(report, lines);
     let is_history = is_written(history.expect(rt, "a device").sink, HISTORY);
     answer == Ok(status) && is_solution && is_report && is_history
 }
 
+fn planned<R: Threads + Wait + Abort + Sync>(
+    rt: &R,
+    alloc: Global,
+    row: Planned,
+    solution: &mut Out<Vec<u8>>,
+    report: &mut Out<Vec<u8>>,
+    history: &mut Option<Stream<Out<Vec<u8>>>>,
+) -> Result<Status, CliFault> {
+    let (begins, is_in_turn, script, _, _) = row;
+    let input = input_of(rt, alloc, begins, script);
+    let options = PlanOptions {
+        retries: 3,
+        is_in_turn,
+        is_strict: true,
+    };
+    plan(rt, alloc, alloc, input, options, solution, report, history)
+}
+
 fn input_of(rt: &impl Abort, alloc: Global, begins: Begins, script: &[u8]) -> PlanInput<Global> {
-    let beginning = match begins {
+    let model = bytes_of(rt, alloc, MODEL);
+    let precedence = bytes_of(rt, alloc, PRECEDENCE);
+    let blocks = Some(bytes_of(rt, alloc, BLOCKS));
+    let beginning = beginning_of(rt, alloc, begins);
+    let scripts = scripts_of(rt, alloc, script);
+    PlanInput::new(model, precedence, blocks, beginning, scripts)
+}
+
+fn beginning_of(rt: &impl Abort, alloc: Global, begins: Begins) -> Beginning<Global> {
+    match begins {
         Begins::Nothing => Beginning::nothing(),
         Begins::NoHistory => Beginning::no_history(),
         Begins::Schedule => Beginning::schedule(bytes_of(rt, alloc, HISTORY)),
         Begins::History => Beginning::history(bytes_of(rt, alloc, HISTORY)),
-    };
+    }
+}
+
+fn scripts_of(rt: &impl Abort, alloc: Global, script: &[u8]) -> Vec<Vec<u8>> {
     let mut scripts = Vec::new(alloc);
-    let script = bytes_of(rt, alloc, script);
-    assert!(rt; scripts.push(script).is_ok());
-    let model = bytes_of(rt, alloc, MODEL);
-    let precedence = bytes_of(rt, alloc, PRECEDENCE);
-    let blocks = Some(bytes_of(rt, alloc, BLOCKS));
-    PlanInput::new(model, precedence, blocks, beginning, scripts)
+    scripts
+        .push(bytes_of(rt, alloc, script))
+        .expect(rt, "memory");
+    scripts
 }
 
 fn bytes_of(rt: &impl Abort, alloc: Global, text: &[u8]) -> Vec<u8> {

@@ -19,15 +19,20 @@ pub(super) fn limited(rt: &impl Abort, alloc: Global) -> Instance<Global> {
         Ok(builder) => builder,
         Err(NoMemory) => panic!(rt; "no memory"),
     };
-    match told(&mut builder) {
-        Ok(()) => {}
-        Err(BuildError::NoMemory) => panic!(rt; "no memory"),
-        Err(_) => panic!(rt; "refused"),
-    }
+    let answer = told(&mut builder);
+    assert_told(rt, answer);
     assert_refused(rt, &mut builder);
     match builder.build() {
         Ok(pit) => pit,
         Err((_builder, NoMemory)) => panic!(rt; "no memory"),
+    }
+}
+
+fn assert_told(rt: &impl Abort, answer: Result<(), BuildError>) {
+    match answer {
+        Ok(()) => {}
+        Err(BuildError::NoMemory) => panic!(rt; "no memory"),
+        Err(_) => panic!(rt; "refused"),
     }
 }
 

@@ -156,7 +156,7 @@ fn assert_missing(rt: &impl Abort, error: CloseError) {
     assert!(rt; error == CloseError::Missing { planner: 1 });
 }
 
-/// Planner 1 has begun when planner 2 commits. It begins anew, and gives that up.
+/// Planner 1 has begun when planner 2 commits.
 fn logs_of<S: Session, R: Wait + Drop, W: Wait + Abort>(
     rt: &W,
     alloc: Global,
@@ -179,8 +179,16 @@ fn logs_by<'a, S: Session, R: Wait + Drop, W: Wait + Abort>(
 ) -> Vec<PlannerLog<S, Global>> {
     let first = first.begin(1).ok().expect(rt, "memory");
     let second = after_commit(rt, second).finish();
-    let first = after_abort(rt, first).begin(2).ok().expect(rt, "memory");
-    let first = first.abandon().finish();
+    let first = after_abort(rt, first).finish();
+    both(rt, alloc, first, second)
+}
+
+fn both<S: Session>(
+    rt: &impl Abort,
+    alloc: Global,
+    first: PlannerLog<S, Global>,
+    second: PlannerLog<S, Global>,
+) -> Vec<PlannerLog<S, Global>> {
     let mut logs = Vec::new(alloc);
     logs.push(first).expect(rt, "memory");
     logs.push(second).expect(rt, "memory");
@@ -232,16 +240,24 @@ fn is_filled<S: Session, R: Wait + Drop>(transaction: &mut Transaction<'_, S, R,
         && has_pairs(transaction.writes(), &[(2, Some(1)), (3, None)])
 }
 
-/// Planner 1 can't read block 3 any more, and withdraws.
+/// Planner 1 can't read block 3 any more, and withdraws. It begins anew, and gives that up.
 fn after_abort<'a, S: Session, R: Wait + Drop, W: Wait + Abort>(
     rt: &W,
     mut transaction: Transaction<'a, S, R, Global>,
 ) -> Planner<'a, S, R, Global> {
     assert!(rt; has_moved(&mut transaction));
     match transaction.abort(rt) {
-        Ok(planner) => planner,
+        Ok(planner) => anew(rt, planner),
         Err((transaction, _)) => transaction.abandon(),
     }
+}
+
+fn anew<'a, S: Session, R: Wait + Drop>(
+    rt: &impl Abort,
+    planner: Planner<'a, S, R, Global>,
+) -> Planner<'a, S, R, Global> {
+    let transaction = planner.begin(2).ok().expect(rt, "memory");
+    transaction.abandon()
 }
 
 fn has_moved<S: Session, R: Wait + Drop>(transaction: &mut Transaction<'_, S, R, Global>) -> bool {
@@ -256,23 +272,32 @@ const SCRIPT: &[u8] =
 
 #[test]
 fn a_planner_does_its_script(rt: HostRuntime) {
-    let desk = empty_desk(&rt, rt.alloc(), 100);
-    let script = script_of(&rt, rt.alloc(), desk.plan().instance());
-    let jobs = script.jobs();
-    let scripts = [script];
-    let answer = shared(&rt, rt.alloc(), desk, 1, &scripts);
-    drop(scripts);
+    let answer = by_script(&rt, rt.alloc());
     assert_shared(&rt, answer, (3, 1));
-    assert!(rt; jobs == 3);
+}
+
+fn by_script<R: Threads + Wait + Abort + Sync>(rt: &R, alloc: Global) -> Shared {
+    let desk = empty_desk(rt, alloc, 100);
+    let scripts = [script_of(rt, alloc, desk.plan().instance())];
+    let answer = shared(rt, alloc, desk, 1, &scripts);
+    drop(scripts);
+    answer
 }
 
 fn script_of(rt: &impl Abort, alloc: Global, pit: &Instance<Global>) -> Script<Global>
     ensures { result.pit ≡ pit.now }
 {
     match Script::parse(alloc, SCRIPT, pit) {
-        Ok(script) => script,
+        Ok(script) => {
+            assert_jobs(rt, &script);
+            script
+        }
         Err(_) => panic!(rt; "no script"),
     }
+}
+
+fn assert_jobs(rt: &impl Abort, script: &Script<Global>) {
+    assert!(rt; script.jobs() == 3);
 }
 
 /// The desk that a run of the script leaves.
@@ -348,14 +373,18 @@ impl Gate for Counting {
 #[test]
 fn planners_take_turns(rt: HostRuntime) {
     let gate = Counting(AtomicU64::new(0));
-    let desk = empty_desk(&rt, rt.alloc(), 2);
-    let scripts = [script_of(&rt, rt.alloc(), desk.plan().instance())];
-    let answer = run_in_turn(&rt, rt.alloc(), desk, &scripts, 3, &gate);
-    drop(scripts);
-    let report = answer.ok().expect(&rt, "a report");
+    let report = in_turn(&rt, rt.alloc(), &gate);
     assert_stopped(&rt, &report);
     drop(report);
     assert!(rt; gate.0.load(Ordering::SeqCst) == 22);
+}
+
+fn in_turn<R: Wait + Abort>(rt: &R, alloc: Global, gate: &Counting) -> Report<Global> {
+    let desk = empty_desk(rt, alloc, 2);
+    let scripts = [script_of(rt, alloc, desk.plan().instance())];
+    let answer = run_in_turn(rt, alloc, desk, &scripts, 3, gate);
+    drop(scripts);
+    answer.ok().expect(rt, "a report")
 }
 
 fn assert_stopped(rt: &impl Abort, report: &Report<Global>) {

@@ -59,6 +59,12 @@ fn a_solution_is_written(rt: HostRuntime) {
     assert!(rt; answer == Ok(()) && is_text);
 }
 
+/// What is wrong with precedences of the small pit.
+fn order_fault(rt: &impl Abort, alloc: Global, text: &[u8]) -> Option<TextError> {
+    let builder = read_model(alloc, MODEL).expect(rt, "a model");
+    read_precedence(alloc, text, builder).err()
+}
+
 /// A text, the line of its first fault, and what is wrong with it.
 type Faulty = (&'static [u8], u64, Cause);
 
@@ -106,8 +112,7 @@ const PRECEDENCES: &[Faulty] = &[
 #[test]
 fn precedences_and_places_may_have_a_fault(rt: HostRuntime) {
     for (text, line, cause) in PRECEDENCES {
-        let builder = read_model(rt.alloc(), MODEL).expect(&rt, "a model");
-        let error = read_precedence(rt.alloc(), text, builder).err();
+        let error = order_fault(&rt, rt.alloc(), text);
         assert!(rt; is_error(error, *line, *cause));
     }
     let error = read_blocks(BLOCKS, tiny_builder(&rt, rt.alloc())).err();

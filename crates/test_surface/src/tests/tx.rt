@@ -26,8 +26,14 @@ pub(super) fn work_of(rt: &impl Abort, alloc: Global, call: Call<'_>) -> Work<Gl
         Ok(work) => work,
         Err(NoMemory) => panic!(rt; "no memory"),
     };
-    match filled(&mut work, reads, writes) {
-        Ok(()) => work,
+    let answer = filled(&mut work, reads, writes);
+    assert_done(rt, answer);
+    work
+}
+
+fn assert_done(rt: &impl Abort, answer: Result<(), WorkError>) {
+    match answer {
+        Ok(()) => {}
         Err(WorkError::NoMemory) => panic!(rt; "no memory"),
         Err(_) => panic!(rt; "refused"),
     }
@@ -38,12 +44,16 @@ fn filled(work: &mut Work<Global>, reads: &[Pair], writes: &[Pair]) -> Result<()
         work.note(*block, *period)?;
     }
     for (block, period) in writes {
-        match period {
-            Some(t) => work.put(*block, *t)?,
-            None => work.clear(*block)?,
-        }
+        put(work, *block, *period)?;
     }
     Ok(())
+}
+
+fn put(work: &mut Work<Global>, block: u32, period: Option<u32>) -> Result<(), WorkError> {
+    match period {
+        Some(t) => work.put(block, t),
+        None => work.clear(block),
+    }
 }
 
 /// Whether it knows what was read and written, and refuses what is out of range.
