@@ -304,7 +304,11 @@ check 'plan, 65 scripts' 2 '' 'pit: planner count' plan model precedence "${scri
 yes $'begin\ncommit' | head -n 2000000 >longest
 "$pit" plan model precedence longest >out 2>err </dev/null
 status=$?
-seq 1000000 | sed 's/.*/planner 1 job & committed & tries 1/' | cmp -s - <(head -n 1000000 err) && sed -i 1,1000000d err
+if seq 1000000 | sed 's/.*/planner 1 job & committed & tries 1/' | cmp -s - <(head -n 1000000 err); then
+    sed -i 1,1000000d err
+else
+    sed -i '5,$d' err
+fi
 compare 'plan, 1,000,000 jobs' 1 '' "$NOTHING"
 printf 'begin\ncommit\n' >>longest
 check 'plan, 1,000,001 jobs' 2 '' 'pit: script 1 line 2000001: too many jobs' plan model precedence longest

@@ -5,8 +5,8 @@ field. What it prints and its status have to be the same.
 usage: tests/plain.py PIT [PITS [SEED]]      60 pits from seed 1, where these aren't said
 
 Plain are digits with single blanks between and a line feed behind, in some texts a minus and a point. The other forms have doubled blanks, tabs, colons,
-carriage returns, blanks at the ends of lines, or zeros before numbers. The numbers have 1 to 12 digits, so that lines end at each place of a word. Some
-texts have faults, and one pit's texts are cut behind each byte. Ends with status 1 at the first difference, and leaves the texts.
+carriage returns, blanks at the ends of lines, or zeros before numbers. Whole numbers have 1 to 12 digits, on both sides of the nine that a plain line may
+have. Some texts have faults, and one pit's texts are cut behind each byte. Ends with status 1 at the first difference, and leaves the texts.
 """
 import os
 import random
@@ -120,6 +120,7 @@ def put(folder, texts):
 
 def compare(texts, commands, forms, what):
     """Compares what is said of the texts with what is said of them in each other form."""
+    runs = len(commands)
     with tempfile.TemporaryDirectory() as folder:
         put(folder, texts)
         plain = [said(folder, command) for command in commands]
@@ -130,12 +131,13 @@ def compare(texts, commands, forms, what):
                 if form == "zeros" and command[0] == "info":
                     continue
                 other = said(folder, command)
+                runs += 1
                 if other != first:
                     kept = tempfile.mkdtemp(prefix="plain-")
                     put(kept, texts)
                     print(f"{what}, {command[0]}, with {form}: {first} became {other}; the texts are in {kept}")
                     sys.exit(1)
-    return len(commands) * (1 + len(forms)), [it[0] for it in plain]
+    return runs, [it[0] for it in plain]
 
 
 def main():
@@ -155,7 +157,7 @@ def main():
         for end in range(len(whole[k]) + 1):
             texts = [it[:end] if at == k else it for at, it in enumerate(whole)]
             runs += compare(texts, [command], ["doubled blanks", "zeros"], f"{NAMES[k]} cut behind {end} bytes")[0]
-    # Each end comes up, so the draws are of use.
+    # Texts that are read and texts that are refused come up, so the draws are of use.
     if not {0, 2} <= set(statuses):
         print(f"only the statuses {sorted(statuses)} came up")
         sys.exit(1)

@@ -17,6 +17,7 @@ pub struct Looked<'a, 'b> {
 }
 
 impl<'a, 'b> Looked<'a, 'b> {
+    /// The files that these words name for this engine.
     pub fn new(rt: &'a HostRuntime, engine: Engine, given: &'a ArgMatches<'b>) -> Looked<'a, 'b> {
         Looked { rt, engine, given }
     }

@@ -108,6 +108,7 @@ fn push_scripts(inputs: &mut Vec<Input>, count: usize) -> Result<(), CliFault>
     Ok(())
 }
 
+/// Appends an item, or answers that there is no memory.
 pub fn push<T: Drop>(list: &mut Vec<T>, item: T) -> Result<(), CliFault>
     ensures ok { OnOk result (list.new.items ≡ list.old.items ++ item ∷ []) }
     ensures err { IfErr result (λ fault. fault ≡ CliFault.NoMemory) }

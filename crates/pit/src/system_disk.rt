@@ -16,6 +16,7 @@ pub struct SystemDisk<'a> {
 }
 
 impl<'a> SystemDisk<'a> {
+    /// The system's files.
     pub fn new(rt: &'a HostRuntime) -> SystemDisk<'a> {
         SystemDisk { rt }
     }

@@ -28,7 +28,7 @@ pub fn history_base<A: Allocator + Drop>(
     Ok(commit_count(shared))
 }
 
-/// From how many of the commits that a merge begins with a solution was made. As many as its first line says, where `show` wrote that line of their
+/// How many commits, of those that a merge begins with, a solution was made from. As many as its first line says, where `show` wrote that line of their
 /// entries. Else as many as are asked for; or all, where no history was resumed. Takes the memory of the longest line of an entry, where there is
 /// such a line.
 pub fn solution_base<A: Allocator + Copy + Drop>(

@@ -11,7 +11,7 @@ ghost use Rattle.pit_job.specs.Effect.{Known, Agrees, Effect, effect, changes, u
 ghost use Rattle.pit_job.specs.Runs.{RanFrom, Ran};
 ghost use Rattle.pit_job.specs.JobByJob.{of_job, HasOwnEffect, EndsAfter};
 
-/// A law of effects: where a job reads no block that a map doesn't know, each map that agrees with this one has the same effect.
+/// A law of effects: where a job reads only blocks that a map knows, its effect is the same over each map that agrees with this one.
 pub fn one_effect()
     ensures { (pit : Pit) (job : Job) (known more : Known)
         → Agrees known more → effect pit job known ≢ unread → effect pit job more ≡ effect pit job known }

@@ -13,7 +13,7 @@ pub enum ScriptCause {
     /// The line has fewer fields behind its word than that takes, or more.
     #[error("field count")]
     FieldCount,
-    /// A field isn't the number that stands at its place.
+    /// A field isn't a number such as its place needs.
     #[error("{0}")]
     BadNumber(NumError),
     /// A block is not below the number of blocks.

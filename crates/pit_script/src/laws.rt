@@ -14,8 +14,8 @@ pub fn no_fault_wants_memory()
     ensures { (pit : Pit) (lines : List Cut) (end place : ℕ) → FailsWhole (script_line pit) script_end lines end place ScriptCause.NoMemory → ⊥ }
 {}
 
-/// A law of scripts: a job is what stands between its `begin` and its end. What the lines of a script say is what its jobs come to written out, one
-/// after another; and jobs that are written out so are read as these jobs.
+/// A law of scripts: a job is what stands between its `begin` and its end. What the lines of a script say is its jobs, written out one after another;
+/// and of jobs written out so, `jobs_of` gives these jobs.
 pub fn jobs_stand_between()
     ensures between { (pit : Pit) (lines : List Cut) (facts : List ScriptFact) → StandsWhole (script_line pit) script_end lines facts → facts ≡ lines_of_jobs (jobs_of facts) }
     ensures written { (jobs : List Job) → jobs_of (lines_of_jobs jobs) ≡ jobs }

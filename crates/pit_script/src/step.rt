@@ -44,6 +44,6 @@ pub enum Step {
 pub enum JobEnd {
     /// The transaction of the job commits.
     Commit,
-    /// The job gives up: its transaction is withdrawn.
+    /// The transaction of the job aborts, and makes an entry.
     Abort,
 }

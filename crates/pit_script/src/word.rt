@@ -23,7 +23,7 @@ pub enum Word {
     Revise,
     /// `commit`: the job ends, and commits.
     Commit,
-    /// `abort`: the job ends, and gives up.
+    /// `abort`: the job ends, and aborts.
     Abort,
 }
 

@@ -30,7 +30,7 @@ pub enum Cause {
     /// The line has fewer fields than its form, or more.
     #[error("field count")]
     FieldCount,
-    /// A field isn't the number that stands at its place.
+    /// A field isn't a number such as its place needs.
     #[error("{0}")]
     BadNumber(NumError),
     /// What is known of the pit refuses the fact. Its refusal is never `NoMemory`.

@@ -37,8 +37,8 @@ pub fn read_precedence<A: Allocator + Copy + Drop, B: Allocator + Copy + Drop>(
     Ok(builder)
 }
 
-/// A line, whose predecessors are left in the list. They may be there, and the block be known; or memory was wanted for them. Where there is no
-/// memory for them, the line is judged without it.
+/// Adds a line. `known` has its block where the line was plain, and its predecessors are then in the list; or that there was no memory for these. Where
+/// there is none, the line is judged without a list.
 fn read_line<A: Allocator + Copy + Drop, B: Allocator + Drop>(
     builder: &mut Builder<A>,
     listed: &mut Vec<u32, B>,

@@ -97,7 +97,7 @@ fn refuse_each(rt: &impl Abort, alloc: Global, between: (u64, u64), run: Run<'_>
     panic!(rt; "never whole");
 }
 
-/// The fault is that it is out of memory, which was refused.
+/// The fault is that it is out of memory, and a request was refused.
 fn assert_refused(rt: &impl Abort, heap: Heap<'_>, before: Count, is_no_memory: bool) {
     assert!(rt; is_no_memory);
     assert!(rt; heap.count().has_refused_since(before));

@@ -9,6 +9,7 @@ use super::DIGITS_MAX;
 /// The greatest length of a text whose digits always write a number below 2^64.
 pub const SHORT_MAX: usize = 19;
 
+/// Whether each byte is a digit.
 pub fn are_digits(text: &[u8]) -> bool
     ensures { result ≡ are_digits text.now }
 {

@@ -1,4 +1,4 @@
--- Plain lines: fields of digits, one blank between two of them, and a line feed behind the last.
+-- Plain lines: fields of digits, the last perhaps with points and minus signs; one blank between two of them, and a line feed behind the last.
 use Rattle.std.specs.Prelude.{◌≡◌, ℕ, ◌<◌, ◌==◌, ◌||◌, Bool, true, false, List, [], ◌∷◌, ◌++◌, length, Ok}
 use Rattle.std.specs.List.{list_all}
 use Rattle.std.specs.Char.{is_ascii_digit}

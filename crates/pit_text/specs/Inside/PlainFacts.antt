@@ -8,12 +8,12 @@ use Rattle.pit_text.specs.SectionFacts.{section_fact_of}
 use Rattle.pit_text.specs.Model.{section_of}
 use Rattle.pit_text.specs.Inside.Plain.{is_value, IsLineThen}
 
--- a text begins with digits, points and signs, and with a line feed, and this is behind it
+-- a text begins with digits, points and minus signs, then a line feed, and this is behind it
 pub record IsFieldThen (text field rest : List ℕ) : Type 0 where
   pub whole : text ≡ field ++ 10 ∷ rest
   pub bytes : list_all is_value field ≡ true
 
--- these stand for this number
+-- a text begins with such a field, which is this number, and this is behind its line feed
 pub record IsValueThen (text : List ℕ) (value : ℤ) (rest : List ℕ) : Type 0 where
   pub field : List ℕ
   pub then : IsFieldThen text field rest

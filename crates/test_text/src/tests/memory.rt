@@ -220,7 +220,7 @@ DISCOUNT_RATE: 0.1
     ),
 ];
 
-/// A number of predecessors that isn't that of the line takes no memory.
+/// On a line that isn't plain a wrong number of predecessors takes no memory.
 const COUNTS: &[Text] = &[
     (b"3 3\n", Err((1, InPit(CountWrong)))),
     (b"3  3 0 1\n", Err((1, InPit(CountWrong)))),
@@ -235,8 +235,8 @@ const CAME: &[Text] = &[
     (b"3 999999999 0 1 2\n", Err((1, InPit(CountWrong)))),
 ];
 
-/// Texts for which no reader takes memory, and the requests of what they are read into. A line of places is judged first; a line that mines nothing
-/// needs no slot.
+/// Texts, and how many requests they make: those of what they are read into, and on a plain line of precedences one for its list. A line of places is
+/// judged first; a line that mines nothing needs no slot.
 const QUIET: &[(Kind<'static>, u64, &[Text])] = &[
     (Model(Look::Sum), 0, HEADERS),
     (Precedence(TINY_SIZE, Look::Sum), BUILDER, COUNTS),

@@ -1,4 +1,4 @@
-//! What callers see of a refusal of the allocator that all tests that run out of memory rest on.
+//! The allocator that refuses, on which tests of memory rest: what its callers see.
 use pit_sample::{Heap, Refusing};
 use std::alloc::{AllocError, Allocator};
 use std::process::Abort;
