@@ -1,4 +1,5 @@
 pub mod Prefixes
+pub mod Commits
 pub mod Lawful
 pub mod Slots
 pub mod Adding

@@ -1,8 +1,8 @@
 -- What contracts see of a planner's view.
 use Rattle.std.specs.Prelude.{ℕ, List}
-use Rattle.pit_plan.specs.Schedule.{Commit}
+use Rattle.pit_desk.specs.History.{Answered}
 
--- the commits that the planner has seen, and how many entries its share counts
+-- the entries of the history that the planner has seen, and how many its share counts
 pub record Sight : Type 0 where
-  pub seen : List Commit
+  pub seen : List Answered
   pub amount : ℕ

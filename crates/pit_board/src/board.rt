@@ -1,6 +1,7 @@
 //! The board that readers see.
 ghost use Rattle.std.specs.Prelude.{◌≡◌, ◌<◌, ◌≤◌, ℕ, Some, length, All, IfSome, slice_index_or, nat_eq, if◌then◌else◌};
 ghost use Rattle.pit_num.specs.declared.limits.TheConstants.{PERIODS_MAX};
+ghost use Rattle.pit_desk.specs.History.{commits_of};
 ghost use Rattle.pit_board.specs.Inside.Boards.{ShowsAll, slot_after, taken_in};
 ghost use Rattle.pit_board.specs.declared.slot.Slot.{Slot};
 
@@ -12,7 +13,7 @@ use left_right::Absorb;
 use std::alloc::{AllocError, Allocator};
 use std::marker::Model;
 
-/// A slot for each block, and the front whose commits they show. Contracts see the commits.
+/// A slot for each block, and the front whose commits they show. Contracts see the front.
 #[derive(Drop)]
 pub struct Board<S: Session, A: Allocator + Copy + Drop> {
     slots: Vec<KeptSlot, A>,
@@ -22,21 +23,21 @@ pub struct Board<S: Session, A: Allocator + Copy + Drop> {
 impl<S: Session, A: Allocator + Copy + Drop> Model for Board<S, A> {
     ghost use Rattle.std.specs.Prelude.{◌≤◌, List};
     ghost use Rattle.pit_num.specs.declared.limits.TheConstants.{PERIODS_MAX};
-    ghost use Rattle.pit_plan.specs.Schedule.{Commit};
+    ghost use Rattle.pit_desk.specs.History.{Answered, commits_of};
     ghost use Rattle.pit_board.specs.Inside.Boards.{ShowsAll};
 
-    ghost Value = { List Commit };
+    ghost Value = { List Answered };
 
     ghost view = { λ b. b.front };
 
-    ghost invariant = { λ b. (S.instance.periods ≤ PERIODS_MAX) × ShowsAll S.instance.blocks b.front b.slots.items };
+    ghost invariant = { λ b. (S.instance.periods ≤ PERIODS_MAX) × ShowsAll S.instance.blocks (commits_of b.front) b.slots.items };
 }
 
 impl<S: Session, A: Allocator + Copy + Drop> Board<S, A> {
     /// A board that shows a front by these slots.
     pub(crate) fn new(slots: Vec<KeptSlot, A>, front: &Front<S>) -> Board<S, A>
         requires few_periods { S.instance.periods ≤ PERIODS_MAX }
-        requires slots { ShowsAll S.instance.blocks front.now slots.items }
+        requires slots { ShowsAll S.instance.blocks (commits_of front.now) slots.items }
         ensures { result ≡ front.now }
     {
         Board {
@@ -45,7 +46,7 @@ impl<S: Session, A: Allocator + Copy + Drop> Board<S, A> {
         }
     }
 
-    /// The commits that it shows.
+    /// The front whose commits it shows.
     pub(crate) fn front(&self) -> &Front<S>
         ensures { result.now ≡ self.now }
     {
@@ -54,7 +55,7 @@ impl<S: Session, A: Allocator + Copy + Drop> Board<S, A> {
 
     /// A slot for each block.
     pub(crate) fn slots(&self) -> &[KeptSlot]
-        ensures { ShowsAll S.instance.blocks self.now result.now }
+        ensures { ShowsAll S.instance.blocks (commits_of self.now) result.now }
     {
         self.slots.as_slice()
     }
@@ -63,7 +64,7 @@ impl<S: Session, A: Allocator + Copy + Drop> Board<S, A> {
     fn take_in(&mut self, stamp: &Stamp<S, A>)
         ensures { self.new ≡ taken_in self.old (Some stamp.now) }
     {
-        if self.front.is_same(&stamp.before) {
+        if self.front.has_commits_of(&stamp.before) {
             let front = stamp.after.again();
             write_slots(&mut self.slots, front.count(), stamp.changes.writes());
             self.front = front;
@@ -109,7 +110,7 @@ fn write_slot<A: Allocator + Copy + Drop>(slots: &mut Vec<KeptSlot, A>, block: u
 impl<S: Session, A: Allocator + Copy + Drop> Absorb<Operation<S, A>> for Board<S, A> {
     ghost use Rattle.pit_board.specs.Inside.Boards.{taken_in};
 
-    /// The commits that both show.
+    /// The front that both have.
     type State = Front<S>;
 
     ghost state = { λ board. board };

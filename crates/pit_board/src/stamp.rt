@@ -1,5 +1,6 @@
 //! What the board takes in.
 ghost use Rattle.std.specs.Prelude.{◌≡◌, ◌++◌, ◌∷◌, [], None, Some};
+ghost use Rattle.pit_desk.specs.History.{commits_of};
 
 use crate::changes::Changes;
 use crate::front::Front;
@@ -7,7 +8,7 @@ use crate::session::Session;
 use std::alloc::{Allocator, Global};
 use std::marker::{Brand, Model};
 
-/// A commit that stands in the list: its changes, and the fronts before it and with it. Contracts see both fronts.
+/// A commit whose entry stands in the list: its changes, and the fronts before it and with it. Contracts see both fronts.
 #[derive(Drop)]
 pub struct Stamp<S: Session, A: Allocator + Copy + Drop> {
     pub(crate) changes: Changes<A>,
@@ -17,18 +18,19 @@ pub struct Stamp<S: Session, A: Allocator + Copy + Drop> {
 
 impl<S: Session, A: Allocator + Copy + Drop> Model for Stamp<S, A> {
     ghost use Rattle.std.specs.Prelude.{◌≡◌, ◌++◌, ◌∷◌, []};
+    ghost use Rattle.pit_desk.specs.History.{commits_of};
     ghost use Rattle.pit_board.specs.Inside.Boards.{Stamped};
 
     ghost Value = { Stamped };
 
     ghost view = { λ s. record { before = s.before; after = s.after } };
 
-    ghost invariant = { λ s. s.after ≡ s.before ++ s.changes ∷ [] };
+    ghost invariant = { λ s. commits_of s.after ≡ commits_of s.before ++ s.changes ∷ [] };
 }
 
 impl<S: Session, A: Allocator + Copy + Drop> Stamp<S, A> {
     pub(crate) fn new(changes: Changes<A>, before: Front<S>, after: Front<S>) -> Stamp<S, A>
-        requires { after ≡ before ++ changes ∷ [] }
+        requires { commits_of after ≡ commits_of before ++ changes ∷ [] }
         ensures { result ≡ record { before = before; after = after } }
     {
         Stamp {
@@ -39,7 +41,7 @@ impl<S: Session, A: Allocator + Copy + Drop> Stamp<S, A> {
     }
 }
 
-/// An operation of the board: a commit that stands in the list; or nothing, which takes as much room. The writer appends that one before the commit
+/// An operation of the board: a commit whose entry stands in the list; or nothing, which takes as much room. The writer appends that one before the commit
 /// is entered.
 #[derive(Drop)]
 pub struct Operation<S: Session, A: Allocator + Copy + Drop> {

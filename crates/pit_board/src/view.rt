@@ -1,6 +1,7 @@
 //! What one planner sees without a lock.
 ghost use Rattle.std.specs.Prelude.{◌≡◌, ◌+◌, ◌<◌, length, MatchOption, IfSome, IfNone};
 ghost use mathlib.Core.List.{IsPrefix};
+ghost use Rattle.pit_desk.specs.History.{commits_of};
 ghost use Rattle.pit_board.specs.Boards.{slot_of};
 ghost use Rattle.pit_board.specs.Fronts.{AreLawful};
 
@@ -13,8 +14,8 @@ use std::alloc::Allocator;
 use std::marker::Model;
 use std::sync::ledger::{Book, Share};
 
-/// A planner's place at the board, the commits that it has seen, and its share of the count of entries. Contracts see the commits and the
-/// share's amount.
+/// A planner's place at the board, the entries that it has seen, and its share of the count of entries. Contracts see the entries and the share's
+/// amount.
 #[derive(Drop)]
 pub struct View<S: Session, A: Allocator + Copy + Drop> {
     reader: ReadHandle<Board<S, A>, A>,
@@ -63,10 +64,10 @@ impl<S: Session, A: Allocator + Copy + Drop> View<S, A> {
         (front, share)
     }
 
-    /// The commits that the planner has seen.
+    /// The entries that the planner has seen.
     pub fn front(&self) -> &Front<S>
         ensures seen { result.now ≡ self.now.seen }
-        ensures lawful { AreLawful S.instance self.now.seen }
+        ensures lawful { AreLawful S.instance (commits_of self.now.seen) }
     {
         let front = &self.front;
         front.shows_lawful();
@@ -95,8 +96,8 @@ impl<S: Session, A: Allocator + Copy + Drop> View<S, A> {
     /// before. Takes no memory, and waits for nobody.
     pub fn begin(&mut self) -> u32
         ensures seen { IsPrefix self.old.seen self.new.seen }
-        ensures start { result ≡ length self.new.seen }
-        ensures lawful { AreLawful S.instance self.new.seen }
+        ensures start { result ≡ length (commits_of self.new.seen) }
+        ensures lawful { AreLawful S.instance (commits_of self.new.seen) }
         ensures amount { self.new.amount ≡ self.old.amount }
     {
         // no board has a slot for it
@@ -108,9 +109,9 @@ impl<S: Session, A: Allocator + Copy + Drop> View<S, A> {
     /// what it has seen, `None` is the answer, and nothing changes. Takes no memory, and waits for nobody.
     pub fn read(&mut self, block: u32) -> Option<Slot>
         requires { block < S.instance.blocks }
-        ensures slot { IfSome result (λ slot. slot ≡ slot_of self.new.seen block) }
+        ensures slot { IfSome result (λ slot. slot ≡ slot_of (commits_of self.new.seen) block) }
         ensures seen { MatchOption result (self.new.seen ≡ self.old.seen) (λ slot. IsPrefix self.old.seen self.new.seen) }
-        ensures lawful { AreLawful S.instance self.new.seen }
+        ensures lawful { AreLawful S.instance (commits_of self.new.seen) }
         ensures amount { self.new.amount ≡ self.old.amount }
     {
         let slot = self.look(block);
@@ -121,7 +122,7 @@ impl<S: Session, A: Allocator + Copy + Drop> View<S, A> {
     /// Takes over what the board shows, and looks a block up, if the board has a slot for it. Where the reader isn't let in, or the board is behind
     /// what was seen, nothing changes. `begin` and `read` both go through here, so that a reader's steps are compiled once, and inlined.
     fn look(&mut self, block: u32) -> Option<Slot>
-        ensures slot { IfSome result (λ slot. slot ≡ slot_of self.new.seen block) }
+        ensures slot { IfSome result (λ slot. slot ≡ slot_of (commits_of self.new.seen) block) }
         ensures seen { IsPrefix self.old.seen self.new.seen }
         ensures none { block < S.instance.blocks → IfNone result (self.new.seen ≡ self.old.seen) }
         ensures amount { self.new.amount ≡ self.old.amount }
@@ -132,20 +133,19 @@ impl<S: Session, A: Allocator + Copy + Drop> View<S, A> {
     }
 }
 
-/// Takes over the front of a board that isn't behind, and looks a block up, if the board has a slot for it.
+/// Takes over what a board shows that isn't behind, and looks a block up, if the board has a slot for it.
 fn shown<S: Session, A: Allocator + Copy + Drop>(
     board: &Board<S, A>,
     front: &mut Front<S>,
     block: u32,
 ) -> Option<Slot>
-    ensures slot { IfSome result (λ slot. slot ≡ slot_of front.new block) }
+    ensures slot { IfSome result (λ slot. slot ≡ slot_of (commits_of front.new) block) }
     ensures seen { IsPrefix front.old front.new }
     ensures none { block < S.instance.blocks → IfNone result (front.new ≡ front.old) }
 {
-    if !front.begins(board.front()) {
+    if !front.catch_up(board.front()) {
         return None;
     }
-    *front = board.front().again();
     let slots = board.slots();
     let at = block as usize;
     if at < slots.len() {

@@ -7,6 +7,7 @@ ghost use Rattle.pit_desk.specs.declared.reply.EntryReply.TheVariants.{Committed
 ghost use Rattle.pit_script.specs.Jobs.{Job};
 ghost use Rattle.pit_job.specs.declared.outcome.Outcome.{Outcome};
 ghost use Rattle.pit_job.specs.declared.outcome.RunEnd.{RunEnd};
+ghost use Rattle.pit_job.specs.declared.planner_run.TheConstants.{RETRIES_MAX};
 ghost use Rattle.pit_job.specs.Effect.{Known, Agrees, Effect, effect, changes, unread, whole, HasEffect};
 ghost use Rattle.pit_job.specs.Runs.{RanFrom, Ran};
 ghost use Rattle.pit_job.specs.JobByJob.{of_job, HasOwnEffect, EndsAfter};
@@ -35,4 +36,9 @@ pub fn each_job()
         → All (λ e. HasOwnEffect pit 1 jobs e) es }
     ensures ends { (pit : Pit) (retries : ℕ) (jobs : List Job) (es : List Answered) (os : List Outcome) (ended : RunEnd) → RanFrom pit retries 1 jobs es os ended
         → EndsAfter 1 jobs os ended }
+{}
+
+/// A law of runs, in numbers: a job is tried again at most a thousand times.
+pub fn retry_limit()
+    ensures { RETRIES_MAX ≡ 1000 }
 {}

@@ -6,6 +6,7 @@ ghost use Rattle.pit_text.specs.Stands.{FailsWhole, StandsWhole};
 ghost use Rattle.pit_script.specs.Between.{lines_of_jobs};
 ghost use Rattle.pit_script.specs.Jobs.{Job, jobs_of, script_line, script_end};
 ghost use Rattle.pit_script.specs.declared.fact.ScriptFact.{ScriptFact};
+ghost use Rattle.pit_script.specs.declared.step.TheConstants.{JOBS_MAX, SHIFT_MAX};
 
 use crate::error::ScriptCause;
 
@@ -19,4 +20,10 @@ pub fn no_fault_wants_memory()
 pub fn jobs_stand_between()
     ensures between { (pit : Pit) (lines : List Cut) (facts : List ScriptFact) → StandsWhole (script_line pit) script_end lines facts → facts ≡ lines_of_jobs (jobs_of facts) }
     ensures written { (jobs : List Job) → jobs_of (lines_of_jobs jobs) ≡ jobs }
+{}
+
+/// A law of scripts, in numbers: a script has at most a million jobs, and a shift goes by at most a thousand periods.
+pub fn script_limits()
+    ensures jobs { JOBS_MAX ≡ 1000000 }
+    ensures shifts { SHIFT_MAX ≡ 1000 }
 {}

@@ -9,7 +9,8 @@ use Rattle.pit_plan.proofs.CallerLemmas.{one_snapshot, held_in_range}
 use Rattle.pit_keyed.specs.Keyed.{at_key, with_read}
 use Rattle.pit_tx.specs.Sets.{Sets, known_of}
 use Rattle.pit_tx.specs.Refusals.{refusal_of}
-use Rattle.pit_desk.specs.History.{Answered}
+use Rattle.pit_desk.specs.History.{Answered, commits_of}
+use Rattle.pit_desk.proofs.CallerLemmas.{commits_of-prefix}
 use Rattle.pit_board.specs.Boards.{slot_of}
 use Rattle.pit_board.specs.Fronts.{AreLawful}
 use Rattle.pit_board.specs.declared.slot.Slot.{Slot}
@@ -21,7 +22,7 @@ use Rattle.pit_share.proofs.Noted.{of-start-grows}
 -- ---- what is so of each transaction
 
 -- at its beginning
-pub kept-begun : (pit : Pit) (planner : PlannerState) (job start : ℕ) (work : Sets) → start ≡ length planner.seen
+pub kept-begun : (pit : Pit) (planner : PlannerState) (job start : ℕ) (work : Sets) → start ≡ length (commits_of planner.seen)
     → work ≡ empty_sets pit planner.number job start → IsTransactionKept pit (record { planner = planner; work = work })
 kept-begun pit planner job start work seen is = record {
   fits = record {
@@ -32,8 +33,8 @@ kept-begun pit planner job start work seen is = record {
   planner = ap (λ (w : Sets). w.planner) is;
   reads = record {
     seen_start = omega (arith, ap (λ (w : Sets). w.start) is, seen);
-    held_then = subst (λ (reads : List (ℕ × Option ℕ)). AreHeld (take work.start planner.seen) reads) (sym (ap (λ (w : Sets). w.reads) is))
-        (All-nil (λ (read : ℕ × Option ℕ). read.1 ≡ held_period (take work.start planner.seen) read.0));
+    held_then = subst (λ (reads : List (ℕ × Option ℕ)). AreHeld (take work.start (commits_of planner.seen)) reads) (sym (ap (λ (w : Sets). w.reads) is))
+        (All-nil (λ (read : ℕ × Option ℕ). read.1 ≡ held_period (take work.start (commits_of planner.seen)) read.0));
   };
 }
 
@@ -43,11 +44,11 @@ pub kept-grows : (pit : Pit) (old new : PlannerState) (work : Sets) → SeesOn o
 kept-grows pit old new work sees kept = record {
   fits = kept.fits;
   planner = kept.planner ∙ sym sees.number;
-  reads = of-start-grows old.seen new.seen work.start work.reads sees.seen kept.reads;
+  reads = of-start-grows (commits_of old.seen) (commits_of new.seen) work.start work.reads (commits_of-prefix old.seen new.seen sees.seen) kept.reads;
 }
 
 -- where it notes a read
-pub kept-noted : (pit : Pit) (planner : PlannerState) (work : Sets) (b : ℕ) (period : Option ℕ) → period ≡ held_period (take work.start planner.seen) b
+pub kept-noted : (pit : Pit) (planner : PlannerState) (work : Sets) (b : ℕ) (period : Option ℕ) → period ≡ held_period (take work.start (commits_of planner.seen)) b
     → IsTransactionKept pit (record { planner = planner; work = work })
     → IsTransactionKept pit (record { planner = planner; work = record work { reads = work.reads ++ (b, period) ∷ [] } })
 kept-noted pit planner work b period held kept = record {
@@ -55,7 +56,7 @@ kept-noted pit planner work b period held kept = record {
   planner = kept.planner;
   reads = record {
     seen_start = kept.reads.seen_start;
-    held_then = All-push (λ (read : ℕ × Option ℕ). read.1 ≡ held_period (take work.start planner.seen) read.0) work.reads (b, period) kept.reads.held_then held;
+    held_then = All-push (λ (read : ℕ × Option ℕ). read.1 ≡ held_period (take work.start (commits_of planner.seen)) read.0) work.reads (b, period) kept.reads.held_then held;
   };
 }
 
@@ -80,7 +81,7 @@ kept-either (Err e) pit planner old later new ok err there here = subst (λ (w :
 -- ---- what its planner has seen
 
 -- where the board was looked at, or not
-pub sees-either : (found : Option Slot) (number : ℕ) (items : List Answered) (old new : List Commit) → MatchOption found (new ≡ old) (λ slot. IsPrefix old new)
+pub sees-either : (found : Option Slot) (number : ℕ) (items old new : List Answered) → MatchOption found (new ≡ old) (λ slot. IsPrefix old new)
     → MatchOption found (planner_of number items new ≡ planner_of number items old) (λ slot. SeesOn (planner_of number items old) (planner_of number items new))
 sees-either None number items old new same = ap (planner_of number items) same
 sees-either (Some slot) number items old new begins = record { number = refl; items = refl; seen = begins }
@@ -101,13 +102,13 @@ period-in_range pit seen b slot lawful is =
     subst (λ (s : Slot). IfSome s.period (λ t. t < pit.periods)) (sym is) (held_in_range pit.blocks pit.periods seen b lawful.fit)
 
 -- a slot that is noted by a planner that sees on
-pub noted-slot : (old new : TransactionState) (later : PlannerState) (b : ℕ) (slot : Slot) → slot ≡ slot_of later.seen b → slot.version ≤ old.work.start → new.planner ≡ later
+pub noted-slot : (old new : TransactionState) (later : PlannerState) (b : ℕ) (slot : Slot) → slot ≡ slot_of (commits_of later.seen) b → slot.version ≤ old.work.start → new.planner ≡ later
     → new.work ≡ record old.work { reads = old.work.reads ++ (b, slot.period) ∷ [] } → IsNoted old b slot.period new
 noted-slot old new later b slot is within planner work =
-    let seen : slot ≡ slot_of new.planner.seen b = is ∙ ap (λ (p : PlannerState). slot_of p.seen b) (sym planner) in
+    let seen : slot ≡ slot_of (commits_of new.planner.seen) b = is ∙ ap (λ (p : PlannerState). slot_of (commits_of p.seen) b) (sym planner) in
     record {
-      unmoved = unmoved-slot new.planner.seen b old.work.start slot seen within;
-      period_is = period-then new.planner.seen b old.work.start slot seen within;
+      unmoved = unmoved-slot (commits_of new.planner.seen) b old.work.start slot seen within;
+      period_is = period-then (commits_of new.planner.seen) b old.work.start slot seen within;
       work = work;
     }
 

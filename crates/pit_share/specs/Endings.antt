@@ -2,22 +2,22 @@
 use Rattle.std.specs.Prelude.{◌≡◌, ◌≢◌, ℕ, ◌<◌, List, [], ◌∷◌, ◌++◌, length}
 use mathlib.Core.List.{IsPrefix}
 use Rattle.pit_model.specs.Pit.{Pit}
-use Rattle.pit_plan.specs.Schedule.{Commit}
-use Rattle.pit_desk.specs.History.{Call, commits_by}
+use Rattle.pit_desk.specs.History.{Answered, Call, commits_of}
 use Rattle.pit_desk.specs.Replies.{IsReply}
 use Rattle.pit_desk.specs.declared.reply.EntryReply.{EntryReply}
 use Rattle.pit_desk.specs.declared.reply.EntryReply.TheVariants.{Refused}
 use Rattle.pit_desk.specs.declared.reply.Refusal.TheVariants.{Misread, Ahead}
 use Rattle.pit_share.specs.Planners.{PlannerState}
 
--- The reply is the one that is due after some commits. These, and then the commit that the call makes, if it makes one, are a prefix of what the
--- planner has seen afterwards. No read is ever found to be wrong, and the start is found to be ahead only where the planner had seen more commits.
-pub record IsAnswered (pit : Pit) (call : Call) (reply : EntryReply) (old seen : List Commit) : Type 0 where
-  pub before : List Commit
-  pub due : IsReply pit before call reply
-  pub stands : IsPrefix (before ++ commits_by (record { call = call; reply = reply })) seen
+-- The reply is the one that is due after some entries. These, and then the call with this reply, are a prefix of what the planner has seen
+-- afterwards: so its own entry is the last of a prefix of the history. No read is ever found to be wrong, and the start is found to be ahead only where
+-- the planner had seen more commits.
+pub record IsAnswered (pit : Pit) (call : Call) (reply : EntryReply) (old seen : List Answered) : Type 0 where
+  pub before : List Answered
+  pub due : IsReply pit (commits_of before) call reply
+  pub stands : IsPrefix (before ++ record { call = call; reply = reply } ∷ []) seen
   pub never_misread : (block : ℕ) → reply ≢ Refused (Misread block)
-  pub ahead : (start count : ℕ) → reply ≡ Refused (Ahead start count) → length before < length old
+  pub ahead : (start count : ℕ) → reply ≡ Refused (Ahead start count) → length (commits_of before) < length (commits_of old)
 
 -- the planner's log has one item more, which is the whole entry
 pub record IsEnded (pit : Pit) (old : PlannerState) (call : Call) (reply : EntryReply) (new : PlannerState) : Type 0 where

@@ -2,9 +2,8 @@
 use Rattle.std.specs.Prelude.{◌≡◌, ℕ, List, [], length}
 use mathlib.Core.List.{IsPrefix}
 use Rattle.pit_model.specs.Pit.{Pit}
-use Rattle.pit_plan.specs.Schedule.{Commit}
 use Rattle.pit_tx.specs.Sets.{Sets}
-use Rattle.pit_desk.specs.History.{Answered}
+use Rattle.pit_desk.specs.History.{Answered, commits_of}
 use Rattle.pit_desk.specs.Calls.{WorkFits}
 use Rattle.pit_share.specs.Snapshots.{AreOfStart}
 
@@ -13,10 +12,10 @@ pub record PlannerState : Type 0 where
   pub number : ℕ
   -- the entry of each ending that was answered, in order
   pub items : List Answered
-  -- the commits that it has seen
-  pub seen : List Commit
+  -- the entries of the history that it has seen
+  pub seen : List Answered
 
-abbrev pub planner_of : ℕ → List Answered → List Commit → PlannerState
+abbrev pub planner_of : ℕ → List Answered → List Answered → PlannerState
 planner_of number items seen = record { number = number; items = items; seen = seen }
 
 -- a transaction: its planner, and what it reads, writes and revises
@@ -44,13 +43,13 @@ empty_sets pit planner job start = record {
   revises = [];
 }
 
--- a transaction begins after all that its planner has then seen
+-- a transaction begins after all commits that its planner has then seen
 pub record Begins (pit : Pit) (old : PlannerState) (job : ℕ) (begun : TransactionState) : Type 0 where
   pub planner : SeesOn old begun.planner
-  pub work : begun.work ≡ empty_sets pit old.number job (length begun.planner.seen)
+  pub work : begun.work ≡ empty_sets pit old.number job (length (commits_of begun.planner.seen))
 
 -- what is so of each transaction: its work fits the pit and is its planner's, and its reads are of one snapshot
 pub record IsTransactionKept (pit : Pit) (transaction : TransactionState) : Type 0 where
   pub fits : WorkFits pit transaction.work
   pub planner : transaction.work.planner ≡ transaction.planner.number
-  pub reads : AreOfStart transaction.planner.seen transaction.work.start transaction.work.reads
+  pub reads : AreOfStart (commits_of transaction.planner.seen) transaction.work.start transaction.work.reads

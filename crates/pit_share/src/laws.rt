@@ -1,12 +1,12 @@
 //! Laws of workspaces.
 ghost use Rattle.std.specs.Prelude.{◌≡◌, ℕ, ◌+◌, List, Some, slice_get, take};
 ghost use Rattle.pit_model.specs.Pit.{Pit};
-ghost use Rattle.pit_plan.specs.Schedule.{Commit};
-ghost use Rattle.pit_desk.specs.History.{Call, commit_of};
+ghost use Rattle.pit_desk.specs.History.{Answered, Call, commit_of, commits_of};
 ghost use Rattle.pit_desk.specs.declared.reply.EntryReply.{EntryReply};
 ghost use Rattle.pit_desk.specs.declared.reply.EntryReply.TheVariants.{Committed as committed};
 ghost use Rattle.pit_share.specs.Endings.{IsAnswered};
 ghost use Rattle.pit_share.specs.GoingOn.{IsShared};
+ghost use Rattle.pit_share.specs.declared.blank.TheConstants.{PLANNERS_MAX};
 ghost use Rattle.pit_desk.specs.Noted.{AreHeld};
 
 use crate::workspace::Workspace;
@@ -30,8 +30,13 @@ pub fn one_shared_history<S: Session, R: Wait + Drop, A: Allocator + Copy + Drop
 /// A law of answers: after an answer Committed with a number, that commit of those that the planner has seen is the call's, and each of its
 /// reads is what the commits before it held.
 pub fn committed_is_seen()
-    ensures commit { (pit : Pit) (call : Call) (reply : EntryReply) (old seen : List Commit) (before : ℕ) → IsAnswered pit call reply old seen
-        → reply ≡ committed (before + 1) → slice_get seen before ≡ Some (commit_of call) }
-    ensures reads { (pit : Pit) (call : Call) (reply : EntryReply) (old seen : List Commit) (before : ℕ) → IsAnswered pit call reply old seen
-        → reply ≡ committed (before + 1) → AreHeld (take before seen) call.reads }
+    ensures commit { (pit : Pit) (call : Call) (reply : EntryReply) (old seen : List Answered) (before : ℕ) → IsAnswered pit call reply old seen
+        → reply ≡ committed (before + 1) → slice_get (commits_of seen) before ≡ Some (commit_of call) }
+    ensures reads { (pit : Pit) (call : Call) (reply : EntryReply) (old seen : List Answered) (before : ℕ) → IsAnswered pit call reply old seen
+        → reply ≡ committed (before + 1) → AreHeld (take before (commits_of seen)) call.reads }
+{}
+
+/// A law of workspaces, in numbers: at most 64 planners share one.
+pub fn planner_limit()
+    ensures { PLANNERS_MAX ≡ 64 }
 {}

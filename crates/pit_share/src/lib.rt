@@ -25,7 +25,7 @@ mod workspace;
 pub use blank::{Blank, PLANNERS_MAX};
 pub use closed::Closed;
 pub use error::{CloseError, OpenError, ReadStop};
-pub use laws::{committed_is_seen, one_shared_history};
+pub use laws::{committed_is_seen, one_shared_history, planner_limit};
 pub use log::PlannerLog;
 pub use pit_board::Session;
 pub use planner::Planner;

@@ -1,5 +1,6 @@
 //! Planners between two transactions.
 ghost use Rattle.std.specs.Prelude.{◌≡◌, IfOk, IfErr};
+ghost use Rattle.pit_desk.specs.History.{commits_of};
 ghost use Rattle.pit_board.specs.Fronts.{AreLawful};
 ghost use Rattle.pit_share.specs.Planners.{SeesOn, Begins};
 
@@ -13,7 +14,7 @@ use std::alloc::Allocator;
 use std::marker::Model;
 use std::sync::{Mutex, Wait};
 
-/// A planner of a workspace, between two transactions. Contracts see its number, the items of its log, and the commits that it has seen.
+/// A planner of a workspace, between two transactions. Contracts see its number, the items of its log, and the entries that it has seen.
 #[derive(Drop)]
 pub struct Planner<'a, S: Session, R: Wait + Drop, A: Allocator + Copy + Drop> {
     floor: &'a Mutex<Floor<S, R, A>>,
@@ -41,7 +42,7 @@ impl<'a, S: Session, R: Wait + Drop, A: Allocator + Copy + Drop> Planner<'a, S, 
     /// Its number, counted from 1. What it has seen leaves a good schedule, as does each prefix of that.
     pub fn number(&self) -> u32
         ensures number { result ≡ self.now.number }
-        ensures lawful { AreLawful S.instance self.now.seen }
+        ensures lawful { AreLawful S.instance (commits_of self.now.seen) }
     {
         self.account.front().shows_lawful();
         self.account.number()

@@ -1,6 +1,5 @@
 //! Seats of a workspace.
 ghost use Rattle.std.specs.Prelude.{◌≡◌, ◌≢◌, ◌+◌, ◌<◌, ◌≤◌, [], IfOk, OnOk, IfErr};
-ghost use Rattle.pit_desk.specs.History.{commits_of};
 ghost use Rattle.pit_share.specs.Logs.{IsPlanner};
 ghost use Rattle.pit_share.specs.Opening.{AreSeats};
 ghost use Rattle.pit_share.specs.Planners.{planner_of};
@@ -24,27 +23,26 @@ pub struct Seat<S: Session, A: Allocator + Copy + Drop> {
 
 impl<S: Session, A: Allocator + Copy + Drop> Model for Seat<S, A> {
     ghost use Rattle.std.specs.Prelude.{◌≡◌, ℕ, []};
-    ghost use Rattle.pit_desk.specs.History.{commits_of};
     ghost use Rattle.pit_share.specs.Planners.{planner_of};
 
     ghost Value = { ℕ };
 
     ghost view = { λ s. s.account.value.number };
 
-    ghost invariant = { λ s. s.account.value ≡ planner_of s.account.value.number [] (commits_of S.opening) };
+    ghost invariant = { λ s. s.account.value ≡ planner_of s.account.value.number [] S.opening };
 }
 
 impl<S: Session, A: Allocator + Copy + Drop> Seat<S, A> {
-    /// Takes the seat: the planner has an empty log, and has seen the commits of the opening history. Takes no memory.
+    /// Takes the seat: the planner has an empty log, and has seen the opening history. Takes no memory.
     pub fn sit<'a, R: Wait + Drop>(self, workspace: &'a Workspace<S, R, A>) -> Planner<'a, S, R, A>
-        ensures { result ≡ planner_of self [] (commits_of S.opening) }
+        ensures { result ≡ planner_of self [] S.opening }
     {
         let Seat { account } = self;
         Planner::new(workspace.floor(), account)
     }
 
     fn new(account: Box<Account<S, A>, A>) -> Seat<S, A>
-        requires { account.value ≡ planner_of account.value.number [] (commits_of S.opening) }
+        requires { account.value ≡ planner_of account.value.number [] S.opening }
         ensures { result ≡ account.value.number }
     {
         Seat { account }
@@ -59,7 +57,7 @@ pub(crate) fn seats_of<S: Session, R: Wait + Drop, A: Allocator + Copy + Drop>(
     pit: &Instance<A>,
     planners: u32,
 ) -> Result<Vec<Seat<S, A>, A>, OpenError>
-    requires hall { hall.now ≡ commits_of S.opening }
+    requires hall { hall.now ≡ S.opening }
     requires planners { planners ≡ S.planners }
     requires few { planners ≤ rest.old.parts }
     requires none_left { rest.old.amount ≡ 0 }
@@ -90,7 +88,7 @@ fn seat_of<S: Session, R: Wait + Drop, A: Allocator + Copy + Drop>(
     pit: &Instance<A>,
     number: u32,
 ) -> Result<Seat<S, A>, OpenError>
-    requires hall { hall.now ≡ commits_of S.opening }
+    requires hall { hall.now ≡ S.opening }
     requires number { IsPlanner S.planners number }
     requires part { 0 < rest.old.parts }
     requires none_left { rest.old.amount ≡ 0 }

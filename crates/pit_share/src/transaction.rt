@@ -6,6 +6,7 @@ ghost use Rattle.pit_plan.specs.Schedule.{held_period};
 ghost use Rattle.pit_keyed.specs.Keyed.{IsFurther, with_write};
 ghost use Rattle.pit_tx.specs.Refusals.{refusal_of, revision_refusal_of};
 ghost use Rattle.pit_tx.specs.Sets.{known_of};
+ghost use Rattle.pit_desk.specs.History.{commits_of};
 ghost use Rattle.pit_desk.specs.Calls.{work_call, entry_reply};
 ghost use Rattle.pit_desk.specs.declared.entry.Act.TheVariants.{Commit as commit_act, Withdraw as withdraw_act};
 ghost use Rattle.pit_desk.specs.declared.reply.EntryReply.TheVariants.{Withdrawn as withdrawn};
@@ -65,7 +66,7 @@ impl<'a, S: Session, R: Wait + Drop, A: Allocator + Copy + Drop> Transaction<'a,
     pub fn start(&self) -> u32
         ensures start { result ≡ self.now.work.start }
         ensures kept { IsTransactionKept S.instance self.now }
-        ensures lawful { AreLawful S.instance self.now.planner.seen }
+        ensures lawful { AreLawful S.instance (commits_of self.now.planner.seen) }
     {
         self.account.front().shows_lawful();
         self.work.start()
@@ -232,7 +233,7 @@ impl<'a, S: Session, R: Wait + Drop, A: Allocator + Copy + Drop> Transaction<'a,
         requires block { block < S.instance.blocks }
         requires period { IfSome period (λ t. t < S.instance.periods) }
         requires unknown { known_of self.old.work block ≡ None }
-        requires held { period ≡ held_period (take self.old.work.start self.old.planner.seen) block }
+        requires held { period ≡ held_period (take self.old.work.start (commits_of self.old.planner.seen)) block }
         ensures planner { self.new.planner ≡ self.old.planner }
         ensures ok { OnOk result (self.new.work ≡ record self.old.work { reads = self.old.work.reads ++ (block, period) ∷ [] }) }
         ensures err { OnErr result (self.new ≡ self.old) }

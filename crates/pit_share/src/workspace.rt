@@ -1,6 +1,5 @@
 //! Workspaces.
 ghost use Rattle.std.specs.Prelude.{◌≡◌, ◌≤◌, ◌↔◌, IsTrue, IfOk, IfErr};
-ghost use Rattle.pit_desk.specs.History.{commits_of};
 ghost use Rattle.pit_share.specs.Closing.{IsClosed, IsCloseError};
 ghost use Rattle.pit_share.specs.Opening.{IsPlannerCount, AreSeats, IsOpenError};
 ghost use Rattle.pit_share.specs.declared.blank.TheConstants.{PLANNERS_MAX};
@@ -113,7 +112,7 @@ fn hall_of<S: Session, R: Wait + Drop, A: Allocator + Copy + Drop>(
     requires history { desk.now.history ≡ S.opening }
     requires list { list ≡ S.book }
     requires some { 1 ≤ planners }
-    ensures { IfOk result (λ hall. hall.value ≡ commits_of S.opening) }
+    ensures { IfOk result (λ hall. hall.value ≡ S.opening) }
 {
     Ok(Held {
         value: Hall::open(rt, alloc, list, desk, planners)?,

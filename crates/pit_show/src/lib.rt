@@ -14,5 +14,5 @@ mod shown;
 
 pub use comment::sum_of;
 pub use engine::show;
-pub use front::{commits_by, front_to};
+pub use front::front_to;
 pub use laws::{one_front, one_outcome, shown_at_all, shown_history};

@@ -2,6 +2,7 @@
 use Rattle.std.specs.Prelude.{◌≡◌, ℕ, ◌<◌, ◌==◌, List, length, slice_index_or, Option, Some, None, unwrap_or, is_some, if◌then◌else◌, nat_eq}
 use Rattle.std.specs.Map.{lookup}
 use Rattle.pit_plan.specs.Schedule.{Writes, Commit}
+use Rattle.pit_desk.specs.History.{Answered, commits_of}
 use Rattle.pit_board.specs.Boards.{slot_of}
 use Rattle.pit_board.specs.declared.slot.Slot.{Slot}
 
@@ -19,12 +20,12 @@ pub record ShowsAll (blocks : ℕ) (commits : List Commit) (slots : List Slot) :
 
 -- ---- what it takes in
 
--- the commits before a commit, and with it
+-- the entries before a commit's, and with it
 pub record Stamped : Type 0 where
-  pub before : List Commit
-  pub after : List Commit
+  pub before : List Answered
+  pub after : List Answered
 
 -- a board that shows as many commits as there were before takes the commit in; of nothing, nothing is taken in
-abbrev pub taken_in : List Commit → Option Stamped → List Commit
+abbrev pub taken_in : List Answered → Option Stamped → List Answered
 taken_in shown None = shown
-taken_in shown (Some stamp) = if length shown == length stamp.before then stamp.after else shown
+taken_in shown (Some stamp) = if length (commits_of shown) == length (commits_of stamp.before) then stamp.after else shown
