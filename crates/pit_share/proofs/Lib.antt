@@ -8,3 +8,4 @@ pub mod Stands
 pub mod Entries
 pub mod Firsts
 pub mod Places
+pub mod Stopping

@@ -11,7 +11,7 @@ ghost use Rattle.pit_desk.specs.Calls.{work_call, entry_reply};
 ghost use Rattle.pit_desk.specs.declared.entry.Act.TheVariants.{Commit as commit_act, Withdraw as withdraw_act};
 ghost use Rattle.pit_desk.specs.declared.reply.EntryReply.TheVariants.{Withdrawn as withdrawn};
 ghost use Rattle.pit_board.specs.Fronts.{AreLawful};
-ghost use Rattle.pit_share.specs.Endings.{IsEnded};
+ghost use Rattle.pit_share.specs.Endings.{IsEnded, IsStopped};
 ghost use Rattle.pit_share.specs.Planners.{SeesOn, IsTransactionKept};
 ghost use Rattle.pit_share.specs.Reads.{IsLookedUp};
 
@@ -154,15 +154,16 @@ impl<'a, S: Session, R: Wait + Drop, A: Allocator + Copy + Drop> Transaction<'a,
     }
 
     /// Ends it by its writes and revisions, which are applied and published where it is answered Committed. Each answer makes one entry and one
-    /// item of the planner's log, and shows the planner all commits up to the entry. On a stop the transaction is handed back as it was. Waits for
-    /// the lock, and for readers that still look at the board from before.
+    /// item of the planner's log, and shows the planner all commits up to the entry. On a stop the transaction is handed back. Where memory
+    /// ran out it is as it was. On `Full` its planner has seen the full history, maybe more than before, and nothing else of it has changed. Waits
+    /// for the lock, and for readers that still look at the board from before.
     pub fn commit<W: Wait>(
         self,
         rt: &W,
     ) -> Result<(Planner<'a, S, R, A>, Reply), (Transaction<'a, S, R, A>, Stop)>
         ensures ended { IfOk result (λ answered.
             IsEnded S.instance self.entry.planner (work_call self.entry.work commit_act) (entry_reply answered.1) answered.0) }
-        ensures stop { IfErr result (λ stopped. stopped.0 ≡ self.entry) }
+        ensures stop { IfErr result (λ stopped. IsStopped S.max_entries self.entry stopped.1 stopped.0) }
     {
         let Transaction {
             floor,
@@ -176,13 +177,13 @@ impl<'a, S: Session, R: Wait + Drop, A: Allocator + Copy + Drop> Transaction<'a,
     }
 
     /// Ends it without its writes and revisions. The answer makes one entry, which is Withdrawn, and one item of the planner's log, and shows
-    /// the planner all commits up to the entry. On a stop the transaction is handed back as it was. Waits for the lock.
+    /// the planner all commits up to the entry. On a stop the transaction is handed back, as by `commit`. Waits for the lock.
     pub fn abort<W: Wait>(
         self,
         rt: &W,
     ) -> Result<Planner<'a, S, R, A>, (Transaction<'a, S, R, A>, Stop)>
         ensures ended { IfOk result (IsEnded S.instance self.entry.planner (work_call self.entry.work withdraw_act) withdrawn) }
-        ensures stop { IfErr result (λ stopped. stopped.0 ≡ self.entry) }
+        ensures stop { IfErr result (λ stopped. IsStopped S.max_entries self.entry stopped.1 stopped.0) }
     {
         let Transaction {
             floor,
