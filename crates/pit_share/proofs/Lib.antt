@@ -9,3 +9,4 @@ pub mod Entries
 pub mod Firsts
 pub mod Places
 pub mod Stopping
+pub mod Seeing

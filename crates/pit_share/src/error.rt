@@ -29,6 +29,7 @@ pub enum ReadStop {
 pub enum CloseError {
     /// The least planner whose log isn't there.
     Missing { planner: u32 },
-    /// The least planner whose entries past the opening history aren't its log.
+    /// The least planner whose entries past the opening history aren't its log; or where each planner's are, the planner of the first log, in the
+    /// order in which they are handed in, that has seen more than the history has. Nothing leads to the second.
     Differs { planner: u32 },
 }

@@ -69,8 +69,9 @@ impl<S: Session, R: Wait + Drop, A: Allocator + Copy + Drop> Workspace<S, R, A> 
     }
 
     /// Closes the workspace by the logs of its planners, in any order. First each log has to be there, then each has to be what the history has of
-    /// its planner; then the shares of the count are joined, which shows that no entry is left over. On a refusal the workspace and the logs are
-    /// handed back whole. Takes no memory. Waits for readers. None is left: each planner gave its place back when it handed in its log.
+    /// its planner, then the history has to begin with what each planner has seen; then the shares of the count are joined, which shows that no
+    /// entry is left over. On a refusal the workspace and the logs are handed back whole. Takes no memory. Waits for readers. None is left: each
+    /// planner gave its place back when it handed in its log.
     pub fn close(
         self,
         logs: Vec<PlannerLog<S, A>, A>,
