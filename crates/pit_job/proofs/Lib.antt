@@ -1,6 +1,10 @@
 pub mod Agreeing
+pub mod Seeing
+pub mod Growing
 pub mod Stepping
+pub mod Meeting
 pub mod Trying
 pub mod Retries
 pub mod Once
+pub mod Writers
 pub mod CallerLemmas

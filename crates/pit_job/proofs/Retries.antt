@@ -1,10 +1,9 @@
 -- Tries of a job, and jobs of a script.
 use Rattle.std.proofs.Math.Seq.{drop-cons}
 use Rattle.std.proofs.lemmas.List.{drop_all}
-use Rattle.std.proofs.lemmas.List.Elements.{All-append}
-use Rattle.std.proofs.Common.{◌≡◌, ℕ, ◌+◌, ◌<◌, ◌≤◌, true, List, [], ◌∷◌, ◌++◌, length, drop, add-one, refl, sym, ap, subst, ◌∙◌, arith, append-nil, append_assoc, length-append, inl, inr}
+use Rattle.std.proofs.Common.{◌≡◌, ℕ, ◌+◌, ◌<◌, ◌≤◌, List, [], ◌∷◌, ◌++◌, length, drop, add-one, refl, sym, ap, subst, ◌∙◌, arith, append-nil, append_assoc, inl, inr}
 use Rattle.std.specs.Prelude.{Result, Ok, Err}
-use Rattle.pit_job.proofs.Trying.{repeats-none}
+use mathlib.Core.List.{IsPrefix}
 use Rattle.pit_model.specs.Pit.{Pit}
 use Rattle.pit_desk.specs.History.{Answered}
 use Rattle.pit_desk.specs.declared.reply.EntryReply.{EntryReply}
@@ -20,30 +19,31 @@ use Rattle.pit_job.specs.declared.outcome.Outcome.{Outcome}
 use Rattle.pit_job.specs.declared.outcome.Outcome.TheVariants as outcome
 use Rattle.pit_job.specs.declared.outcome.RunEnd.{RunEnd}
 use Rattle.pit_job.specs.declared.outcome.RunEnd.TheVariants as end
-use Rattle.pit_job.specs.Outcomes.{IsItem, Repeats, Grows, is_moved_reply}
+use Rattle.pit_job.specs.Outcomes.{IsMovedTry, Repeats, Grows, is_moved_reply}
 use Rattle.pit_job.specs.Inside.Outcomes.{Tries, outcome_of}
-use Rattle.pit_job.specs.Runs.{Ran, RanFrom, EndedBefore, reply_of, tries_of}
+use Rattle.pit_job.specs.Runs.{Ran, LeftOff, RanFrom, EndedBefore, reply_of, tries_of}
 use Rattle.pit_job.specs.Inside.Runs.{RanJob, RanUpTo, end_of}
+use Rattle.pit_job.proofs.Seeing.{prefix-refl, prefix-trans}
+use Rattle.pit_job.proofs.Growing.{repeats-on}
 
 pub grows-none : (a : PlannerState) → Grows a [] a
-grows-none a = record { number = refl; items = sym (append-nil a.items) }
+grows-none a = record { number = refl; items = sym (append-nil a.items); seen = prefix-refl a.seen }
 
 pub grows-more : (a b c : PlannerState) (es fs : List Answered) → Grows a es b → Grows b fs c → Grows a (es ++ fs) c
 grows-more a b c es fs f g = record {
   number = g.number ∙ f.number;
   items = g.items ∙ ap (λ (xs : List Answered). xs ++ fs) f.items ∙ append_assoc a.items es fs;
+  seen = prefix-trans a.seen b.seen c.seen f.seen g.seen;
 }
 
--- more entries that were answered Moved
-pub repeats-more : (pit : Pit) (task : Job) (n k m : ℕ) (es fs : List Answered) → Repeats pit task n k es → Repeats pit task n m fs → Repeats pit task n (k + m) (es ++ fs)
-repeats-more pit task n k m es fs a b = record {
-  items = All-append (λ e. IsItem pit task n e) es fs a.items b.items;
-  moved = All-append (λ e. is_moved_reply e.reply ≡ true) es fs a.moved b.moved;
-  few = let f = a.few in let g = b.few in omega (arith, length-append es fs);
-}
+pub repeats-none : (pit : Pit) (task : Job) (n : ℕ) (seen : List Answered) → Repeats pit task n 0 seen seen []
+repeats-none pit task n seen = (refl, prefix-refl seen)
 
-pub repeats-few : (pit : Pit) (task : Job) (n k m : ℕ) (es : List Answered) → k ≤ m → Repeats pit task n k es → Repeats pit task n m es
-repeats-few pit task n k m es less a = record { items = a.items; moved = a.moved; few = let f = a.few in omega arith }
+-- one more try that ended by Moved
+pub repeats-more : (pit : Pit) (task : Job) (n k : ℕ) (old mid new es fs : List Answered) (block version : ℕ) → Repeats pit task n k old mid es
+    → IsMovedTry pit task n mid new fs block version → Repeats pit task n (k + 1) old new (es ++ fs)
+repeats-more pit task n k old mid new es fs block version repeats moved =
+    subst (λ (m : ℕ). Repeats pit task n m old new (es ++ fs)) (sym (add-one k)) (mid, es, fs, block, version, refl, repeats, moved)
 
 reply-of-outcome : (r : EntryReply) (tries : ℕ) → reply_of (outcome_of r tries) ≡ r
 reply-of-outcome (reply.Committed number) tries = refl
@@ -56,14 +56,16 @@ tries-of-outcome (reply.Refused why) tries = refl
 tries-of-outcome reply.Withdrawn tries = refl
 
 -- an answer settles the job
-pub settles : (pit : Pit) (task : Job) (retries n k : ℕ) (es fs : List Answered) (r : EntryReply) → k ≤ retries → Repeats pit task n k es → Tries pit task n fs (tried.Answered r)
-    → Ran pit task retries n (es ++ fs) (outcome_of r (k + 1))
-settles pit task retries n k es fs r few repeats (e, is, item, same, other) = inl (record {
+pub settles : (pit : Pit) (task : Job) (retries n k : ℕ) (old mid new es fs : List Answered) (r : EntryReply) → k ≤ retries → Repeats pit task n k old mid es → IsPrefix mid new
+    → Tries pit task n mid new fs (tried.Answered r) → Ran pit task retries n old new (es ++ fs) (outcome_of r (k + 1))
+settles pit task retries n k old mid new es fs r few repeats sees (e, is, item, same, other) = inl (record {
+  before = k;
+  mid = mid;
   repeated = es;
   last = e;
-  before = k;
   cut = ap (λ (xs : List Answered). es ++ xs) is;
   repeats = repeats;
+  sees = sees;
   item = item;
   answer = same ∙ sym (reply-of-outcome r (k + 1));
   other = ap is_moved_reply same ∙ other;
@@ -71,43 +73,66 @@ settles pit task retries n k es fs r few repeats (e, is, item, same, other) = in
   few = few;
 })
 
--- after the last try it is given up
-pub gives-up : (pit : Pit) (task : Job) (retries n : ℕ) (es fs : List Answered) (block version : ℕ) → Repeats pit task n retries es → Repeats pit task n 1 fs
-    → Ran pit task retries n (es ++ fs) (outcome.Refused (refusal.Moved block version) (retries + 1))
-gives-up pit task retries n es fs block version a b = inr (record { repeats = repeats-more pit task n retries 1 es fs a b; moved = refl; tries = refl })
+-- after the last try it is given up, with that try's pair
+pub gives-up : (pit : Pit) (task : Job) (retries n k : ℕ) (old mid new es fs : List Answered) (block version : ℕ) → k ≡ retries → Repeats pit task n k old mid es
+    → IsMovedTry pit task n mid new fs block version → Ran pit task retries n old new (es ++ fs) (outcome.Refused (refusal.Moved block version) (retries + 1))
+gives-up pit task retries n k old mid new es fs block version all repeats moved = inr (record {
+  mid = mid;
+  repeated = es;
+  last = fs;
+  block = block;
+  version = version;
+  cut = refl;
+  repeats = subst (λ (m : ℕ). Repeats pit task n m old mid es) all repeats;
+  moved = moved;
+  answer = refl;
+})
 
-pub stops : (pit : Pit) (task : Job) (retries n k : ℕ) (es fs : List Answered) → k ≤ retries → fs ≡ [] → Repeats pit task n k es → Repeats pit task n retries (es ++ fs)
-stops pit task retries n k es fs few none a =
-    subst (Repeats pit task n retries) (sym (ap (λ (xs : List Answered). es ++ xs) none ∙ append-nil es)) (repeats-few pit task n k retries es few a)
+pub stops : (pit : Pit) (task : Job) (retries n k : ℕ) (old mid new es fs : List Answered) → k ≤ retries → fs ≡ [] → IsPrefix mid new → Repeats pit task n k old mid es
+    → LeftOff pit task retries n old new (es ++ fs)
+stops pit task retries n k old mid new es fs few none sees repeats = record {
+  before = k;
+  repeats = subst (Repeats pit task n k old new) (sym (ap (λ (xs : List Answered). es ++ xs) none ∙ append-nil es)) (repeats-on pit task n k old mid new es sees repeats);
+  few = few;
+}
 
--- a log that has grown by tries that were answered Moved grows by one more try
-pub try-moved : (pit : Pit) (task : Job) (n k : ℕ) (a b c : PlannerState) (t : Tried) (block version : ℕ) → ((es : List Answered) × Grows a es b × Repeats pit task n k es)
-    → ((fs : List Answered) × Grows b fs c × Tries pit task n fs t) → t ≡ tried.Moved block version → (es : List Answered) × Grows a es c × Repeats pit task n (k + 1) es
-try-moved pit task n k a b c t block version (es, grew, repeats) (fs, grows, tries) is =
-    (es ++ fs, grows-more a b c es fs grew grows, repeats-more pit task n k 1 es fs repeats (subst (Tries pit task n fs) is tries))
+-- a log that has grown by tries that ended by Moved grows by one more try
+pub try-moved : (pit : Pit) (task : Job) (n k : ℕ) (a b c : PlannerState) (t : Tried) (block version : ℕ) → ((es : List Answered) × Grows a es b × Repeats pit task n k a.seen b.seen es)
+    → ((fs : List Answered) × Grows b fs c × Tries pit task n b.seen c.seen fs t) → t ≡ tried.Moved block version
+    → (es : List Answered) × Grows a es c × Repeats pit task n (k + 1) a.seen c.seen es
+try-moved pit task n k a b c t block version (es, grew, repeats) (fs, grows, tries) is = (
+  es ++ fs,
+  grows-more a b c es fs grew grows,
+  repeats-more pit task n k a.seen b.seen c.seen es fs block version repeats (subst (Tries pit task n b.seen c.seen fs) is tries),
+)
 
 pub try-answered : (pit : Pit) (task : Job) (retries n k : ℕ) (a b c : PlannerState) (t : Tried) (r : EntryReply) (o : Outcome)
-    → ((es : List Answered) × Grows a es b × Repeats pit task n k es) → ((fs : List Answered) × Grows b fs c × Tries pit task n fs t)
-    → t ≡ tried.Answered r → o ≡ outcome_of r (k + 1) → k ≤ retries → (es : List Answered) × Grows a es c × Ran pit task retries n es o
+    → ((es : List Answered) × Grows a es b × Repeats pit task n k a.seen b.seen es) → ((fs : List Answered) × Grows b fs c × Tries pit task n b.seen c.seen fs t)
+    → t ≡ tried.Answered r → o ≡ outcome_of r (k + 1) → k ≤ retries → (es : List Answered) × Grows a es c × Ran pit task retries n a.seen c.seen es o
 try-answered pit task retries n k a b c t r o (es, grew, repeats) (fs, grows, tries) is result few = (
   es ++ fs,
   grows-more a b c es fs grew grows,
-  subst (Ran pit task retries n (es ++ fs)) (sym result) (settles pit task retries n k es fs r few repeats (subst (Tries pit task n fs) is tries)),
+  subst (Ran pit task retries n a.seen c.seen (es ++ fs)) (sym result)
+      (settles pit task retries n k a.seen b.seen c.seen es fs r few repeats grows.seen (subst (Tries pit task n b.seen c.seen fs) is tries)),
 )
 
 pub try-stopped : (pit : Pit) (task : Job) (retries n k : ℕ) (a b c : PlannerState) (t : Tried) (s : JobStop)
-    → ((es : List Answered) × Grows a es b × Repeats pit task n k es) → ((fs : List Answered) × Grows b fs c × Tries pit task n fs t)
-    → t ≡ tried.Stopped s → k ≤ retries → (es : List Answered) × Grows a es c × Repeats pit task n retries es
-try-stopped pit task retries n k a b c t s (es, grew, repeats) (fs, grows, tries) is few =
-    (es ++ fs, grows-more a b c es fs grew grows, stops pit task retries n k es fs few (subst (Tries pit task n fs) is tries) repeats)
-
-pub try-last : (pit : Pit) (task : Job) (retries n k : ℕ) (a b c : PlannerState) (t : Tried) (block version : ℕ)
-    → ((es : List Answered) × Grows a es b × Repeats pit task n k es) → ((fs : List Answered) × Grows b fs c × Tries pit task n fs t)
-    → t ≡ tried.Moved block version → k ≤ retries → (es : List Answered) × Grows a es c × Ran pit task retries n es (outcome.Refused (refusal.Moved block version) (retries + 1))
-try-last pit task retries n k a b c t block version (es, grew, repeats) (fs, grows, tries) is few = (
+    → ((es : List Answered) × Grows a es b × Repeats pit task n k a.seen b.seen es) → ((fs : List Answered) × Grows b fs c × Tries pit task n b.seen c.seen fs t)
+    → t ≡ tried.Stopped s → k ≤ retries → (es : List Answered) × Grows a es c × LeftOff pit task retries n a.seen c.seen es
+try-stopped pit task retries n k a b c t s (es, grew, repeats) (fs, grows, tries) is few = (
   es ++ fs,
   grows-more a b c es fs grew grows,
-  gives-up pit task retries n es fs block version (repeats-few pit task n k retries es few repeats) (subst (Tries pit task n fs) is tries),
+  stops pit task retries n k a.seen b.seen c.seen es fs few (subst (Tries pit task n b.seen c.seen fs) is tries) grows.seen repeats,
+)
+
+pub try-last : (pit : Pit) (task : Job) (retries n k : ℕ) (a b c : PlannerState) (t : Tried) (block version : ℕ)
+    → ((es : List Answered) × Grows a es b × Repeats pit task n k a.seen b.seen es) → ((fs : List Answered) × Grows b fs c × Tries pit task n b.seen c.seen fs t)
+    → t ≡ tried.Moved block version → k ≡ retries
+    → (es : List Answered) × Grows a es c × Ran pit task retries n a.seen c.seen es (outcome.Refused (refusal.Moved block version) (retries + 1))
+try-last pit task retries n k a b c t block version (es, grew, repeats) (fs, grows, tries) is all = (
+  es ++ fs,
+  grows-more a b c es fs grew grows,
+  gives-up pit task retries n k a.seen b.seen c.seen es fs block version all repeats (subst (Tries pit task n b.seen c.seen fs) is tries),
 )
 
 -- ---- scripts
@@ -115,37 +140,39 @@ try-last pit task retries n k a b c t block version (es, grew, repeats) (fs, gro
 drop-here : (xs : List Job) (i : ℕ) (task : Job) → i < length xs → job_at xs i ≡ task → drop i xs ≡ task ∷ drop (i + 1) xs
 drop-here xs i task h is = rw (add-one, drop-cons xs i empty_job, is)
 
-pub up_to-none : (pit : Pit) (retries : ℕ) (jobs : List Job) → RanUpTo pit retries jobs 0 1 [] []
-up_to-none pit retries jobs later more ended ran = ran
+pub up_to-none : (pit : Pit) (retries : ℕ) (seen : List Answered) (jobs : List Job) → RanUpTo pit retries seen seen jobs 0 1 [] []
+up_to-none pit retries seen jobs new later more ended ran = ran
 
 -- one job more
-pub up_to-next : (pit : Pit) (retries : ℕ) (jobs : List Job) (i n : ℕ) (task : Job) (es mine : List Answered) (os : List Outcome) (o : Outcome) → i < length jobs → job_at jobs i ≡ task
-    → RanUpTo pit retries jobs i n es os → Ran pit task retries n mine o → RanUpTo pit retries jobs (i + 1) (n + 1) (es ++ mine) (os ++ o ∷ [])
-up_to-next pit retries jobs i n task es mine os o less at up_to ran later more ended rest =
-    let here : RanFrom pit retries n (drop i jobs) (mine ++ later) (o ∷ more) ended =
-    subst (λ (xs : List Job). RanFrom pit retries n xs (mine ++ later) (o ∷ more) ended) (sym (drop-here jobs i task less at)) (mine, later, refl, ran, rest) in
-    let all : RanFrom pit retries 1 jobs (es ++ (mine ++ later)) (os ++ o ∷ more) ended = up_to (mine ++ later) (o ∷ more) ended here in
-    let a : RanFrom pit retries 1 jobs ((es ++ mine) ++ later) (os ++ o ∷ more) ended =
-    subst (λ (xs : List Answered). RanFrom pit retries 1 jobs xs (os ++ o ∷ more) ended) (sym (append_assoc es mine later)) all in
-    subst (λ (xs : List Outcome). RanFrom pit retries 1 jobs ((es ++ mine) ++ later) xs ended) (sym (append_assoc os (o ∷ []) more)) a
+pub up_to-next : (pit : Pit) (retries : ℕ) (old mid now : List Answered) (jobs : List Job) (i n : ℕ) (task : Job) (es mine : List Answered) (os : List Outcome) (o : Outcome)
+    → i < length jobs → job_at jobs i ≡ task → RanUpTo pit retries old mid jobs i n es os → Ran pit task retries n mid now mine o
+    → RanUpTo pit retries old now jobs (i + 1) (n + 1) (es ++ mine) (os ++ o ∷ [])
+up_to-next pit retries old mid now jobs i n task es mine os o less at up_to ran new later more ended rest =
+    let here : RanFrom pit retries mid new n (drop i jobs) (mine ++ later) (o ∷ more) ended =
+    subst (λ (xs : List Job). RanFrom pit retries mid new n xs (mine ++ later) (o ∷ more) ended) (sym (drop-here jobs i task less at)) (now, mine, later, refl, ran, rest) in
+    let all : RanFrom pit retries old new 1 jobs (es ++ (mine ++ later)) (os ++ o ∷ more) ended = up_to new (mine ++ later) (o ∷ more) ended here in
+    let a : RanFrom pit retries old new 1 jobs ((es ++ mine) ++ later) (os ++ o ∷ more) ended =
+    subst (λ (xs : List Answered). RanFrom pit retries old new 1 jobs xs (os ++ o ∷ more) ended) (sym (append_assoc es mine later)) all in
+    subst (λ (xs : List Outcome). RanFrom pit retries old new 1 jobs ((es ++ mine) ++ later) xs ended) (sym (append_assoc os (o ∷ []) more)) a
 
 -- the run stops at a job
-pub up_to-stop : (pit : Pit) (retries : ℕ) (jobs : List Job) (i n : ℕ) (task : Job) (es mine : List Answered) (os : List Outcome) (ended : RunEnd) → i < length jobs → job_at jobs i ≡ task
-    → RanUpTo pit retries jobs i n es os → EndedBefore n ended → Repeats pit task n retries mine → RanFrom pit retries 1 jobs (es ++ mine) os ended
-up_to-stop pit retries jobs i n task es mine os ended less at up_to stop repeats =
-    let here : RanFrom pit retries n (drop i jobs) mine [] ended =
-    subst (λ (xs : List Job). RanFrom pit retries n xs mine [] ended) (sym (drop-here jobs i task less at)) (stop, repeats) in
-    subst (λ (xs : List Outcome). RanFrom pit retries 1 jobs (es ++ mine) xs ended) (append-nil os) (up_to mine [] ended here)
+pub up_to-stop : (pit : Pit) (retries : ℕ) (old mid new : List Answered) (jobs : List Job) (i n : ℕ) (task : Job) (es mine : List Answered) (os : List Outcome) (ended : RunEnd)
+    → i < length jobs → job_at jobs i ≡ task → RanUpTo pit retries old mid jobs i n es os → EndedBefore n ended → LeftOff pit task retries n mid new mine
+    → RanFrom pit retries old new 1 jobs (es ++ mine) os ended
+up_to-stop pit retries old mid new jobs i n task es mine os ended less at up_to stop left =
+    let here : RanFrom pit retries mid new n (drop i jobs) mine [] ended =
+    subst (λ (xs : List Job). RanFrom pit retries mid new n xs mine [] ended) (sym (drop-here jobs i task less at)) (stop, left) in
+    subst (λ (xs : List Outcome). RanFrom pit retries old new 1 jobs (es ++ mine) xs ended) (append-nil os) (up_to new mine [] ended here)
 
 -- all jobs have their outcomes
-pub up_to-whole : (pit : Pit) (retries : ℕ) (jobs : List Job) (i n : ℕ) (es : List Answered) (os : List Outcome) → length jobs ≤ i
-    → RanUpTo pit retries jobs i n es os → RanFrom pit retries 1 jobs es os end.Whole
-up_to-whole pit retries jobs i n es os past up_to =
-    let here : RanFrom pit retries n (drop i jobs) [] [] end.Whole =
-    subst (λ (xs : List Job). RanFrom pit retries n xs [] [] end.Whole) (sym (drop_all i jobs past)) (refl, refl) in
-    let all : RanFrom pit retries 1 jobs (es ++ []) (os ++ []) end.Whole = up_to [] [] end.Whole here in
-    let a = subst (λ (xs : List Outcome). RanFrom pit retries 1 jobs (es ++ []) xs end.Whole) (append-nil os) all in
-    subst (λ (xs : List Answered). RanFrom pit retries 1 jobs xs os end.Whole) (append-nil es) a
+pub up_to-whole : (pit : Pit) (retries : ℕ) (old new : List Answered) (jobs : List Job) (i n : ℕ) (es : List Answered) (os : List Outcome) → length jobs ≤ i
+    → RanUpTo pit retries old new jobs i n es os → RanFrom pit retries old new 1 jobs es os end.Whole
+up_to-whole pit retries old new jobs i n es os past up_to =
+    let here : RanFrom pit retries new new n (drop i jobs) [] [] end.Whole =
+    subst (λ (xs : List Job). RanFrom pit retries new new n xs [] [] end.Whole) (sym (drop_all i jobs past)) (refl, refl, prefix-refl new) in
+    let all : RanFrom pit retries old new 1 jobs (es ++ []) (os ++ []) end.Whole = up_to new [] [] end.Whole here in
+    let a = subst (λ (xs : List Outcome). RanFrom pit retries old new 1 jobs (es ++ []) xs end.Whole) (append-nil os) all in
+    subst (λ (xs : List Answered). RanFrom pit retries old new 1 jobs xs os end.Whole) (append-nil es) a
 
 end_of-before : (s : JobStop) (n : ℕ) → EndedBefore n (end_of s n)
 end_of-before stop.Full n = refl
@@ -154,35 +181,38 @@ end_of-before stop.NoEntry n = refl
 
 -- a job has its outcome
 pub job-done : (pit : Pit) (retries : ℕ) (jobs : List Job) (i n : ℕ) (task : Job) (a b c : PlannerState) (os outs : List Outcome) (o : Outcome) (answer : Result Outcome JobStop)
-    → i < length jobs → job_at jobs i ≡ task → ((es : List Answered) × Grows a es b × RanUpTo pit retries jobs i n es os)
-    → ((fs : List Answered) × Grows b fs c × RanJob pit task retries n fs answer) → answer ≡ Ok o → outs ≡ os ++ o ∷ []
-    → (es : List Answered) × Grows a es c × RanUpTo pit retries jobs (i + 1) (n + 1) es outs
+    → i < length jobs → job_at jobs i ≡ task → ((es : List Answered) × Grows a es b × RanUpTo pit retries a.seen b.seen jobs i n es os)
+    → ((fs : List Answered) × Grows b fs c × RanJob pit task retries n b.seen c.seen fs answer) → answer ≡ Ok o → outs ≡ os ++ o ∷ []
+    → (es : List Answered) × Grows a es c × RanUpTo pit retries a.seen c.seen jobs (i + 1) (n + 1) es outs
 job-done pit retries jobs i n task a b c os outs o answer less at (es, grew, up_to) (fs, grows, ran) is pushed = (
   es ++ fs,
   grows-more a b c es fs grew grows,
-  subst (RanUpTo pit retries jobs (i + 1) (n + 1) (es ++ fs)) (sym pushed) (up_to-next pit retries jobs i n task es fs os o less at up_to (subst (RanJob pit task retries n fs) is ran)),
+  subst (RanUpTo pit retries a.seen c.seen jobs (i + 1) (n + 1) (es ++ fs)) (sym pushed)
+      (up_to-next pit retries a.seen b.seen c.seen jobs i n task es fs os o less at up_to (subst (RanJob pit task retries n b.seen c.seen fs) is ran)),
 )
 
 -- a job stops the run
 pub job-stops : (pit : Pit) (retries : ℕ) (jobs : List Job) (i n : ℕ) (task : Job) (a b c : PlannerState) (os outs : List Outcome) (s : JobStop) (answer : Result Outcome JobStop) (ended : RunEnd)
-    → i < length jobs → job_at jobs i ≡ task → ((es : List Answered) × Grows a es b × RanUpTo pit retries jobs i n es os)
-    → ((fs : List Answered) × Grows b fs c × RanJob pit task retries n fs answer) → answer ≡ Err s → ended ≡ end_of s n → outs ≡ os
-    → (es : List Answered) × Grows a es c × RanFrom pit retries 1 jobs es outs ended
+    → i < length jobs → job_at jobs i ≡ task → ((es : List Answered) × Grows a es b × RanUpTo pit retries a.seen b.seen jobs i n es os)
+    → ((fs : List Answered) × Grows b fs c × RanJob pit task retries n b.seen c.seen fs answer) → answer ≡ Err s → ended ≡ end_of s n → outs ≡ os
+    → (es : List Answered) × Grows a es c × RanFrom pit retries a.seen c.seen 1 jobs es outs ended
 job-stops pit retries jobs i n task a b c os outs s answer ended less at (es, grew, up_to) (fs, grows, ran) is result same = (
   es ++ fs,
   grows-more a b c es fs grew grows,
-  subst (λ (xs : List Outcome). RanFrom pit retries 1 jobs (es ++ fs) xs ended) (sym same)
-      (up_to-stop pit retries jobs i n task es fs os ended less at up_to (subst (EndedBefore n) (sym result) (end_of-before s n)) (subst (RanJob pit task retries n fs) is ran)),
+  subst (λ (xs : List Outcome). RanFrom pit retries a.seen c.seen 1 jobs (es ++ fs) xs ended) (sym same)
+      (up_to-stop pit retries a.seen b.seen c.seen jobs i n task es fs os ended less at up_to (subst (EndedBefore n) (sym result) (end_of-before s n))
+      (subst (RanJob pit task retries n b.seen c.seen fs) is ran)),
 )
 
 -- there is no room for its outcome
 pub job-unasked : (pit : Pit) (retries : ℕ) (jobs : List Job) (i n : ℕ) (task : Job) (a b : PlannerState) (os outs : List Outcome)
-    → i < length jobs → job_at jobs i ≡ task → ((es : List Answered) × Grows a es b × RanUpTo pit retries jobs i n es os) → outs ≡ os
-    → (es : List Answered) × Grows a es b × RanFrom pit retries 1 jobs es outs (end.NoMemory n)
-job-unasked pit retries jobs i n task a b os outs less at (es, grew, up_to) same = (
-  es,
-  grew,
-  subst (λ (xs : List Outcome). RanFrom pit retries 1 jobs es xs (end.NoMemory n)) (sym same)
-      (subst (λ (xs : List Answered). RanFrom pit retries 1 jobs xs os (end.NoMemory n)) (append-nil es)
-      (up_to-stop pit retries jobs i n task es [] os (end.NoMemory n) less at up_to refl (repeats-none pit task n retries))),
-)
+    → i < length jobs → job_at jobs i ≡ task → ((es : List Answered) × Grows a es b × RanUpTo pit retries a.seen b.seen jobs i n es os) → outs ≡ os
+    → (es : List Answered) × Grows a es b × RanFrom pit retries a.seen b.seen 1 jobs es outs (end.NoMemory n)
+job-unasked pit retries jobs i n task a b os outs less at (es, grew, up_to) same =
+    let left : LeftOff pit task retries n b.seen b.seen [] = record { before = 0; repeats = repeats-none pit task n b.seen; few = omega arith } in (
+      es,
+      grew,
+      subst (λ (xs : List Outcome). RanFrom pit retries a.seen b.seen 1 jobs es xs (end.NoMemory n)) (sym same)
+          (subst (λ (xs : List Answered). RanFrom pit retries a.seen b.seen 1 jobs xs os (end.NoMemory n)) (append-nil es)
+          (up_to-stop pit retries a.seen b.seen b.seen jobs i n task es [] os (end.NoMemory n) less at up_to refl left)),
+    )

@@ -2,14 +2,14 @@
 use Rattle.std.proofs.Math.Seq.{drop-cons}
 use Rattle.std.proofs.lemmas.List.{drop_all}
 use Rattle.std.proofs.lemmas.Bool.Decides.{eqb_tells}
-use Rattle.std.proofs.Common.{inl, inr, ◌≡◌, ℕ, ℤ, nat_eq, ◌+◌, ◌<◌, ◌≤◌, length, get_or, drop, add-one, Bool, true, false, cond, List, [], ◌∷◌, ◌++◌, Option, Some, None, refl, sym, ap, subst, ◌∙◌}
+use Rattle.std.proofs.Common.{inl, inr, ◌≡◌, ℕ, ℤ, nat_eq, ◌+◌, ◌<◌, ◌≤◌, length, map, get_or, drop, add-one, Bool, true, false, cond, List, [], ◌∷◌, ◌++◌, Option, Some, None, refl, sym, ap, subst, ◌∙◌}
 use Rattle.std.specs.Prelude.{is_some, if◌then◌else◌, Result, Ok}
 use Rattle.pit_model.specs.Pit.{Pit}
 use Rattle.pit_plan.specs.Schedule.{Commit}
 use Rattle.pit_model.specs.Fitting.{pair_eq}
 use Rattle.pit_keyed.specs.Keyed.{at_key, with_write}
 use Rattle.pit_tx.specs.Sets.{Sets, known_of}
-use Rattle.pit_share.specs.Planners.{PlannerState, TransactionState, SeesOn}
+use Rattle.pit_share.specs.Planners.{TransactionState, SeesOn}
 use Rattle.pit_share.specs.Reads.{IsNoted, IsLookedUp}
 use Rattle.pit_share.specs.declared.error.ReadStop.{ReadStop}
 use Rattle.pit_script.specs.Benches.{bench_of}
@@ -18,7 +18,8 @@ use Rattle.pit_script.specs.declared.step.Step.TheVariants as step
 use Rattle.pit_job.specs.Effect.{Agrees, Known, Effect, changes, read_in, seen, looked, moved_by, put_at, with_written, with_revised, with_bench, step_after, next, steps_after}
 use Rattle.pit_job.specs.Shifts.{shifted}
 use Rattle.pit_job.proofs.Agreeing.{seen-agrees}
-use Rattle.pit_job.specs.Inside.Doing.{own_of, SameLog, Same, LooksUp, Puts, DoesStep, DoesSteps}
+use Rattle.pit_job.specs.Inside.Doing.{own_of, Same, LooksUp, Puts, DoesStep, DoesSteps}
+use Rattle.pit_job.proofs.Seeing.{sees-same, sees-trans}
 
 -- ---- reads
 
@@ -46,24 +47,16 @@ Agrees-refl k b v is = is
 Agrees-trans : (k l m : Known) → Agrees k l → Agrees l m → Agrees k m
 Agrees-trans k l m f g b v is = g b v (f b v is)
 
-log-refl : (p : PlannerState) → SameLog p p
-log-refl p = record { number = refl; items = refl }
-
 pub same-refl : (t : TransactionState) → Same t t
-same-refl t = record { log = log-refl t.planner; job = refl; reads = Agrees-refl (read_in t.work.reads) }
-
-pub log-trans : (a b c : PlannerState) → SameLog a b → SameLog b c → SameLog a c
-log-trans a b c f g = record { number = g.number ∙ f.number; items = g.items ∙ f.items }
+same-refl t = record { sees = sees-same t.planner t.planner refl; job = refl; start = refl; reads = Agrees-refl (read_in t.work.reads) }
 
 pub same-trans : (a b c : TransactionState) → Same a b → Same b c → Same a c
 same-trans a b c f g = record {
-  log = log-trans a.planner b.planner c.planner f.log g.log;
+  sees = sees-trans a.planner b.planner c.planner f.sees g.sees;
   job = g.job ∙ f.job;
+  start = g.start ∙ f.start;
   reads = Agrees-trans (read_in a.work.reads) (read_in b.work.reads) (read_in c.work.reads) f.reads g.reads;
 }
-
-pub log-sees : (old new : PlannerState) → SeesOn old new → SameLog old new
-log-sees old new sees = record { number = sees.number; items = sees.items }
 
 -- a block that was known
 pub looks-known : (old new : TransactionState) (b : ℕ) (period : Option ℕ) → new ≡ old → known_of old.work b ≡ Some period → LooksUp old b period new
@@ -91,8 +84,9 @@ same-key b p = ap (λ (o : Bool). cond o (Some p) None) (nat_eq-same b)
 pub looks-noted : (old new : TransactionState) (b : ℕ) (period : Option ℕ) → SeesOn old.planner new.planner → known_of old.work b ≡ None → IsNoted old b period new → LooksUp old b period new
 looks-noted old new b period sees unknown noted = record {
   same = record {
-    log = log-sees old.planner new.planner sees;
+    sees = sees;
     job = ap (λ (w : Sets). w.job) noted.work;
+    start = ap (λ (w : Sets). w.start) noted.work;
     reads = subst (λ (w : Sets). Agrees (read_in old.work.reads) (read_in w.reads)) (sym noted.work) (λ c v is. read-front old.work.reads ((b, period) ∷ []) c v is);
   };
   own = ap (λ (w : Sets). own_of w) noted.work;
@@ -183,7 +177,7 @@ steps-fail pit old new s ss first = record {
   does = λ known agrees. ap (λ (e : Effect). next e (λ after. steps_after pit known after ss)) (first.does known agrees);
 }
 
-drop-here : (xs : List Step) (i : ℕ) (d : Step) → i < length xs → drop i xs ≡ get_or xs i d ∷ drop (i + 1) xs
+drop-here : {X : Type 0} (xs : List X) (i : ℕ) (d : X) → i < length xs → drop i xs ≡ get_or xs i d ∷ drop (i + 1) xs
 drop-here xs i d h = rw (add-one, drop-cons xs i d)
 
 -- the step at i, and then those after it
@@ -204,8 +198,9 @@ steps-end pit t xs i past = subst (λ (ss : List Step). DoesSteps pit t ss true 
 
 writes-same : (old new : TransactionState) (writes : List (ℕ × Option ℕ)) → new.planner ≡ old.planner → new.work ≡ record old.work { writes = writes } → Same old new
 writes-same old new writes planner work = record {
-  log = subst (λ (p : PlannerState). SameLog old.planner p) (sym planner) (log-refl old.planner);
+  sees = sees-same old.planner new.planner planner;
   job = ap (λ (w : Sets). w.job) work;
+  start = ap (λ (w : Sets). w.start) work;
   reads = subst (λ (w : Sets). Agrees (read_in old.work.reads) (read_in w.reads)) (sym work) (Agrees-refl (read_in old.work.reads));
 }
 
@@ -219,8 +214,9 @@ pub revised-does : (pit : Pit) (old new : TransactionState) (r t : ℕ) (upper :
     → new.work ≡ record old.work { revises = with_write pair_eq old.work.revises (r, t) upper } → DoesStep pit old (step.Revise r t upper) true new
 revised-does pit old new r t upper planner work =
     revise-does pit old new r t upper (record {
-      log = subst (λ (p : PlannerState). SameLog old.planner p) (sym planner) (log-refl old.planner);
+      sees = sees-same old.planner new.planner planner;
       job = ap (λ (w : Sets). w.job) work;
+      start = ap (λ (w : Sets). w.start) work;
       reads = subst (λ (w : Sets). Agrees (read_in old.work.reads) (read_in w.reads)) (sym work) (Agrees-refl (read_in old.work.reads));
     }) (ap (λ (w : Sets). own_of w) work)
 
@@ -251,6 +247,14 @@ bench-more old now after blocks left more b t next so_far puts = record {
   same = same-trans old now after so_far.same puts.same;
   own = ap (λ (own : Commit). with_bench own more t) puts.own ∙ sym (ap (λ (bs : List ℕ). with_bench (own_of now.work) bs t) next) ∙ so_far.own;
 }
+
+-- the block at i
+pub bench-next : (old now after : TransactionState) (placed : List (ℤ × ℕ)) (i t : ℕ) (d : ℤ × ℕ) → i < length placed
+    → IsBenchTo old (map (λ p. p.1) placed) (map (λ p. p.1) (drop i placed)) t now → Puts now (get_or placed i d).1 (Some t) after
+    → IsBenchTo old (map (λ p. p.1) placed) (map (λ p. p.1) (drop (i + 1) placed)) t after
+bench-next old now after placed i t d less so_far puts =
+    bench-more old now after (map (λ p. p.1) placed) (map (λ p. p.1) (drop i placed)) (map (λ p. p.1) (drop (i + 1) placed)) (get_or placed i d).1 t
+    (ap (λ (ps : List (ℤ × ℕ)). map (λ p. p.1) ps) (drop-here placed i d less)) so_far puts
 
 pub bench-ends : (pit : Pit) (old new : TransactionState) (height : ℤ) (blocks left : List ℕ) (t : ℕ) → left ≡ [] → blocks ≡ bench_of pit height → IsBenchTo old blocks left t new
     → DoesStep pit old (step.Bench height t) true new

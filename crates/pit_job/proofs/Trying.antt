@@ -1,10 +1,10 @@
 -- What a try adds to a log.
-use Rattle.std.proofs.lemmas.List.Elements.{All-cons, All-nil}
-use Rattle.std.proofs.Common.{◌≡◌, ℕ, Bool, true, false, List, [], ◌∷◌, ◌++◌, refl, sym, ap, subst, ◌∙◌, arith, append-nil}
+use Rattle.std.proofs.Common.{◌≡◌, ℕ, ◌≤◌, true, false, List, [], ◌∷◌, ◌++◌, length, refl, sym, ap, subst, ◌∙◌, arith, append-nil, inl, inr, Bool}
+use mathlib.Core.List.{IsPrefix}
 use Rattle.pit_model.specs.Pit.{Pit}
 use Rattle.pit_plan.specs.Schedule.{Commit}
 use Rattle.pit_tx.specs.Sets.{Sets}
-use Rattle.pit_desk.specs.History.{Call, Answered}
+use Rattle.pit_desk.specs.History.{Call, Answered, commits_of}
 use Rattle.pit_desk.specs.Calls.{work_call, entry_reply}
 use Rattle.pit_desk.specs.declared.entry.Act.{Act}
 use Rattle.pit_desk.specs.declared.entry.Act.TheVariants as act
@@ -16,35 +16,36 @@ use Rattle.pit_desk.specs.declared.reply.Reply.TheVariants as answered
 use Rattle.pit_script.specs.Jobs.{Job}
 use Rattle.pit_script.specs.declared.step.JobEnd.{JobEnd}
 use Rattle.pit_script.specs.declared.step.JobEnd.TheVariants as ending
-use Rattle.pit_share.specs.Endings.{IsEnded}
-use Rattle.pit_share.specs.Planners.{PlannerState, TransactionState, Begins}
+use Rattle.pit_share.specs.Endings.{IsAnswered, IsEnded}
+use Rattle.pit_share.specs.Planners.{PlannerState, TransactionState, Begins, SeesOn}
 use Rattle.pit_job.specs.Effect.{nothing, no_change, read_in, effect, ended, steps_after, HasEffect}
+use Rattle.pit_job.specs.declared.doing.StepStop.TheVariants as met
 use Rattle.pit_job.specs.declared.outcome.JobStop.{JobStop}
 use Rattle.pit_job.specs.declared.outcome.Tried.{Tried}
 use Rattle.pit_job.specs.declared.outcome.Tried.TheVariants as tried
-use Rattle.pit_job.specs.Inside.Doing.{own_of, SameLog, DoesSteps, IsFresh, come_to}
-use Rattle.pit_job.specs.Outcomes.{IsItem, Repeats, Grows, is_moved_reply}
+use Rattle.pit_job.specs.Inside.Doing.{own_of, Same, DoesSteps, Meets, IsFresh, come_to}
+use Rattle.pit_job.specs.Outcomes.{IsRead, Grows}
 use Rattle.pit_job.specs.Inside.Outcomes.{Tries, EndsBy, tried_of}
+use Rattle.pit_job.proofs.Seeing.{prefix-trans, sees-same, answered-moved}
+use Rattle.pit_job.proofs.Growing.{try-from}
 
--- one entry that was answered Moved
-pub repeats-one : (pit : Pit) (task : Job) (n : ℕ) (e : Answered) → IsItem pit task n e → is_moved_reply e.reply ≡ true → Repeats pit task n 1 (e ∷ [])
-repeats-one pit task n e item moved = record {
-  items = All-cons (λ e. IsItem pit task n e) e [] item (All-nil (λ e. IsItem pit task n e));
-  moved = All-cons (λ e. is_moved_reply e.reply ≡ true) e [] moved (All-nil (λ e. is_moved_reply e.reply ≡ true));
-  few = omega arith;
+-- an ending is a try's, where the call has the job's effect, and began after what had been seen
+pub tries-of : (pit : Pit) (task : Job) (n : ℕ) (how : Act) (w : Sets) (old new : PlannerState) (es : List Answered) (t : Tried) → w.job ≡ n → length (commits_of old.seen) ≤ w.start
+    → HasEffect pit task (work_call w how) → Grows old es new → EndsBy how w new.seen es t → Tries pit task n old.seen new.seen es t
+tries-of pit task n how w old new es (tried.Moved block version) same after has grows (is, moved) = record {
+  start = w.start;
+  after = after;
+  sees = grows.seen;
+  moved = moved;
+  made = inl (
+    record { call = work_call w how; reply = reply.Refused (refusal.Moved block version) },
+    is,
+    record { item = record { job = same; effect = has }; begun = refl; answer = refl },
+  );
 }
-
-pub repeats-none : (pit : Pit) (task : Job) (n most : ℕ) → Repeats pit task n most []
-repeats-none pit task n most = record { items = All-nil (λ e. IsItem pit task n e); moved = All-nil (λ e. is_moved_reply e.reply ≡ true); few = omega arith }
-
--- an ending is a try's, where the call has the job's effect
-pub tries-of : (pit : Pit) (task : Job) (n : ℕ) (how : Act) (w : Sets) (es : List Answered) (t : Tried) → w.job ≡ n → HasEffect pit task (work_call w how)
-    → EndsBy how w es t → Tries pit task n es t
-tries-of pit task n how w es (tried.Moved block version) same has (answer, is, moved) =
-    subst (Repeats pit task n 1) (sym is) (repeats-one pit task n (record { call = work_call w how; reply = answer }) (record { job = same; effect = has }) moved)
-tries-of pit task n how w es (tried.Answered answer) same has (is, other) =
+tries-of pit task n how w old new es (tried.Answered answer) same after has grows (is, other) =
     (record { call = work_call w how; reply = answer }, is, record { job = same; effect = has }, refl, other)
-tries-of pit task n how w es (tried.Stopped why) same has is = is
+tries-of pit task n how w old new es (tried.Stopped why) same after has grows is = is
 
 -- what all steps come to, over the reads that were made
 steps-come : (pit : Pit) (task : Job) (n : ℕ) (old new : TransactionState) (goes : Bool) → IsFresh n old → DoesSteps pit old task.steps goes new
@@ -72,68 +73,93 @@ failed-has pit task n old new fresh does = by task.end (steps-come pit task n ol
     by ending.Abort is = ap (ended ending.Abort) is
 
 -- a commit's answer
-pub commit-ends : (w : Sets) (es : List Answered) (r : Reply) → es ≡ record { call = work_call w act.Commit; reply = entry_reply r } ∷ [] → EndsBy act.Commit w es (tried_of r)
-commit-ends w es (answered.Committed number) is = (is, refl)
-commit-ends w es (answered.Refused (refusal.Ahead start commits)) is = (is, refl)
-commit-ends w es (answered.Refused (refusal.Moved block version)) is = (entry_reply (answered.Refused (refusal.Moved block version)), is, refl)
-commit-ends w es (answered.Refused (refusal.Misread block)) is = (is, refl)
-commit-ends w es (answered.Refused (refusal.Precedence block before)) is = (is, refl)
-commit-ends w es (answered.Refused (refusal.Over resource period load limit)) is = (is, refl)
+pub commit-ends : (pit : Pit) (w : Sets) (old seen es : List Answered) (r : Reply) → IsAnswered pit (work_call w act.Commit) (entry_reply r) old seen
+    → es ≡ record { call = work_call w act.Commit; reply = entry_reply r } ∷ [] → EndsBy act.Commit w seen es (tried_of r)
+commit-ends pit w old seen es (answered.Committed number) answer is = (is, refl)
+commit-ends pit w old seen es (answered.Refused (refusal.Ahead start commits)) answer is = (is, refl)
+commit-ends pit w old seen es (answered.Refused (refusal.Moved block version)) answer is =
+    (is, answered-moved pit (work_call w act.Commit) (reply.Refused (refusal.Moved block version)) old seen block version answer refl)
+commit-ends pit w old seen es (answered.Refused (refusal.Misread block)) answer is = (is, refl)
+commit-ends pit w old seen es (answered.Refused (refusal.Precedence block before)) answer is = (is, refl)
+commit-ends pit w old seen es (answered.Refused (refusal.Over resource period load limit)) answer is = (is, refl)
 
-grows-on : (old new p : PlannerState) (es : List Answered) → SameLog old new → Grows new es p → Grows old es p
-grows-on old new p es same grows = record {
-  number = grows.number ∙ same.number;
-  items = grows.items ∙ ap (λ (xs : List Answered). xs ++ es) same.items;
+grows-on : (old new p : PlannerState) (es : List Answered) → SeesOn old new → Grows new es p → Grows old es p
+grows-on old new p es sees grows = record {
+  number = grows.number ∙ sees.number;
+  items = grows.items ∙ ap (λ (xs : List Answered). xs ++ es) sees.items;
+  seen = prefix-trans old.seen new.seen p.seen sees.seen grows.seen;
 }
 
-pub ends-tries : (pit : Pit) (task : Job) (n : ℕ) (old new : TransactionState) (how : Act) (p : PlannerState) (t : Tried) → SameLog old.planner new.planner → new.work.job ≡ n
-    → HasEffect pit task (work_call new.work how) → ((es : List Answered) × Grows new.planner es p × EndsBy how new.work es t)
-    → (es : List Answered) × Grows old.planner es p × Tries pit task n es t
-ends-tries pit task n old new how p t log job has (es, grows, ends) =
-    (es, grows-on old.planner new.planner p es log grows, tries-of pit task n how new.work es t job has ends)
+-- the transaction's start is still past what had been seen
+start-after : (n : ℕ) (old new : TransactionState) → IsFresh n old → Same old new → length (commits_of old.planner.seen) ≤ new.work.start
+start-after n old new fresh same = let is = same.start in let after = fresh.after in omega arith
+
+-- a try that had seen less before
+tries-from : (pit : Pit) (task : Job) (n : ℕ) (less old new es : List Answered) (t : Tried) → IsPrefix less old → Tries pit task n old new es t → Tries pit task n less new es t
+tries-from pit task n less old new es (tried.Moved block version) begins tries = try-from pit task n less old new es block version begins tries
+tries-from pit task n less old new es (tried.Answered answer) begins tries = tries
+tries-from pit task n less old new es (tried.Stopped why) begins tries = tries
+
+pub ends-tries : (pit : Pit) (task : Job) (n : ℕ) (old new : TransactionState) (how : Act) (p : PlannerState) (t : Tried) → IsFresh n old → Same old new
+    → HasEffect pit task (work_call new.work how) → ((es : List Answered) × Grows new.planner es p × EndsBy how new.work p.seen es t)
+    → (es : List Answered) × Grows old.planner es p × Tries pit task n old.planner.seen p.seen es t
+ends-tries pit task n old new how p t fresh same has (es, grows, ends) =
+    let grew = grows-on old.planner new.planner p es same.sees grows in
+    (es, grew, tries-of pit task n how new.work old.planner p es t (same.job ∙ fresh.job) (start-after n old new fresh same) has grew ends)
 
 -- the same of a job by another name
-pub tries-same : (pit : Pit) (task other : Job) (n : ℕ) (old p : PlannerState) (t : Tried) → other ≡ task → ((es : List Answered) × Grows old es p × Tries pit task n es t)
-    → (es : List Answered) × Grows old es p × Tries pit other n es t
-tries-same pit task other n old p t same (es, grows, tries) = (es, grows, subst (λ (j : Job). Tries pit j n es t) (sym same) tries)
+pub tries-same : (pit : Pit) (task other : Job) (n : ℕ) (old p : PlannerState) (t : Tried) → other ≡ task → ((es : List Answered) × Grows old es p × Tries pit task n old.seen p.seen es t)
+    → (es : List Answered) × Grows old es p × Tries pit other n old.seen p.seen es t
+tries-same pit task other n old p t same (es, grows, tries) = (es, grows, subst (λ (j : Job). Tries pit j n old.seen p.seen es t) (sym same) tries)
 
-pub grows-none : (old new : PlannerState) → SameLog old new → Grows old [] new
-grows-none old new same = record { number = same.number; items = same.items ∙ sym (append-nil old.items) }
+pub grows-none : (old new : PlannerState) → SeesOn old new → Grows old [] new
+grows-none old new sees = record { number = sees.number; items = sees.items ∙ sym (append-nil old.items); seen = sees.seen }
 
-pub moved-tries : (pit : Pit) (task : Job) (n : ℕ) (old p : PlannerState) (block version : ℕ) → SameLog old p
-    → (es : List Answered) × Grows old es p × Tries pit task n es (tried.Moved block version)
-moved-tries pit task n old p block version same = ([], grows-none old p same, repeats-none pit task n 1)
-
-pub log-same : (old new : PlannerState) → new ≡ old → SameLog old new
-log-same old new same = record { number = ap (λ (p : PlannerState). p.number) same; items = ap (λ (p : PlannerState). p.items) same }
+-- a try whose steps met a block that moved
+pub moved-tries : (pit : Pit) (task : Job) (n : ℕ) (old : TransactionState) (p : PlannerState) (block version : ℕ) → IsFresh n old → SeesOn old.planner p
+    → Meets (IsRead task.steps) old.work.start p.seen (met.Moved block version)
+    → (es : List Answered) × Grows old.planner es p × Tries pit task n old.planner.seen p.seen es (tried.Moved block version)
+moved-tries pit task n old p block version fresh sees meets = (
+  [],
+  grows-none old.planner p sees,
+  record { start = old.work.start; after = fresh.after; sees = sees.seen; moved = meets.1; made = inr (refl, meets.0) },
+)
 
 pub ended-grows : (pit : Pit) (old new : PlannerState) (call : Call) (reply : EntryReply) → IsEnded pit old call reply new → Grows old (record { call = call; reply = reply } ∷ []) new
-ended-grows pit old new call reply ended = record { number = ended.number; items = ended.items }
+ended-grows pit old new call reply ended = record { number = ended.number; items = ended.items; seen = ended.seen }
 
 -- a try that stops adds nothing
-pub stopped-tries : (pit : Pit) (task : Job) (n : ℕ) (old p : PlannerState) (why : JobStop) → SameLog old p
-    → (es : List Answered) × Grows old es p × Tries pit task n es (tried.Stopped why)
-stopped-tries pit task n old p why same = ([], grows-none old p same, refl)
+pub stopped-tries : (pit : Pit) (task : Job) (n : ℕ) (old p : PlannerState) (why : JobStop) → SeesOn old p
+    → (es : List Answered) × Grows old es p × Tries pit task n old.seen p.seen es (tried.Stopped why)
+stopped-tries pit task n old p why sees = ([], grows-none old p sees, refl)
 
-pub stopped-ends : (how : Act) (w : Sets) (old p : PlannerState) (why : JobStop) → p ≡ old → (es : List Answered) × Grows old es p × EndsBy how w es (tried.Stopped why)
-stopped-ends how w old p why same = ([], grows-none old p (log-same old p same), refl)
+pub stopped-ends : (how : Act) (w : Sets) (old p : PlannerState) (why : JobStop) → p ≡ old → (es : List Answered) × Grows old es p × EndsBy how w p.seen es (tried.Stopped why)
+stopped-ends how w old p why same = ([], grows-none old p (sees-same old p same), refl)
 
 -- a withdrawal that was answered
 pub withdrawn-ends : (pit : Pit) (w : Sets) (old p : PlannerState) → IsEnded pit old (work_call w act.Withdraw) reply.Withdrawn p
-    → (es : List Answered) × Grows old es p × EndsBy act.Withdraw w es (tried.Answered reply.Withdrawn)
+    → (es : List Answered) × Grows old es p × EndsBy act.Withdraw w p.seen es (tried.Answered reply.Withdrawn)
 withdrawn-ends pit w old p ended =
     (record { call = work_call w act.Withdraw; reply = reply.Withdrawn } ∷ [], ended-grows pit old p (work_call w act.Withdraw) reply.Withdrawn ended, (refl, refl))
 
 -- and a commit
 pub answered-ends : (pit : Pit) (w : Sets) (old p : PlannerState) (r : Reply) (t : Tried) → IsEnded pit old (work_call w act.Commit) (entry_reply r) p → t ≡ tried_of r
-    → (es : List Answered) × Grows old es p × EndsBy act.Commit w es t
+    → (es : List Answered) × Grows old es p × EndsBy act.Commit w p.seen es t
 answered-ends pit w old p r t ended is =
-    let es : List Answered = record { call = work_call w act.Commit; reply = entry_reply r } ∷ [] in
-    (es, ended-grows pit old p (work_call w act.Commit) (entry_reply r) ended, subst (λ (x : Tried). EndsBy act.Commit w es x) (sym is) (commit-ends w es r refl))
+    let es : List Answered = record { call = work_call w act.Commit; reply = entry_reply r } ∷ [] in (
+      es,
+      ended-grows pit old p (work_call w act.Commit) (entry_reply r) ended,
+      subst (λ (x : Tried). EndsBy act.Commit w p.seen es x) (sym is) (commit-ends pit w old.seen p.seen es r ended.answer refl),
+    )
 
-pub begun-tries : (pit : Pit) (task : Job) (n : ℕ) (old new p : PlannerState) (t : Tried) → SameLog old new → ((es : List Answered) × Grows new es p × Tries pit task n es t)
-    → (es : List Answered) × Grows old es p × Tries pit task n es t
-begun-tries pit task n old new p t same (es, grows, tries) = (es, grows-on old new p es same grows, tries)
+pub begun-tries : (pit : Pit) (task : Job) (n : ℕ) (old new p : PlannerState) (t : Tried) → SeesOn old new
+    → ((es : List Answered) × Grows new es p × Tries pit task n new.seen p.seen es t) → (es : List Answered) × Grows old es p × Tries pit task n old.seen p.seen es t
+begun-tries pit task n old new p t sees (es, grows, tries) =
+    (es, grows-on old new p es sees grows, tries-from pit task n old.seen new.seen p.seen es t sees.seen tries)
 
 pub fresh-of : (pit : Pit) (old : PlannerState) (n : ℕ) (t : TransactionState) → Begins pit old n t → IsFresh n t
-fresh-of pit old n t begins = record { job = ap (λ (w : Sets). w.job) begins.work; own = ap (λ (w : Sets). own_of w) begins.work }
+fresh-of pit old n t begins = record {
+  job = ap (λ (w : Sets). w.job) begins.work;
+  after = let is = ap (λ (w : Sets). w.start) begins.work in omega arith;
+  own = ap (λ (w : Sets). own_of w) begins.work;
+}

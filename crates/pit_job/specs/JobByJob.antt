@@ -1,7 +1,8 @@
 -- What runs come to, job by job.
-use Rattle.std.specs.Prelude.{◌≡◌, ℕ, ◌+◌, ◌<◌, ◌==◌, List, Option, slice_get, Some, filter, length}
+use Rattle.std.specs.Prelude.{◌≡◌, ℕ, ◌+◌, ◌<◌, ◌==◌, true, List, Option, slice_get, Some, is_some, filter, length}
 use Rattle.pit_model.specs.Pit.{Pit}
-use Rattle.pit_desk.specs.History.{Answered, commit_of}
+use Rattle.pit_plan.specs.Schedule.{Commit, write_of}
+use Rattle.pit_desk.specs.History.{Answered, commit_of, commits_of}
 use Rattle.pit_script.specs.Jobs.{Job}
 use Rattle.pit_job.specs.Effect.{HasEffect, effect, changes, whole}
 use Rattle.pit_job.specs.declared.outcome.Outcome.{Outcome}
@@ -35,3 +36,11 @@ pub record WroteEffect (pit : Pit) (script : List Job) (schedule : ℕ → Optio
   pub number : e.call.job ≡ 1 + place
   pub at : slice_get script place ≡ Some task
   pub wrote : effect pit task (whole schedule) ≡ changes (commit_of e.call)
+
+-- the commit of this number, counted from 1, is one of these entries and writes the block
+pub record IsWriter (history : List Answered) (version block : ℕ) : Type 0 where
+  pub place : ℕ
+  pub commit : Commit
+  pub number : version ≡ 1 + place
+  pub at : slice_get (commits_of history) place ≡ Some commit
+  pub writes : is_some (write_of commit block) ≡ true

@@ -1,13 +1,17 @@
 -- What becomes of jobs.
-use Rattle.std.specs.Prelude.{◌≡◌, ℕ, ◌≤◌, Bool, true, false, List, ◌++◌, length, All}
+use Rattle.std.specs.Prelude.{◌≡◌, ℕ, zero, suc, ◌<◌, ◌≤◌, ◌⊎◌, Bool, true, false, List, [], ◌∷◌, ◌++◌, length, Contains}
+use mathlib.Core.List.{IsPrefix}
 use Rattle.pit_model.specs.Pit.{Pit}
-use Rattle.pit_desk.specs.History.{Answered}
+use Rattle.pit_plan.specs.Schedule.{last_number}
+use Rattle.pit_desk.specs.History.{Answered, commits_of}
 use Rattle.pit_desk.specs.declared.reply.Refusal.{Refusal}
 use Rattle.pit_desk.specs.declared.reply.Refusal.TheVariants as refusal
 use Rattle.pit_desk.specs.declared.reply.EntryReply.{EntryReply}
 use Rattle.pit_desk.specs.declared.reply.EntryReply.TheVariants as reply
 use Rattle.pit_share.specs.Planners.{PlannerState}
 use Rattle.pit_script.specs.Jobs.{Job}
+use Rattle.pit_script.specs.declared.step.Step.{Step}
+use Rattle.pit_script.specs.declared.step.Step.TheVariants as step
 use Rattle.pit_job.specs.Effect.{HasEffect}
 
 -- a block that the call read was moved
@@ -28,13 +32,54 @@ pub record IsItem (pit : Pit) (task : Job) (n : ℕ) (e : Answered) : Type 0 whe
   pub job : e.call.job ≡ n
   pub effect : HasEffect pit task e.call
 
--- entries of a job that were answered Moved, at most so many
-pub record Repeats (pit : Pit) (task : Job) (n most : ℕ) (es : List Answered) : Type 0 where
-  pub items : All (λ e. IsItem pit task n e) es
-  pub moved : All (λ e. is_moved_reply e.reply ≡ true) es
-  pub few : length es ≤ most
+-- ---- tries that end by Moved
 
--- a planner's log grew by these entries
+-- of the commits of a front of what was seen, the last one that names the block has this number, which is past the start
+pub record IsMovedBlock (seen : List Answered) (start block version : ℕ) : Type 0 where
+  pub front : List Answered
+  pub begins : IsPrefix front seen
+  pub last : version ≡ last_number (commits_of front) block
+  pub past : start < version
+
+-- the step reads the block
+abbrev pub IsReadBy : ℕ → Step → Type 0
+IsReadBy block (step.Read b) = block ≡ b
+IsReadBy block (step.Put b period) = ⊥
+IsReadBy block (step.Clear b) = ⊥
+IsReadBy block (step.Shift b is_back by) = block ≡ b
+IsReadBy block (step.Bench height period) = ⊥
+IsReadBy block (step.Revise resource period upper) = ⊥
+
+-- one of the steps does
+pub record IsRead (steps : List Step) (block : ℕ) : Type 0 where
+  pub reader : Step
+  pub among : Contains steps reader
+  pub reads : IsReadBy block reader
+
+-- an entry of a job that began after so many commits, and was refused as moved
+pub record IsMovedItem (pit : Pit) (task : Job) (n start block version : ℕ) (e : Answered) : Type 0 where
+  pub item : IsItem pit task n e
+  pub begun : e.call.start ≡ start
+  pub answer : e.reply ≡ reply.Refused (refusal.Moved block version)
+
+-- A try that ended by Moved: it made one entry, which was refused so; or none, where a step read the block. The commit of this number was seen
+-- by then, and the try began no earlier than after the commits that had been seen before.
+pub record IsMovedTry (pit : Pit) (task : Job) (n : ℕ) (old new es : List Answered) (block version : ℕ) : Type 0 where
+  pub start : ℕ
+  pub after : length (commits_of old) ≤ start
+  pub sees : IsPrefix old new
+  pub moved : IsMovedBlock new start block version
+  pub made : ((e : Answered) × (es ≡ e ∷ []) × IsMovedItem pit task n start block version e) ⊎ ((es ≡ []) × IsRead task.steps block)
+
+-- so many tries of a job, one after another, that ended by Moved, with their entries
+abbrev pub Repeats : Pit → Job → ℕ → ℕ → List Answered → List Answered → List Answered → Type 0
+Repeats pit task n zero old new es = (es ≡ []) × IsPrefix old new
+Repeats pit task n (suc before) old new es =
+    (mid : List Answered) × (earlier : List Answered) × (last : List Answered) × (block : ℕ) × (version : ℕ) × (es ≡ earlier ++ last)
+    × Repeats pit task n before old mid earlier × IsMovedTry pit task n mid new last block version
+
+-- a planner's log grew by these entries, and it has seen what it had seen, and maybe more
 pub record Grows (old : PlannerState) (es : List Answered) (new : PlannerState) : Type 0 where
   pub number : new.number ≡ old.number
   pub items : new.items ≡ old.items ++ es
+  pub seen : IsPrefix old.seen new.seen

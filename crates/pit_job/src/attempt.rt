@@ -35,7 +35,8 @@ pub(crate) fn attempt<
 ) -> (Planner<'a, S, R, A>, Tried)
     requires pit { script.now.pit ≡ S.instance }
     requires job { IsJobNumber script.now.jobs n }
-    ensures { (es : List Answered) × Grows planner.entry es result.0 × Tries S.instance (job_numbered script.now.jobs n) n es result.1 }
+    ensures { (es : List Answered) × Grows planner.entry es result.0
+        × Tries S.instance (job_numbered script.now.jobs n) n planner.entry.seen result.0.seen es result.1 }
 {
     let number = planner.number();
     match planner.begin(n) {
@@ -64,7 +65,8 @@ fn done<
     requires pit { script.now.pit ≡ S.instance }
     requires job { IsJobNumber script.now.jobs n }
     requires fresh { IsFresh n t }
-    ensures { (es : List Answered) × Grows t.entry.planner es result.0 × Tries S.instance (job_numbered script.now.jobs n) n es result.1 }
+    ensures { (es : List Answered) × Grows t.entry.planner es result.0
+        × Tries S.instance (job_numbered script.now.jobs n) n t.entry.planner.seen result.0.seen es result.1 }
 {
     let mut t = t;
     let (steps, end) = script.job(n - 1);
@@ -84,7 +86,7 @@ fn withdraw<'a, S: Session, R: Wait + Drop, A: Allocator + Copy + Drop, W: Wait>
     rt: &W,
     t: Transaction<'a, S, R, A>,
 ) -> (Planner<'a, S, R, A>, Tried)
-    ensures { (es : List Answered) × Grows t.entry.planner es result.0 × EndsBy withdraw_act t.entry.work es result.1 }
+    ensures { (es : List Answered) × Grows t.entry.planner es result.0 × EndsBy withdraw_act t.entry.work result.0.seen es result.1 }
 {
     match t.abort(rt) {
         Ok(planner) => (planner, Tried::Answered(EntryReply::Withdrawn)),
@@ -99,7 +101,7 @@ fn commit<'a, S: Session, R: Wait + Drop, A: Allocator + Copy + Drop, W: Wait, G
     n: u32,
     gate: &G,
 ) -> (Planner<'a, S, R, A>, Tried)
-    ensures { (es : List Answered) × Grows t.entry.planner es result.0 × EndsBy commit_act t.entry.work es result.1 }
+    ensures { (es : List Answered) × Grows t.entry.planner es result.0 × EndsBy commit_act t.entry.work result.0.seen es result.1 }
 {
     gate.before_commit(number, n);
     let answer = t.commit(rt);

@@ -1,7 +1,9 @@
 //! The steps of a job, done in a transaction.
-ghost use Rattle.std.specs.Prelude.{◌≡◌, ◌<◌, IfOk, OnOk, All, Some, None};
+ghost use Rattle.std.specs.Prelude.{◌≡◌, ◌<◌, IfOk, IfErr, OnOk, All, Some, None};
 ghost use Rattle.pit_script.specs.Ranges.{IsStepIn};
-ghost use Rattle.pit_job.specs.Inside.Doing.{SameLog, LooksUp, Puts, DoesStep, DoesSteps};
+ghost use Rattle.pit_share.specs.Planners.{SeesOn};
+ghost use Rattle.pit_job.specs.Outcomes.{IsReadBy, IsRead};
+ghost use Rattle.pit_job.specs.Inside.Doing.{LooksUp, Puts, DoesStep, DoesSteps, Meets};
 
 use crate::shift::shifted;
 use pit_board::Session;
@@ -29,7 +31,8 @@ pub(crate) fn do_steps<
     requires pit { benches.now ≡ S.instance }
     requires in_range { All (IsStepIn S.instance) steps.now }
     ensures ok { IfOk result (λ goes. DoesSteps S.instance t.old steps.now goes t.new) }
-    ensures log { SameLog t.old.planner t.new.planner }
+    ensures err { IfErr result (Meets (IsRead steps.now) t.old.work.start t.new.planner.seen) }
+    ensures sees { SeesOn t.old.planner t.new.planner }
 {
     for step in steps {
         if !do_step(t, benches, step)? {
@@ -48,7 +51,8 @@ fn do_step<'a, S: Session, R: Wait + Drop, A: Allocator + Copy + Drop, B: Alloca
     requires pit { benches.now ≡ S.instance }
     requires in_range { IsStepIn S.instance step.now }
     ensures ok { IfOk result (λ goes. DoesStep S.instance t.old step.now goes t.new) }
-    ensures log { SameLog t.old.planner t.new.planner }
+    ensures err { IfErr result (Meets (λ block. IsReadBy block step.now) t.old.work.start t.new.planner.seen) }
+    ensures sees { SeesOn t.old.planner t.new.planner }
 {
     match *step {
         Step::Read { block } => read(t, block),
@@ -72,7 +76,8 @@ fn read<'a, S: Session, R: Wait + Drop, A: Allocator + Copy + Drop>(
 ) -> Result<bool, StepStop>
     requires { b < S.instance.blocks }
     ensures ok { IfOk result (λ goes. DoesStep S.instance t.old (Step.Read b) goes t.new) }
-    ensures log { SameLog t.old.planner t.new.planner }
+    ensures err { IfErr result (Meets (λ block. block ≡ b) t.old.work.start t.new.planner.seen) }
+    ensures sees { SeesOn t.old.planner t.new.planner }
 {
     let _period = look(t, b)?;
     Ok(true)
@@ -84,7 +89,8 @@ fn put<'a, S: Session, R: Wait + Drop, A: Allocator + Copy + Drop>(
     period: u32,
 ) -> Result<bool, StepStop>
     ensures ok { IfOk result (λ goes. DoesStep S.instance t.old (Step.Put b period) goes t.new) }
-    ensures log { SameLog t.old.planner t.new.planner }
+    ensures err { IfErr result (Meets (λ block. ⊥) t.old.work.start t.new.planner.seen) }
+    ensures sees { SeesOn t.old.planner t.new.planner }
 {
     put_in(t, b, period)?;
     Ok(true)
@@ -96,7 +102,8 @@ fn clear<'a, S: Session, R: Wait + Drop, A: Allocator + Copy + Drop>(
     b: u32,
 ) -> Result<bool, StepStop>
     ensures ok { IfOk result (λ goes. DoesStep S.instance t.old (Step.Clear b) goes t.new) }
-    ensures log { SameLog t.old.planner t.new.planner }
+    ensures err { IfErr result (Meets (λ block. ⊥) t.old.work.start t.new.planner.seen) }
+    ensures sees { SeesOn t.old.planner t.new.planner }
 {
     match t.clear(b) {
         Ok(()) => Ok(true),
@@ -112,7 +119,8 @@ fn revise<'a, S: Session, R: Wait + Drop, A: Allocator + Copy + Drop>(
     upper: Option<i64>,
 ) -> Result<bool, StepStop>
     ensures ok { IfOk result (λ goes. DoesStep S.instance t.old (Step.Revise resource period upper) goes t.new) }
-    ensures log { SameLog t.old.planner t.new.planner }
+    ensures err { IfErr result (Meets (λ block. ⊥) t.old.work.start t.new.planner.seen) }
+    ensures sees { SeesOn t.old.planner t.new.planner }
 {
     match t.revise(resource, period, upper) {
         Ok(()) => Ok(true),
@@ -129,7 +137,8 @@ fn bench<'a, S: Session, R: Wait + Drop, A: Allocator + Copy + Drop, B: Allocato
 ) -> Result<bool, StepStop>
     requires { benches.now ≡ S.instance }
     ensures ok { IfOk result (λ goes. DoesStep S.instance t.old (Step.Bench height period) goes t.new) }
-    ensures log { SameLog t.old.planner t.new.planner }
+    ensures err { IfErr result (Meets (λ block. ⊥) t.old.work.start t.new.planner.seen) }
+    ensures sees { SeesOn t.old.planner t.new.planner }
 {
     let blocks = benches.bench(height);
     for placed in blocks {
@@ -148,7 +157,8 @@ fn shift<'a, S: Session, R: Wait + Drop, A: Allocator + Copy + Drop>(
     requires periods { periods ≡ S.instance.periods }
     requires block { b < S.instance.blocks }
     ensures ok { IfOk result (λ goes. DoesStep S.instance t.old (Step.Shift b is_back by) goes t.new) }
-    ensures log { SameLog t.old.planner t.new.planner }
+    ensures err { IfErr result (Meets (λ block. block ≡ b) t.old.work.start t.new.planner.seen) }
+    ensures sees { SeesOn t.old.planner t.new.planner }
 {
     let Some(now) = look(t, b)? else {
         return Ok(false);
@@ -167,7 +177,8 @@ fn look<'a, S: Session, R: Wait + Drop, A: Allocator + Copy + Drop>(
 ) -> Result<Option<u32>, StepStop>
     requires { b < S.instance.blocks }
     ensures ok { IfOk result (λ period. LooksUp t.old b period t.new) }
-    ensures log { SameLog t.old.planner t.new.planner }
+    ensures err { IfErr result (Meets (λ block. block ≡ b) t.old.work.start t.new.planner.seen) }
+    ensures sees { SeesOn t.old.planner t.new.planner }
 {
     match t.read(b) {
         Ok(period) => Ok(period),
@@ -184,7 +195,8 @@ fn put_in<'a, S: Session, R: Wait + Drop, A: Allocator + Copy + Drop>(
     period: u32,
 ) -> Result<(), StepStop>
     ensures ok { OnOk result (Puts t.old b (Some period) t.new) }
-    ensures log { SameLog t.old.planner t.new.planner }
+    ensures err { IfErr result (Meets (λ block. ⊥) t.old.work.start t.new.planner.seen) }
+    ensures sees { SeesOn t.old.planner t.new.planner }
 {
     match t.put(b, period) {
         Ok(()) => Ok(()),

@@ -1,16 +1,18 @@
 //! Laws of effects and of runs, each as the contract of a function that does nothing.
-ghost use Rattle.std.specs.Prelude.{◌≡◌, ◌≢◌, ℕ, ◌+◌, ℤ, List, slice_get, Some, All};
+ghost use Rattle.std.specs.Prelude.{◌≡◌, ◌≢◌, ℕ, ◌+◌, ◌<◌, ℤ, List, length, slice_get, Some, All};
 ghost use Rattle.pit_model.specs.Pit.{Pit};
-ghost use Rattle.pit_desk.specs.History.{Answered, commit_of};
+ghost use Rattle.pit_desk.specs.History.{Answered, commit_of, commits_of};
 ghost use Rattle.pit_desk.specs.OneThread.{IsOfOneThread, held_period_after};
 ghost use Rattle.pit_desk.specs.declared.reply.EntryReply.TheVariants.{Committed as committed};
+ghost use Rattle.pit_desk.specs.declared.reply.Refusal.TheVariants.{Moved};
 ghost use Rattle.pit_script.specs.Jobs.{Job};
 ghost use Rattle.pit_job.specs.declared.outcome.Outcome.{Outcome};
+ghost use Rattle.pit_job.specs.declared.outcome.Outcome.TheVariants.{Refused};
 ghost use Rattle.pit_job.specs.declared.outcome.RunEnd.{RunEnd};
 ghost use Rattle.pit_job.specs.declared.planner_run.TheConstants.{RETRIES_MAX};
 ghost use Rattle.pit_job.specs.Effect.{Known, Agrees, Effect, effect, changes, unread, whole, HasEffect};
 ghost use Rattle.pit_job.specs.Runs.{RanFrom, Ran};
-ghost use Rattle.pit_job.specs.JobByJob.{of_job, HasOwnEffect, EndsAfter};
+ghost use Rattle.pit_job.specs.JobByJob.{of_job, HasOwnEffect, EndsAfter, IsWriter};
 
 /// A law of effects: where a job reads only blocks that a map knows, its effect is the same over each map that agrees with this one.
 pub fn one_effect()
@@ -28,14 +30,16 @@ pub fn one_by_one()
 {}
 
 /// A law of runs: each job's entries are settled by its outcome, each entry has its own job's effect, and the end says how many jobs have
-/// an outcome.
+/// an outcome. An outcome Moved names a commit that was seen, behind all that had been seen before the run, and that writes the block.
 pub fn each_job()
-    ensures jobs { (pit : Pit) (retries : ℕ) (jobs : List Job) (es : List Answered) (os : List Outcome) (ended : RunEnd) → RanFrom pit retries 1 jobs es os ended
-        → (j : ℕ) (task : Job) (o : Outcome) → slice_get jobs j ≡ Some task → slice_get os j ≡ Some o → Ran pit task retries (1 + j) (of_job (1 + j) es) o }
-    ensures effects { (pit : Pit) (retries : ℕ) (jobs : List Job) (es : List Answered) (os : List Outcome) (ended : RunEnd) → RanFrom pit retries 1 jobs es os ended
+    ensures jobs { (pit : Pit) (retries : ℕ) (old new : List Answered) (jobs : List Job) (es : List Answered) (os : List Outcome) (ended : RunEnd) → RanFrom pit retries old new 1 jobs es os ended
+        → (j : ℕ) (task : Job) (o : Outcome) → slice_get jobs j ≡ Some task → slice_get os j ≡ Some o → Ran pit task retries (1 + j) old new (of_job (1 + j) es) o }
+    ensures effects { (pit : Pit) (retries : ℕ) (old new : List Answered) (jobs : List Job) (es : List Answered) (os : List Outcome) (ended : RunEnd) → RanFrom pit retries old new 1 jobs es os ended
         → All (λ e. HasOwnEffect pit 1 jobs e) es }
-    ensures ends { (pit : Pit) (retries : ℕ) (jobs : List Job) (es : List Answered) (os : List Outcome) (ended : RunEnd) → RanFrom pit retries 1 jobs es os ended
+    ensures ends { (pit : Pit) (retries : ℕ) (old new : List Answered) (jobs : List Job) (es : List Answered) (os : List Outcome) (ended : RunEnd) → RanFrom pit retries old new 1 jobs es os ended
         → EndsAfter 1 jobs os ended }
+    ensures moved { (pit : Pit) (retries : ℕ) (old new : List Answered) (jobs : List Job) (es : List Answered) (os : List Outcome) (ended : RunEnd) → RanFrom pit retries old new 1 jobs es os ended
+        → (j block version tries : ℕ) → slice_get os j ≡ Some (Refused (Moved block version) tries) → (length (commits_of old) < version) × IsWriter new version block }
 {}
 
 /// A law of runs, in numbers: a job is tried again at most a thousand times.

@@ -38,7 +38,8 @@ pub fn run_script<
 ) -> (Planner<'a, S, R, A>, Vec<Outcome, A>, RunEnd)
     requires pit { script.now.pit ≡ S.instance }
     requires few { retries ≤ RETRIES_MAX }
-    ensures { (es : List Answered) × Grows planner.entry es result.0 × RanFrom S.instance retries 1 script.now.jobs es result.1.items result.2 }
+    ensures { (es : List Answered) × Grows planner.entry es result.0
+        × RanFrom S.instance retries planner.entry.seen result.0.seen 1 script.now.jobs es result.1.items result.2 }
 {
     let mut outcomes = Vec::new(alloc);
     let mut now = planner;
@@ -77,7 +78,8 @@ fn run_job<
     requires pit { script.now.pit ≡ S.instance }
     requires job { IsJobNumber script.now.jobs n }
     requires few { retries ≤ RETRIES_MAX }
-    ensures { (es : List Answered) × Grows planner.entry es result.0 × RanJob S.instance (job_numbered script.now.jobs n) retries n es result.1 }
+    ensures { (es : List Answered) × Grows planner.entry es result.0
+        × RanJob S.instance (job_numbered script.now.jobs n) retries n planner.entry.seen result.0.seen es result.1 }
 {
     let mut now = planner;
     for before in 0..retries {

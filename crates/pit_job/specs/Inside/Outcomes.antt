@@ -1,5 +1,5 @@
 -- What a try comes to.
-use Rattle.std.specs.Prelude.{◌≡◌, ℕ, true, false, List, [], ◌∷◌}
+use Rattle.std.specs.Prelude.{◌≡◌, ℕ, false, List, [], ◌∷◌}
 use Rattle.pit_model.specs.Pit.{Pit}
 use Rattle.pit_tx.specs.Sets.{Sets}
 use Rattle.pit_desk.specs.History.{Answered}
@@ -16,7 +16,7 @@ use Rattle.pit_job.specs.declared.outcome.Tried.{Tried}
 use Rattle.pit_job.specs.declared.outcome.Tried.TheVariants as tried
 use Rattle.pit_job.specs.declared.outcome.Outcome.{Outcome}
 use Rattle.pit_job.specs.declared.outcome.Outcome.TheVariants as outcome
-use Rattle.pit_job.specs.Outcomes.{is_moved_reply, IsItem, Repeats}
+use Rattle.pit_job.specs.Outcomes.{is_moved_reply, IsItem, IsMovedBlock, IsMovedTry}
 
 abbrev pub outcome_of : EntryReply → ℕ → Outcome
 outcome_of (reply.Committed number) tries = outcome.Committed number tries
@@ -24,18 +24,19 @@ outcome_of (reply.Refused why) tries = outcome.Refused why tries
 outcome_of reply.Withdrawn tries = outcome.Withdrawn tries
 
 -- what one try adds to the log
-abbrev pub Tries : Pit → Job → ℕ → List Answered → Tried → Type 0
-Tries pit task n es (tried.Moved block version) = Repeats pit task n 1 es
-Tries pit task n es (tried.Answered answer) =
+abbrev pub Tries : Pit → Job → ℕ → List Answered → List Answered → List Answered → Tried → Type 0
+Tries pit task n old new es (tried.Moved block version) = IsMovedTry pit task n old new es block version
+Tries pit task n old new es (tried.Answered answer) =
     (e : Answered) × (es ≡ e ∷ []) × IsItem pit task n e × (e.reply ≡ answer) × (is_moved_reply answer ≡ false)
-Tries pit task n es (tried.Stopped why) = es ≡ []
+Tries pit task n old new es (tried.Stopped why) = es ≡ []
 
 -- what the ending of a transaction with this work adds to the log
-abbrev pub EndsBy : Act → Sets → List Answered → Tried → Type 0
-EndsBy ending work es (tried.Moved block version) =
-    (answer : EntryReply) × (es ≡ record { call = work_call work ending; reply = answer } ∷ []) × (is_moved_reply answer ≡ true)
-EndsBy ending work es (tried.Answered answer) = (es ≡ record { call = work_call work ending; reply = answer } ∷ []) × (is_moved_reply answer ≡ false)
-EndsBy ending work es (tried.Stopped why) = es ≡ []
+abbrev pub EndsBy : Act → Sets → List Answered → List Answered → Tried → Type 0
+EndsBy ending work seen es (tried.Moved block version) =
+    (es ≡ record { call = work_call work ending; reply = reply.Refused (refusal.Moved block version) } ∷ []) × IsMovedBlock seen work.start block version
+EndsBy ending work seen es (tried.Answered answer) =
+    (es ≡ record { call = work_call work ending; reply = answer } ∷ []) × (is_moved_reply answer ≡ false)
+EndsBy ending work seen es (tried.Stopped why) = es ≡ []
 
 abbrev pub tried_refused : Refusal → Tried
 tried_refused (refusal.Ahead start commits) = tried.Answered (reply.Refused (refusal.Ahead start commits))

@@ -1,6 +1,5 @@
 use Rattle.pit_job.specs.declared.outcome.JobStop.TheVariants.{NoMemory}
 use Rattle.pit_job.specs.Inside.Runs.{job_numbered}
-use Rattle.pit_job.proofs.Stepping.{log-sees}
 use Rattle.pit_job.proofs.Trying.{begun-tries, stopped-tries, fresh-of}
 use Rattle.pit_job.proofs.attempt.attempt.Goals as goal
 
@@ -10,8 +9,8 @@ done-requires-clause-fresh g c = λ κs lives. fresh-of g.S.Session.instance c.a
 pub returns-in-Ok : goal.returns-in-Ok
 returns-in-Ok g c =
     begun-tries g.S.Session.instance (job_numbered c.args.script.now.jobs c.args.n) c.args.n c.args.planner c.in-Ok.t.planner c.done.result.0 c.done.result.1
-    (log-sees _ _ c.in-Ok.ensures.begun.planner) c.done.ensures
+    c.in-Ok.ensures.begun.planner c.done.ensures
 
 pub returns-in-Err : goal.returns-in-Err
 returns-in-Err g c =
-    stopped-tries g.S.Session.instance (job_numbered c.args.script.now.jobs c.args.n) c.args.n c.args.planner c.in-Err.planner NoMemory (log-sees _ _ c.in-Err.ensures.err)
+    stopped-tries g.S.Session.instance (job_numbered c.args.script.now.jobs c.args.n) c.args.n c.args.planner c.in-Err.planner NoMemory c.in-Err.ensures.err

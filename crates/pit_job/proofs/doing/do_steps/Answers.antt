@@ -1,19 +1,31 @@
-use Rattle.std.proofs.Common.{arith, true, false}
-use Rattle.pit_job.proofs.Stepping.{log-trans, steps-end, steps-next, steps-stop}
+use Rattle.std.proofs.Common.{arith, true, false, ◌∙◌}
+use Rattle.pit_job.specs.Outcomes.{IsRead}
+use Rattle.pit_job.specs.Inside.Doing.{Meets}
+use Rattle.pit_job.proofs.Seeing.{sees-trans}
+use Rattle.pit_job.proofs.Stepping.{steps-end, steps-next, steps-stop}
+use Rattle.pit_job.proofs.Meeting.{stop-handed, steps-meet}
 use Rattle.pit_job.proofs.doing.do_steps.Goals as goal
 
 pub returns-then-not-branch-clause-ok : goal.returns-then-not-branch-clause-ok
 returns-then-not-branch-clause-ok g c =
-    c.loop-step.invariant.1 c.do_step.new.t false
+    c.loop-step.invariant.does c.do_step.new.t false
     (steps-stop g.S.Session.instance c.loop-step.t c.do_step.new.t c.args.steps.now c.loop-step.step-index _ (omega arith) (rw c.if-not-branch.true at c.in_ok-do_step.ensures.ok))
 
+pub returns-in_err-do_step-clause-err : goal.returns-in_err-do_step-clause-err
+returns-in_err-do_step-clause-err g c =
+    stop-handed c.from_residual.result c.in_err-do_step.field-0.0 (Meets (IsRead c.args.steps.now) c.args.t.now.work.start c.do_step.new.t.planner.seen) c.from_residual.ensures.0 c.from_residual.ensures.1
+    (steps-meet c.args.steps.now c.loop-step.step-index _ c.args.t.now.work.start c.loop-step.t.work.start c.do_step.new.t.planner.seen _ (omega arith) c.loop-step.invariant.start c.in_err-do_step.ensures.err)
+
 pub loop-step-preserved : goal.loop-step-preserved
-loop-step-preserved g c = (
-  log-trans _ _ _ c.loop-step.invariant.0 c.in_ok-do_step.ensures.log,
-  λ new goes rest. c.loop-step.invariant.1 new goes
-      (steps-next g.S.Session.instance c.loop-step.t c.do_step.new.t new c.args.steps.now c.loop-step.step-index _ goes (omega arith) (rw c.if-not-branch.false at c.in_ok-do_step.ensures.ok) rest),
-)
+loop-step-preserved g c =
+    let does = rw c.if-not-branch.false at c.in_ok-do_step.ensures.ok in
+    record {
+      sees = sees-trans _ _ _ c.loop-step.invariant.sees c.in_ok-do_step.ensures.sees;
+      start = does.same.start ∙ c.loop-step.invariant.start;
+      does = λ new goes rest. c.loop-step.invariant.does new goes
+          (steps-next g.S.Session.instance c.loop-step.t c.do_step.new.t new c.args.steps.now c.loop-step.step-index _ goes (omega arith) does rest);
+    }
 
 pub returns-clause-ok : goal.returns-clause-ok
 returns-clause-ok g c =
-    c.loop-step.invariant.1 c.loop-step.t true (steps-end g.S.Session.instance c.loop-step.t c.args.steps.now c.loop-step.step-index (omega arith))
+    c.loop-step.invariant.does c.loop-step.t true (steps-end g.S.Session.instance c.loop-step.t c.args.steps.now c.loop-step.step-index (omega arith))

@@ -1,11 +1,10 @@
 use Rattle.std.proofs.Common.{[], ◌≡◌, ◌≤◌, arith}
 use Rattle.pit_job.specs.Inside.Runs.{job_numbered}
-use Rattle.pit_job.proofs.Retries.{grows-none, try-stopped, try-moved, try-answered, try-last}
+use Rattle.pit_job.proofs.Retries.{grows-none, repeats-none, try-stopped, try-moved, try-answered, try-last}
 use Rattle.pit_job.proofs.planner_run.run_job.Goals as goal
-use Rattle.pit_job.proofs.Trying.{repeats-none}
 
 pub loop-before-init : goal.loop-before-init
-loop-before-init g c = ([], grows-none c.args.planner, repeats-none g.S.Session.instance (job_numbered c.args.script.now.jobs c.args.n) c.args.n 0)
+loop-before-init g c = ([], grows-none c.args.planner, repeats-none g.S.Session.instance (job_numbered c.args.script.now.jobs c.args.n) c.args.n c.args.planner.seen)
 
 pub returns-in-Stopped : goal.returns-in-Stopped
 returns-in-Stopped g c =
@@ -32,9 +31,9 @@ loop-before-preserved g c =
 
 pub returns-in-Moved-tried : goal.returns-in-Moved-tried
 returns-in-Moved-tried g c =
-    let few : c.loop-before.before ≤ c.args.retries = c.loop-before.auto.before-end in
+    let all : c.loop-before.before ≡ c.args.retries = omega arith in
     try-last g.S.Session.instance (job_numbered c.args.script.now.jobs c.args.n) c.args.retries c.args.n c.loop-before.before c.args.planner c.loop-before.now c.attempt-last.result.0 c.attempt-last.result.1
-    c.in-Moved-tried.block c.in-Moved-tried.version c.loop-before.invariant c.attempt-last.ensures c.in-Moved-tried.is few
+    c.in-Moved-tried.block c.in-Moved-tried.version c.loop-before.invariant c.attempt-last.ensures c.in-Moved-tried.is all
 
 pub returns-in-Answered-tried : goal.returns-in-Answered-tried
 returns-in-Answered-tried g c =

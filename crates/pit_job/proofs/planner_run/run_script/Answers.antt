@@ -8,7 +8,8 @@ pub loop-i-init : goal.loop-i-init
 loop-i-init g c = (
   [],
   grows-none c.args.planner,
-  subst (RanUpTo g.S.Session.instance c.args.retries c.args.script.now.jobs 0 1 []) (sym c.new-outcomes.ensures.items) (up_to-none g.S.Session.instance c.args.retries c.args.script.now.jobs),
+  subst (RanUpTo g.S.Session.instance c.args.retries c.args.planner.seen c.args.planner.seen c.args.script.now.jobs 0 1 []) (sym c.new-outcomes.ensures.items)
+      (up_to-none g.S.Session.instance c.args.retries c.args.planner.seen c.args.script.now.jobs),
 )
 
 pub returns-in_default : goal.returns-in_default
@@ -41,4 +42,4 @@ pub returns : goal.returns
 returns g c =
     let i = c.loop-i.invariant in
     let all : length c.args.script.now.jobs ≤ c.loop-i.i = search rules in
-    (i.0, i.1, up_to-whole g.S.Session.instance c.args.retries c.args.script.now.jobs c.loop-i.i (c.loop-i.i + 1) i.0 c.loop-i.outcomes.items all i.2)
+    (i.0, i.1, up_to-whole g.S.Session.instance c.args.retries c.args.planner.seen c.loop-i.now.seen c.args.script.now.jobs c.loop-i.i (c.loop-i.i + 1) i.0 c.loop-i.outcomes.items all i.2)
