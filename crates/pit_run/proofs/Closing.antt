@@ -38,28 +38,29 @@ past-at (x ∷ xs) (suc m) i = past-at xs m i ∙ ap (slice_get (x ∷ xs)) (suc
     suc-add : (a b : ℕ) → suc (a + b) ≡ suc a + b
     suc-add a b = omega arith
 
-did-at : (pit : Pit) (retries k : ℕ) (past : List Answered) (ss : List (List Job)) (rs : List RunState) → AllDid pit retries k past ss rs → (p : ℕ) (s : List Job) → slice_get ss p ≡ Some s
-    → (r : RunState) × (slice_get rs p ≡ Some r) × RanScript pit retries s (k + p) (entries_of (k + p) past) r
-did-at pit retries k past [] rs all p s at = absurd (cc at)
-did-at pit retries k past (x ∷ ss) [] all p s at = absurd all
-did-at pit retries k past (x ∷ ss) (r ∷ rs) (first, rest) zero s at =
+did-at : (pit : Pit) (retries : ℕ) (opening : List Answered) (k : ℕ) (past : List Answered) (ss : List (List Job)) (rs : List RunState) → AllDid pit retries opening k past ss rs → (p : ℕ) (s : List Job) → slice_get ss p ≡ Some s
+    → (r : RunState) × (slice_get rs p ≡ Some r) × (seen : List Answered) × RanScript pit retries opening seen s (k + p) (entries_of (k + p) past) r
+did-at pit retries opening k past [] rs all p s at = absurd (cc at)
+did-at pit retries opening k past (x ∷ ss) [] all p s at = absurd all
+did-at pit retries opening k past (x ∷ ss) (r ∷ rs) (seen, first, rest) zero s at =
     let a : x ≡ s = cc at in
-    (r, refl, rw (add-zero, ← a) first)
-did-at pit retries k past (x ∷ ss) (r ∷ rs) (first, rest) (suc p) s at =
+    (r, refl, seen, rw (add-zero, ← a) first)
+did-at pit retries opening k past (x ∷ ss) (r ∷ rs) (seen, first, rest) (suc p) s at =
     let number : (k + 1) + p ≡ k + suc p = omega arith in
-    let d = did-at pit retries (k + 1) past ss rs rest p s at in
-    (d.0, d.1, subst (λ (n : ℕ). RanScript pit retries s n (entries_of n past) d.0) number d.2)
+    let d = did-at pit retries opening (k + 1) past ss rs rest p s at in
+    (d.0, d.1, d.2, subst (λ (n : ℕ). RanScript pit retries opening d.2 s n (entries_of n past) d.0) number d.3)
 
 pub each-planner : (pit : Pit) (opening : List Answered) (max_entries retries : ℕ) (scripts : List (List Job)) (desk : State) (runs : List RunState) → IsReport pit opening max_entries retries scripts desk runs
     → (p : ℕ) (script : List Job) → slice_get scripts p ≡ Some script
-    → (run : RunState) × (slice_get runs p ≡ Some run) × RanScript pit retries script (1 + p) (entries_of (1 + p) (drop (length opening) desk.history)) run
-each-planner pit opening max_entries retries scripts desk runs report p script at = did-at pit retries 1 (drop (length opening) desk.history) scripts runs report.did p script at
+    → (run : RunState) × (slice_get runs p ≡ Some run)
+    × (seen : List Answered) × RanScript pit retries opening seen script (1 + p) (entries_of (1 + p) (drop (length opening) desk.history)) run
+each-planner pit opening max_entries retries scripts desk runs report p script at = did-at pit retries opening 1 (drop (length opening) desk.history) scripts runs report.did p script at
 
-script-effects : (pit : Pit) (retries k : ℕ) (s : List Job) (es : List Answered) (r : RunState) → RanScript pit retries s k es r → All (λ e. HasOwnEffect pit 1 s e) es
-script-effects pit retries k s es r ran = by ran.ran
+script-effects : (pit : Pit) (retries k : ℕ) (old new : List Answered) (s : List Job) (es : List Answered) (r : RunState) → RanScript pit retries old new s k es r → All (λ e. HasOwnEffect pit 1 s e) es
+script-effects pit retries k old new s es r ran = by ran.ran
   where
-    by : (RanFrom pit retries 1 s es r.jobs r.ended ⊎ NotStarted es r) → All (λ e. HasOwnEffect pit 1 s e) es
-    by (inl h) = own-effects pit retries 1 s es r.jobs r.ended h
+    by : (RanFrom pit retries old new 1 s es r.jobs r.ended ⊎ NotStarted es r) → All (λ e. HasOwnEffect pit 1 s e) es
+    by (inl h) = own-effects pit retries 1 old new s es r.jobs r.ended h
     by (inr n) = subst (All (λ e. HasOwnEffect pit 1 s e)) (sym n.none) (All-nil (λ e. HasOwnEffect pit 1 s e))
 
 -- a history that a desk keeps is one of one thread
@@ -94,8 +95,8 @@ one-by-one pit opening max_entries retries scripts desk runs report = record {
       let its = its-script scripts e.call.planner one in
       let p = its.0 in
       let script = its.1 in
-      let d = did-at pit retries 1 past scripts runs report.did p script its.3 in
-      let own = all-mine (λ e. HasOwnEffect pit 1 script e) (1 + p) past (script-effects pit retries (1 + p) script (entries_of (1 + p) past) d.0 d.2) in
+      let d = did-at pit retries opening 1 past scripts runs report.did p script its.3 in
+      let own = all-mine (λ e. HasOwnEffect pit 1 script e) (1 + p) past (script-effects pit retries (1 + p) opening d.2 script (entries_of (1 + p) past) d.0 d.3) in
       let has = subst (λ (x : Answered). x.call.planner ≡ 1 + p → HasOwnEffect pit 1 script x) read (own i e below) its.2 in
       record {
         place = p;

@@ -6,6 +6,7 @@ use Rattle.std.proofs.lemmas.Bool.Decides.{leb_tells, nat_tests}
 use Rattle.std.proofs.Math.Seq.{take-suc}
 use Rattle.std.proofs.Common.{◌≡◌, ℕ, zero, suc, ◌+◌, ◌<◌, ◌≤◌, ◌==◌, Bool, true, false, List, [], ◌∷◌, ◌++◌, length, get_or, take, drop, refl, sym, ap, subst, ◌∙◌, arith, inl, inr, append_assoc, length-append, length-take, add-zero, add-one}
 use Rattle.std.specs.Prelude.{All, Contains, ◌≢◌, ◌||◌, ◌⊎◌}
+use mathlib.Core.List.{IsPrefix}
 use Rattle.pit_model.specs.Pit.{Pit}
 use Rattle.pit_desk.specs.History.{Answered, commits_of}
 use Rattle.pit_desk.specs.State.{State, IsDeskKept}
@@ -24,6 +25,7 @@ use Rattle.pit_job.specs.Runs.{RanFrom}
 use Rattle.pit_job.specs.declared.outcome.Outcome.{Outcome}
 use Rattle.pit_job.specs.declared.outcome.RunEnd.{RunEnd}
 use Rattle.pit_job.specs.declared.outcome.RunEnd.TheVariants as end
+use Rattle.pit_job.proofs.CallerLemmas.{all-from}
 use Rattle.pit_run.specs.Reports.{RunState, RanScript, AllDid, IsReport}
 use Rattle.pit_run.specs.Turns.{entries_by_planner, TookTurn, DidInTurn, IsTurnUnclosed, IsInTurnError}
 use Rattle.pit_run.proofs.ByPlanner.{IsOf, IsUpTo, entries_of-own, none-of, by_planner-up_to, entries_of-earlier, entries_of-last, by_planner-next, get-front}
@@ -33,34 +35,34 @@ use Rattle.pit_run.specs.declared.report.InTurnError.TheVariants as error
 
 -- ---- one planner more
 
-ran-not-without : (pit : Pit) (retries n : ℕ) (script : List Job) (es : List Answered) (jobs : List Outcome) (ended : RunEnd) → RanFrom pit retries n script es jobs ended → ended ≢ end.NoThread
-ran-not-without pit retries n [] es [] ended ran without = absurd (cc (ran.1, without))
-ran-not-without pit retries n [] es (o ∷ os) ended ran without = absurd ran
-ran-not-without pit retries n (task ∷ rest) es [] end.NoThread ran without = absurd ran.0
-ran-not-without pit retries n (task ∷ rest) es [] end.Whole ran without = absurd ran.0
-ran-not-without pit retries n (task ∷ rest) es [] (end.Full job) ran without = absurd (cc without)
-ran-not-without pit retries n (task ∷ rest) es [] (end.NoMemory job) ran without = absurd (cc without)
-ran-not-without pit retries n (task ∷ rest) es [] (end.NoEntry job) ran without = absurd (cc without)
-ran-not-without pit retries n (task ∷ rest) es (o ∷ os) ended ran without = ran-not-without pit retries (n + 1) rest ran.1 os ended ran.4 without
+ran-not-without : (pit : Pit) (retries n : ℕ) (old new : List Answered) (script : List Job) (es : List Answered) (jobs : List Outcome) (ended : RunEnd) → RanFrom pit retries old new n script es jobs ended → ended ≢ end.NoThread
+ran-not-without pit retries n old new [] es [] ended ran without = absurd (cc (ran.1, without))
+ran-not-without pit retries n old new [] es (o ∷ os) ended ran without = absurd ran
+ran-not-without pit retries n old new (task ∷ rest) es [] end.NoThread ran without = absurd ran.0
+ran-not-without pit retries n old new (task ∷ rest) es [] end.Whole ran without = absurd ran.0
+ran-not-without pit retries n old new (task ∷ rest) es [] (end.Full job) ran without = absurd (cc without)
+ran-not-without pit retries n old new (task ∷ rest) es [] (end.NoMemory job) ran without = absurd (cc without)
+ran-not-without pit retries n old new (task ∷ rest) es [] (end.NoEntry job) ran without = absurd (cc without)
+ran-not-without pit retries n old new (task ∷ rest) es (o ∷ os) ended ran without = ran-not-without pit retries (n + 1) ran.0 new rest ran.2 os ended ran.5 without
 
 -- entries of a later planner leave what the earlier ones did
-did-earlier : (pit : Pit) (retries n k : ℕ) (past own : List Answered) (scripts : List (List Job)) (runs : List RunState) → n + length scripts ≤ suc k → All (IsOf (suc k)) own
-    → AllDid pit retries n past scripts runs → AllDid pit retries n (past ++ own) scripts runs
-did-earlier pit retries n k past own [] [] early all did = tt
-did-earlier pit retries n k past own [] (run ∷ runs) early all did = absurd did
-did-earlier pit retries n k past own (script ∷ scripts) [] early all did = absurd did
-did-earlier pit retries n k past own (script ∷ scripts) (run ∷ runs) early all (first, rest) =
+did-earlier : (pit : Pit) (retries : ℕ) (opening : List Answered) (n k : ℕ) (past own : List Answered) (scripts : List (List Job)) (runs : List RunState) → n + length scripts ≤ suc k → All (IsOf (suc k)) own
+    → AllDid pit retries opening n past scripts runs → AllDid pit retries opening n (past ++ own) scripts runs
+did-earlier pit retries opening n k past own [] [] early all did = tt
+did-earlier pit retries opening n k past own [] (run ∷ runs) early all did = absurd did
+did-earlier pit retries opening n k past own (script ∷ scripts) [] early all did = absurd did
+did-earlier pit retries opening n k past own (script ∷ scripts) (run ∷ runs) early all (seen, first, rest) =
     let same = entries_of-earlier n k past own (omega (arith, early)) all in
-    (subst (λ (es : List Answered). RanScript pit retries script n es run) (sym same) first, did-earlier pit retries (n + 1) k past own scripts runs (omega (arith, early)) all rest)
+    (seen, subst (λ (es : List Answered). RanScript pit retries opening seen script n es run) (sym same) first, did-earlier pit retries opening (n + 1) k past own scripts runs (omega (arith, early)) all rest)
 
-did-more : (pit : Pit) (retries n : ℕ) (past : List Answered) (scripts : List (List Job)) (runs : List RunState) (script : List Job) (run : RunState) → AllDid pit retries n past scripts runs
-    → RanScript pit retries script (n + length scripts) (entries_of (n + length scripts) past) run → AllDid pit retries n past (scripts ++ script ∷ []) (runs ++ run ∷ [])
-did-more pit retries n past [] [] script run did last = (subst (λ (m : ℕ). RanScript pit retries script m (entries_of m past) run) (add-zero n) last, tt)
-did-more pit retries n past [] (x ∷ runs) script run did last = absurd did
-did-more pit retries n past (x ∷ scripts) [] script run did last = absurd did
-did-more pit retries n past (x ∷ scripts) (y ∷ runs) script run (first, rest) last =
+did-more : (pit : Pit) (retries : ℕ) (opening now : List Answered) (n : ℕ) (past : List Answered) (scripts : List (List Job)) (runs : List RunState) (script : List Job) (run : RunState) → AllDid pit retries opening n past scripts runs
+    → RanScript pit retries opening now script (n + length scripts) (entries_of (n + length scripts) past) run → AllDid pit retries opening n past (scripts ++ script ∷ []) (runs ++ run ∷ [])
+did-more pit retries opening now n past [] [] script run did last = (now, subst (λ (m : ℕ). RanScript pit retries opening now script m (entries_of m past) run) (add-zero n) last, tt)
+did-more pit retries opening now n past [] (x ∷ runs) script run did last = absurd did
+did-more pit retries opening now n past (x ∷ scripts) [] script run did last = absurd did
+did-more pit retries opening now n past (x ∷ scripts) (y ∷ runs) script run (seen, first, rest) last =
     let same : n + length (x ∷ scripts) ≡ (n + 1) + length scripts = omega arith in
-    (first, did-more pit retries (n + 1) past scripts runs script run rest (subst (λ (m : ℕ). RanScript pit retries script m (entries_of m past) run) same last))
+    (seen, first, did-more pit retries opening now (n + 1) past scripts runs script run rest (subst (λ (m : ℕ). RanScript pit retries opening now script m (entries_of m past) run) same last))
 
 -- ---- a history that goes on from one that goes on
 
@@ -98,6 +100,10 @@ goes-on-none planners desk = record {
   ours = subst (All (λ e. IsPlanner planners e.call.planner)) (sym (drop_all (length desk.history) desk.history (omega arith))) (All-nil (λ e. IsPlanner planners e.call.planner));
   snapshots = snapshots-none desk.history;
 }
+
+begins-prefix : (opening history : List Answered) → take (length opening) history ≡ opening → IsPrefix opening history
+begins-prefix opening history begins =
+    let past = drop (length opening) history in (past, sym (ap (λ (es : List Answered). es ++ past) begins) ∙ take-append-drop (length opening) history)
 
 -- what is past the opening is what was past it, and what is past that
 past-on : (opening history more : List Answered) → take (length opening) history ≡ opening → take (length history) more ≡ history
@@ -143,7 +149,7 @@ has-log q (x ∷ logs) has = by (x.number == q) refl has (has-log q logs)
 
 -- only the planner whose turn it was has entries
 turn-own : (pit : Pit) (opening : List Answered) (max_entries planners retries planner : ℕ) (script : List Job) (desk : State) (run : RunState) (logs : List PlannerState)
-    → IsClosed pit opening max_entries planners logs desk → TookTurn pit retries script planner logs run → All (IsOf planner) (drop (length opening) desk.history)
+    → IsClosed pit opening max_entries planners logs desk → TookTurn pit retries opening script planner logs run → All (IsOf planner) (drop (length opening) desk.history)
 turn-own pit opening max_entries planners retries planner script desk run logs closed took i e less =
     let past = drop (length opening) desk.history in
     let q = (get_or past i e).call.planner in
@@ -168,13 +174,13 @@ turn-own pit opening max_entries planners retries planner script desk run logs c
 
 -- and those are its script's
 turn-ran : (pit : Pit) (opening : List Answered) (max_entries planners retries planner : ℕ) (script : List Job) (desk : State) (run : RunState) (turn : IsTurn pit opening max_entries planners retries planner script desk run)
-    → IsPlanner planners planner → RanFrom pit retries 1 script (drop (length opening) desk.history) run.jobs run.ended
+    → IsPlanner planners planner → RanFrom pit retries opening turn.took.log.seen 1 script (drop (length opening) desk.history) run.jobs run.ended
 turn-ran pit opening max_entries planners retries planner script desk run turn one =
     let past = drop (length opening) desk.history in
     let took = turn.took in
     let own = turn-own pit opening max_entries planners retries planner script desk run turn.logs turn.closed took in
     let logged : entries_of planner past ≡ took.log.items = (turn.closed.logged.each planner one).each took.log took.among took.did.of_log in
-    subst (λ (es : List Answered). RanFrom pit retries 1 script es run.jobs run.ended) (sym logged ∙ entries_of-own planner past own) took.did.ran
+    subst (λ (es : List Answered). RanFrom pit retries opening took.log.seen 1 script es run.jobs run.ended) (sym logged ∙ entries_of-own planner past own) took.did.ran
 
 -- ---- turn after turn
 
@@ -195,17 +201,19 @@ in-turn-next pit opening max_entries retries planners done desk runs script next
     let past = drop (length opening) desk.history in
     let own = drop (length desk.history) next.history in
     let all : All (IsOf (suc k)) own = turn-own pit desk.history max_entries planners retries (suc k) script next run turn.logs turn.closed turn.took in
-    let ran : RanFrom pit retries 1 script own run.jobs run.ended = turn-ran pit desk.history max_entries planners retries (suc k) script next run turn (omega arith, omega (arith, less)) in
+    let seen = turn.took.log.seen in
+    let ran : RanFrom pit retries desk.history seen 1 script own run.jobs run.ended = turn-ran pit desk.history max_entries planners retries (suc k) script next run turn (omega arith, omega (arith, less)) in
     let on = goes-on-on pit opening max_entries planners desk next so_far.goes_on turn.closed.goes_on in
     let parts = past-on opening desk.history next.history so_far.goes_on.begins turn.closed.goes_on.begins in
     let turns : past ≡ entries_by_planner k past = ap (drop (length opening)) so_far.in_turn.turns ∙ rest-is opening (entries_by_planner k past) in
     let few : All (IsUpTo k) past = subst (All (IsUpTo k)) (sym turns) (by_planner-up_to k past) in
     let mine : own ≡ entries_of (suc k) (past ++ own) = sym (entries_of-last k past own few all) in
     let number : suc k ≡ 1 + k = omega arith in
-    let last : RanScript pit retries script (suc k) (entries_of (suc k) (past ++ own)) run =
-    record { number = turn.took.did.of_run; ran = inl (subst (λ (es : List Answered). RanFrom pit retries 1 script es run.jobs run.ended) mine ran) } in
-    let before = did-earlier pit retries 1 k past own done runs (omega arith) all so_far.did in
-    let more = did-more pit retries 1 (past ++ own) done runs script run before (subst (λ (n : ℕ). RanScript pit retries script n (entries_of n (past ++ own)) run) number last) in
+    let begun = all-from pit retries 1 opening desk.history seen script own run.jobs run.ended (begins-prefix opening desk.history so_far.goes_on.begins) ran in
+    let last : RanScript pit retries opening seen script (suc k) (entries_of (suc k) (past ++ own)) run =
+    record { number = turn.took.did.of_run; ran = inl (subst (λ (es : List Answered). RanFrom pit retries opening seen 1 script es run.jobs run.ended) mine begun) } in
+    let before = did-earlier pit retries opening 1 k past own done runs (omega arith) all so_far.did in
+    let more = did-more pit retries opening seen 1 (past ++ own) done runs script run before (subst (λ (n : ℕ). RanScript pit retries opening seen script n (entries_of n (past ++ own)) run) number last) in
     let many : suc k ≡ length (done ++ script ∷ []) = omega (arith, length-append done (script ∷ [])) in
     let by_planner : past ++ own ≡ entries_by_planner (suc k) (past ++ own) = by_planner-next k past own turns all in
     let in_order : drop (length opening) next.history ≡ entries_by_planner (length (done ++ script ∷ [])) (drop (length opening) next.history) =
@@ -214,8 +222,8 @@ in-turn-next pit opening max_entries retries planners done desk runs script next
     record {
       kept = turn.closed.kept;
       goes_on = on.0;
-      did = subst (λ (es : List Answered). AllDid pit retries 1 es (done ++ script ∷ []) (runs ++ run ∷ [])) (sym on.1) more;
-      started = All-push (λ run. run.ended ≢ end.NoThread) runs run so_far.started (ran-not-without pit retries 1 script own run.jobs run.ended ran);
+      did = subst (λ (es : List Answered). AllDid pit retries opening 1 es (done ++ script ∷ []) (runs ++ run ∷ [])) (sym on.1) more;
+      started = All-push (λ run. run.ended ≢ end.NoThread) runs run so_far.started (ran-not-without pit retries 1 desk.history seen script own run.jobs run.ended ran);
       in_turn = record { turns = parts.0 ∙ ap (λ (es : List Answered). opening ++ es) (sym on.1 ∙ in_order) };
     }
 

@@ -15,7 +15,8 @@ ghost use Rattle.pit_run.specs.Laws.{IsOneByOne};
 pub fn each_planner()
     ensures { (pit : Pit) (opening : List Answered) (max_entries retries : ℕ) (scripts : List (List Job)) (desk : State) (runs : List RunState) → IsReport pit opening max_entries retries scripts desk runs
         → (p : ℕ) (script : List Job) → slice_get scripts p ≡ Some script
-        → (run : RunState) × (slice_get runs p ≡ Some run) × RanScript pit retries script (1 + p) (entries_of (1 + p) (drop (length opening) desk.history)) run }
+        → (run : RunState) × (slice_get runs p ≡ Some run)
+        × (seen : List Answered) × RanScript pit retries opening seen script (1 + p) (entries_of (1 + p) (drop (length opening) desk.history)) run }
 {}
 
 /// A law of reports: the closed history is one of one thread, in which the committed jobs were done one after another, after the opening. Each
