@@ -1,5 +1,5 @@
 -- What is so of tries and runs, also where less had been seen before, or more is seen then.
-use Rattle.std.proofs.Common.{ℕ, zero, suc, ◌+◌, List, [], ◌∷◌, arith, inl, inr}
+use Rattle.std.proofs.Common.{ℕ, zero, suc, ◌+◌, List, [], ◌∷◌, length, ap, arith, length-append, inl, inr}
 use mathlib.Core.List.{IsPrefix}
 use Rattle.pit_model.specs.Pit.{Pit}
 use Rattle.pit_desk.specs.History.{Answered}
@@ -7,7 +7,8 @@ use Rattle.pit_script.specs.Jobs.{Job}
 use Rattle.pit_job.specs.declared.outcome.Outcome.{Outcome}
 use Rattle.pit_job.specs.declared.outcome.RunEnd.{RunEnd}
 use Rattle.pit_job.specs.Outcomes.{IsMovedTry, Repeats}
-use Rattle.pit_job.specs.Runs.{Ran, LeftOff, RanFrom}
+use Rattle.pit_job.specs.declared.outcome.RunEnd.TheVariants as end
+use Rattle.pit_job.specs.Runs.{Ran, LeftOff, EndedBefore, RanFrom}
 use Rattle.pit_job.proofs.Seeing.{prefix-trans, commits-fewer, moved-on}
 
 -- ---- less before
@@ -59,12 +60,12 @@ ran-from pit task retries n less old new es o begins (inr g) = inr (record {
   answer = g.answer;
 })
 
-pub all-from : (pit : Pit) (retries n : ℕ) (less old new : List Answered) (jobs : List Job) (es : List Answered) (os : List Outcome) (ended : RunEnd) → IsPrefix less old
-    → RanFrom pit retries old new n jobs es os ended → RanFrom pit retries less new n jobs es os ended
-all-from pit retries n less old new [] es [] ended begins (none, whole, sees) = (none, whole, prefix-trans less old new begins sees)
-all-from pit retries n less old new [] es (o ∷ os) ended begins ran = absurd ran
-all-from pit retries n less old new (task ∷ rest) es [] ended begins (stop, left) = (stop, left-from pit task retries n less old new es begins left)
-all-from pit retries n less old new (task ∷ rest) es (o ∷ os) ended begins (mid, mine, later, cut, ran, more) =
+pub all-from : (pit : Pit) (max_entries retries n : ℕ) (less old new : List Answered) (jobs : List Job) (es : List Answered) (os : List Outcome) (ended : RunEnd) → IsPrefix less old
+    → RanFrom pit max_entries retries old new n jobs es os ended → RanFrom pit max_entries retries less new n jobs es os ended
+all-from pit max_entries retries n less old new [] es [] ended begins (none, whole, sees) = (none, whole, prefix-trans less old new begins sees)
+all-from pit max_entries retries n less old new [] es (o ∷ os) ended begins ran = absurd ran
+all-from pit max_entries retries n less old new (task ∷ rest) es [] ended begins (stop, left) = (stop, left-from pit task retries n less old new es begins left)
+all-from pit max_entries retries n less old new (task ∷ rest) es (o ∷ os) ended begins (mid, mine, later, cut, ran, more) =
     (mid, mine, later, cut, ran-from pit task retries n less old mid mine o begins ran, more)
 
 -- ---- more then
@@ -116,13 +117,20 @@ ran-on pit task retries n old new more es o on (inr g) = inr (record {
   answer = g.answer;
 })
 
-pub all-on : (pit : Pit) (retries n : ℕ) (old new more : List Answered) (jobs : List Job) (es : List Answered) (os : List Outcome) (ended : RunEnd) → IsPrefix new more
-    → RanFrom pit retries old new n jobs es os ended → RanFrom pit retries old more n jobs es os ended
-all-on pit retries n old new more [] es [] ended on (none, whole, sees) = (none, whole, prefix-trans old new more sees on)
-all-on pit retries n old new more [] es (o ∷ os) ended on ran = absurd ran
-all-on pit retries n old new more (task ∷ rest) es [] ended on (stop, left) = (stop, left-on pit task retries n old new more es on left)
-all-on pit retries n old new more (task ∷ rest) es (o ∷ os) ended on (mid, mine, later, cut, ran, ahead) =
-    (mid, mine, later, cut, ran, all-on pit retries (n + 1) mid new more rest later os ended on ahead)
+before-on : (max_entries n : ℕ) (seen more : List Answered) (ended : RunEnd) → IsPrefix seen more → EndedBefore max_entries seen n ended → EndedBefore max_entries more n ended
+before-on max_entries n seen more end.Whole on stop = absurd stop
+before-on max_entries n seen more (end.Full job) on (is, full) = (is, omega (arith, full, ap length on.1, length-append seen on.0))
+before-on max_entries n seen more (end.NoMemory job) on stop = stop
+before-on max_entries n seen more (end.NoEntry job) on stop = stop
+before-on max_entries n seen more end.NoThread on stop = absurd stop
+
+pub all-on : (pit : Pit) (max_entries retries n : ℕ) (old new more : List Answered) (jobs : List Job) (es : List Answered) (os : List Outcome) (ended : RunEnd) → IsPrefix new more
+    → RanFrom pit max_entries retries old new n jobs es os ended → RanFrom pit max_entries retries old more n jobs es os ended
+all-on pit max_entries retries n old new more [] es [] ended on (none, whole, sees) = (none, whole, prefix-trans old new more sees on)
+all-on pit max_entries retries n old new more [] es (o ∷ os) ended on ran = absurd ran
+all-on pit max_entries retries n old new more (task ∷ rest) es [] ended on (stop, left) = (before-on max_entries n new more ended on stop, left-on pit task retries n old new more es on left)
+all-on pit max_entries retries n old new more (task ∷ rest) es (o ∷ os) ended on (mid, mine, later, cut, ran, ahead) =
+    (mid, mine, later, cut, ran, all-on pit max_entries retries (n + 1) mid new more rest later os ended on ahead)
 
 -- ---- all that was seen before is seen then
 
@@ -135,10 +143,10 @@ pub ran-sees : (pit : Pit) (task : Job) (retries n : ℕ) (old new es : List Ans
 ran-sees pit task retries n old new es o (inl s) = prefix-trans old s.mid new (repeats-sees pit task n s.before old s.mid s.repeated s.repeats) s.sees
 ran-sees pit task retries n old new es o (inr g) = prefix-trans old g.mid new (repeats-sees pit task n retries old g.mid g.repeated g.repeats) g.moved.sees
 
-pub all-sees : (pit : Pit) (retries n : ℕ) (old new : List Answered) (jobs : List Job) (es : List Answered) (os : List Outcome) (ended : RunEnd)
-    → RanFrom pit retries old new n jobs es os ended → IsPrefix old new
-all-sees pit retries n old new [] es [] ended (none, whole, sees) = sees
-all-sees pit retries n old new [] es (o ∷ os) ended ran = absurd ran
-all-sees pit retries n old new (task ∷ rest) es [] ended (stop, left) = repeats-sees pit task n left.before old new es left.repeats
-all-sees pit retries n old new (task ∷ rest) es (o ∷ os) ended (mid, mine, later, cut, ran, more) =
-    prefix-trans old mid new (ran-sees pit task retries n old mid mine o ran) (all-sees pit retries (n + 1) mid new rest later os ended more)
+pub all-sees : (pit : Pit) (max_entries retries n : ℕ) (old new : List Answered) (jobs : List Job) (es : List Answered) (os : List Outcome) (ended : RunEnd)
+    → RanFrom pit max_entries retries old new n jobs es os ended → IsPrefix old new
+all-sees pit max_entries retries n old new [] es [] ended (none, whole, sees) = sees
+all-sees pit max_entries retries n old new [] es (o ∷ os) ended ran = absurd ran
+all-sees pit max_entries retries n old new (task ∷ rest) es [] ended (stop, left) = repeats-sees pit task n left.before old new es left.repeats
+all-sees pit max_entries retries n old new (task ∷ rest) es (o ∷ os) ended (mid, mine, later, cut, ran, more) =
+    prefix-trans old mid new (ran-sees pit task retries n old mid mine o ran) (all-sees pit max_entries retries (n + 1) mid new rest later os ended more)

@@ -1,7 +1,7 @@
 -- Each job's entries stand together.
 use Rattle.std.proofs.lemmas.List.Elements.{All-append, All-nil, All-cons, All-head, All-tail, filter-append}
 use Rattle.std.proofs.lemmas.Bool.Decides.{nat_tests}
-use Rattle.std.proofs.Common.{◌≡◌, ℕ, zero, suc, ◌+◌, ◌<◌, ◌==◌, true, false, List, [], ◌∷◌, get_or, add-zero, refl, sym, ap, subst, ◌∙◌, arith, append-nil, inl, inr}
+use Rattle.std.proofs.Common.{◌≡◌, ℕ, zero, suc, ◌+◌, ◌<◌, ◌≤◌, ◌==◌, true, false, List, [], ◌∷◌, length, get_or, add-zero, refl, sym, ap, subst, ◌∙◌, arith, append-nil, inl, inr}
 use Rattle.std.specs.Prelude.{All, Some, slice_get}
 use Rattle.pit_model.specs.Pit.{Pit}
 use Rattle.pit_desk.specs.History.{Answered}
@@ -48,18 +48,18 @@ own-later : (pit : Pit) (n : ℕ) (task : Job) (jobs : List Job) (e : Answered) 
 own-later pit n task jobs e own = let i = own.number in record { place = suc own.place; task = own.task; number = omega arith; at = own.at; effect = own.effect }
 
 -- each entry has the effect of its own job
-pub own-effects : (pit : Pit) (retries n : ℕ) (old new : List Answered) (jobs : List Job) (es : List Answered) (os : List Outcome) (ended : RunEnd) → RanFrom pit retries old new n jobs es os ended
+pub own-effects : (pit : Pit) (max_entries retries n : ℕ) (old new : List Answered) (jobs : List Job) (es : List Answered) (os : List Outcome) (ended : RunEnd) → RanFrom pit max_entries retries old new n jobs es os ended
     → All (λ e. HasOwnEffect pit n jobs e) es
-own-effects pit retries n old new [] es [] ended (none, whole, sees) = subst (All (λ e. HasOwnEffect pit n [] e)) (sym none) (All-nil (λ e. HasOwnEffect pit n [] e))
-own-effects pit retries n old new [] es (o ∷ os) ended ran = absurd ran
-own-effects pit retries n old new (task ∷ rest) es [] ended (stop, left) =
+own-effects pit max_entries retries n old new [] es [] ended (none, whole, sees) = subst (All (λ e. HasOwnEffect pit n [] e)) (sym none) (All-nil (λ e. HasOwnEffect pit n [] e))
+own-effects pit max_entries retries n old new [] es (o ∷ os) ended ran = absurd ran
+own-effects pit max_entries retries n old new (task ∷ rest) es [] ended (stop, left) =
     All-map (λ e. IsItem pit task n e) (λ e. HasOwnEffect pit n (task ∷ rest) e) (own-now pit n task rest) es
     (repeats-items pit task n left.before old new es left.repeats)
-own-effects pit retries n old new (task ∷ rest) es (o ∷ os) ended (mid, here, later, cut, ran, more) =
+own-effects pit max_entries retries n old new (task ∷ rest) es (o ∷ os) ended (mid, here, later, cut, ran, more) =
     subst (All (λ e. HasOwnEffect pit n (task ∷ rest) e)) (sym cut)
     (All-append (λ e. HasOwnEffect pit n (task ∷ rest) e) here later
     (All-map (λ e. IsItem pit task n e) (λ e. HasOwnEffect pit n (task ∷ rest) e) (own-now pit n task rest) here (ran-items pit task retries n old mid here o ran))
-    (All-map (λ e. HasOwnEffect pit (n + 1) rest e) (λ e. HasOwnEffect pit n (task ∷ rest) e) (own-later pit n task rest) later (own-effects pit retries (n + 1) mid new rest later os ended more)))
+    (All-map (λ e. HasOwnEffect pit (n + 1) rest e) (λ e. HasOwnEffect pit n (task ∷ rest) e) (own-later pit n task rest) later (own-effects pit max_entries retries (n + 1) mid new rest later os ended more)))
 
 -- the entries of a job that all have its number
 all-of : (n : ℕ) (es : List Answered) → All (λ e. e.call.job ≡ n) es → of_job n es ≡ es
@@ -78,21 +78,21 @@ other : (a b : ℕ) → a < b → (b == a) ≡ false
 other a b less = grind (arith, nat_tests)
 
 -- the j-th job's entries and its outcome
-pub each-job : (pit : Pit) (retries n : ℕ) (old new : List Answered) (jobs : List Job) (es : List Answered) (os : List Outcome) (ended : RunEnd) → RanFrom pit retries old new n jobs es os ended
+pub each-job : (pit : Pit) (max_entries retries n : ℕ) (old new : List Answered) (jobs : List Job) (es : List Answered) (os : List Outcome) (ended : RunEnd) → RanFrom pit max_entries retries old new n jobs es os ended
     → (j : ℕ) (task : Job) (o : Outcome) → slice_get jobs j ≡ Some task → slice_get os j ≡ Some o → Ran pit task retries (n + j) old new (of_job (n + j) es) o
-each-job pit retries n old new [] es os ended ran j task o at got = absurd (cc at)
-each-job pit retries n old new (x ∷ xs) es [] ended ran j task o at got = absurd (cc got)
-each-job pit retries n old new (x ∷ xs) es (p ∷ ps) ended (mid, here, later, cut, ran, more) zero task o at got =
+each-job pit max_entries retries n old new [] es os ended ran j task o at got = absurd (cc at)
+each-job pit max_entries retries n old new (x ∷ xs) es [] ended ran j task o at got = absurd (cc got)
+each-job pit max_entries retries n old new (x ∷ xs) es (p ∷ ps) ended (mid, here, later, cut, ran, more) zero task o at got =
     let later-jobs = All-map (λ e. HasOwnEffect pit (n + 1) xs e) (λ e. (e.call.job == n) ≡ false) (λ e own. let i = own.number in other n e.call.job (omega arith)) later
-    (own-effects pit retries (n + 1) mid new xs later ps ended more) in
+    (own-effects pit max_entries retries (n + 1) mid new xs later ps ended more) in
     let same : of_job n es ≡ here =
     ap (of_job n) cut ∙ (filter-append (λ (e : Answered). e.call.job == n) here later ∙ (rw (all-of n here (All-map (λ e. IsItem pit x n e) (λ e. e.call.job ≡ n) (λ e i. i.job) here (ran-items pit x retries n old mid here p ran)), none-of n later later-jobs) (append-nil here))) in
     let a : x ≡ task = cc at in
     let b : p ≡ o = cc got in
-    let sees = all-sees pit retries (n + 1) mid new xs later ps ended more in
+    let sees = all-sees pit max_entries retries (n + 1) mid new xs later ps ended more in
     rw (add-zero, same, ← a, ← b) (ran-on pit x retries n old mid new here p sees ran)
-each-job pit retries n old new (x ∷ xs) es (p ∷ ps) ended (mid, here, later, cut, ran, more) (suc j) task o at got =
-    let behind = each-job pit retries (n + 1) mid new xs later ps ended more j task o at got in
+each-job pit max_entries retries n old new (x ∷ xs) es (p ∷ ps) ended (mid, here, later, cut, ran, more) (suc j) task o at got =
+    let behind = each-job pit max_entries retries (n + 1) mid new xs later ps ended more j task o at got in
     let rest = ran-from pit task retries ((n + 1) + j) old mid new (of_job ((n + 1) + j) later) o (ran-sees pit x retries n old mid here p ran) behind in
     let number : (n + 1) + j ≡ n + suc j = omega arith in
     let here-jobs = All-map (λ e. IsItem pit x n e) (λ e. (e.call.job == n + suc j) ≡ false) (λ e i. let h = i.job in grind (arith, nat_tests)) here (ran-items pit x retries n old mid here p ran) in
@@ -101,12 +101,12 @@ each-job pit retries n old new (x ∷ xs) es (p ∷ ps) ended (mid, here, later,
     let there : Ran pit task retries (n + suc j) old new (of_job (n + suc j) later) o = subst (λ (m : ℕ). Ran pit task retries m old new (of_job m later) o) number rest in
     subst (λ (xs : List Answered). Ran pit task retries (n + suc j) old new xs o) (sym same) there
 
-ends-after-none : (n : ℕ) (task : Job) (rest : List Job) (ended : RunEnd) → EndedBefore n ended → EndsAfter n (task ∷ rest) [] ended
-ends-after-none n task rest end.Whole stop = absurd stop
-ends-after-none n task rest (end.Full job) stop = (stop ∙ sym (add-zero n), omega arith)
-ends-after-none n task rest (end.NoMemory job) stop = (stop ∙ sym (add-zero n), omega arith)
-ends-after-none n task rest (end.NoEntry job) stop = (stop ∙ sym (add-zero n), omega arith)
-ends-after-none n task rest end.NoThread stop = absurd stop
+ends-after-none : (max_entries : ℕ) (seen : List Answered) (n : ℕ) (task : Job) (rest : List Job) (ended : RunEnd) → EndedBefore max_entries seen n ended → EndsAfter n (task ∷ rest) [] ended
+ends-after-none max_entries seen n task rest end.Whole stop = absurd stop
+ends-after-none max_entries seen n task rest (end.Full job) stop = (stop.0 ∙ sym (add-zero n), omega arith)
+ends-after-none max_entries seen n task rest (end.NoMemory job) stop = (stop ∙ sym (add-zero n), omega arith)
+ends-after-none max_entries seen n task rest (end.NoEntry job) stop = (stop ∙ sym (add-zero n), omega arith)
+ends-after-none max_entries seen n task rest end.NoThread stop = absurd stop
 
 ends-more : (n : ℕ) (task : Job) (rest : List Job) (o : Outcome) (os : List Outcome) (ended : RunEnd) → EndsAfter (n + 1) rest os ended → EndsAfter n (task ∷ rest) (o ∷ os) ended
 ends-more n task rest o os end.Whole is = omega arith
@@ -115,9 +115,18 @@ ends-more n task rest o os (end.NoMemory job) (is, less) = (omega arith, omega a
 ends-more n task rest o os (end.NoEntry job) (is, less) = (omega arith, omega arith)
 ends-more n task rest o os end.NoThread is = is
 
-pub ends-after : (pit : Pit) (retries n : ℕ) (old new : List Answered) (jobs : List Job) (es : List Answered) (os : List Outcome) (ended : RunEnd) → RanFrom pit retries old new n jobs es os ended
+-- an end since the history is full comes only where it was seen to be
+pub ends-full : (pit : Pit) (max_entries retries n : ℕ) (old new : List Answered) (jobs : List Job) (es : List Answered) (os : List Outcome) (ended : RunEnd) → RanFrom pit max_entries retries old new n jobs es os ended
+    → (job : ℕ) → ended ≡ end.Full job → max_entries ≤ length new
+ends-full pit max_entries retries n old new [] es [] ended (none, whole, sees) job is = absurd (cc (whole, is))
+ends-full pit max_entries retries n old new [] es (o ∷ os) ended ran job is = absurd ran
+ends-full pit max_entries retries n old new (task ∷ rest) es [] ended (stop, left) job is = (subst (EndedBefore max_entries new n) is stop).1
+ends-full pit max_entries retries n old new (task ∷ rest) es (o ∷ os) ended (mid, mine, later, cut, ran, more) job is =
+    ends-full pit max_entries retries (n + 1) mid new rest later os ended more job is
+
+pub ends-after : (pit : Pit) (max_entries retries n : ℕ) (old new : List Answered) (jobs : List Job) (es : List Answered) (os : List Outcome) (ended : RunEnd) → RanFrom pit max_entries retries old new n jobs es os ended
     → EndsAfter n jobs os ended
-ends-after pit retries n old new [] es [] ended (none, whole, sees) = subst (EndsAfter n [] []) (sym whole) refl
-ends-after pit retries n old new [] es (o ∷ os) ended ran = absurd ran
-ends-after pit retries n old new (task ∷ rest) es [] ended (stop, left) = ends-after-none n task rest ended stop
-ends-after pit retries n old new (task ∷ rest) es (o ∷ os) ended (mid, here, later, cut, ran, more) = ends-more n task rest o os ended (ends-after pit retries (n + 1) mid new rest later os ended more)
+ends-after pit max_entries retries n old new [] es [] ended (none, whole, sees) = subst (EndsAfter n [] []) (sym whole) refl
+ends-after pit max_entries retries n old new [] es (o ∷ os) ended ran = absurd ran
+ends-after pit max_entries retries n old new (task ∷ rest) es [] ended (stop, left) = ends-after-none max_entries new n task rest ended stop
+ends-after pit max_entries retries n old new (task ∷ rest) es (o ∷ os) ended (mid, here, later, cut, ran, more) = ends-more n task rest o os ended (ends-after pit max_entries retries (n + 1) mid new rest later os ended more)

@@ -16,7 +16,9 @@ use Rattle.pit_desk.specs.declared.reply.Reply.TheVariants as answered
 use Rattle.pit_script.specs.Jobs.{Job}
 use Rattle.pit_script.specs.declared.step.JobEnd.{JobEnd}
 use Rattle.pit_script.specs.declared.step.JobEnd.TheVariants as ending
-use Rattle.pit_share.specs.Endings.{IsAnswered, IsEnded}
+use Rattle.pit_desk.specs.declared.error.Stop.{Stop}
+use Rattle.pit_desk.specs.declared.error.Stop.TheVariants as desk_stop
+use Rattle.pit_share.specs.Endings.{IsAnswered, IsEnded, IsStopped}
 use Rattle.pit_share.specs.Planners.{PlannerState, TransactionState, Begins, SeesOn}
 use Rattle.pit_job.specs.Effect.{nothing, no_change, read_in, effect, ended, steps_after, HasEffect}
 use Rattle.pit_job.specs.declared.doing.StepStop.TheVariants as met
@@ -25,14 +27,14 @@ use Rattle.pit_job.specs.declared.outcome.Tried.{Tried}
 use Rattle.pit_job.specs.declared.outcome.Tried.TheVariants as tried
 use Rattle.pit_job.specs.Inside.Doing.{own_of, Same, DoesSteps, Meets, IsFresh, come_to}
 use Rattle.pit_job.specs.Outcomes.{IsRead, Grows}
-use Rattle.pit_job.specs.Inside.Outcomes.{Tries, EndsBy, tried_of}
+use Rattle.pit_job.specs.Inside.Outcomes.{Tries, EndsBy, IsStop, stop_of, tried_of}
 use Rattle.pit_job.proofs.Seeing.{prefix-trans, sees-same, answered-moved}
 use Rattle.pit_job.proofs.Growing.{try-from}
 
 -- an ending is a try's, where the call has the job's effect, and began after what had been seen
-pub tries-of : (pit : Pit) (task : Job) (n : ℕ) (how : Act) (w : Sets) (old new : PlannerState) (es : List Answered) (t : Tried) → w.job ≡ n → length (commits_of old.seen) ≤ w.start
-    → HasEffect pit task (work_call w how) → Grows old es new → EndsBy how w new.seen es t → Tries pit task n old.seen new.seen es t
-tries-of pit task n how w old new es (tried.Moved block version) same after has grows (is, moved) = record {
+pub tries-of : (pit : Pit) (max_entries : ℕ) (task : Job) (n : ℕ) (how : Act) (w : Sets) (old new : PlannerState) (es : List Answered) (t : Tried) → w.job ≡ n → length (commits_of old.seen) ≤ w.start
+    → HasEffect pit task (work_call w how) → Grows old es new → EndsBy max_entries how w new.seen es t → Tries pit max_entries task n old.seen new.seen es t
+tries-of pit max_entries task n how w old new es (tried.Moved block version) same after has grows (is, moved) = record {
   start = w.start;
   after = after;
   sees = grows.seen;
@@ -43,9 +45,9 @@ tries-of pit task n how w old new es (tried.Moved block version) same after has 
     record { item = record { job = same; effect = has }; begun = refl; answer = refl },
   );
 }
-tries-of pit task n how w old new es (tried.Answered answer) same after has grows (is, other) =
+tries-of pit max_entries task n how w old new es (tried.Answered answer) same after has grows (is, other) =
     (record { call = work_call w how; reply = answer }, is, record { job = same; effect = has }, refl, other)
-tries-of pit task n how w old new es (tried.Stopped why) same after has grows is = is
+tries-of pit max_entries task n how w old new es (tried.Stopped why) same after has grows is = is
 
 -- what all steps come to, over the reads that were made
 steps-come : (pit : Pit) (task : Job) (n : ℕ) (old new : TransactionState) (goes : Bool) → IsFresh n old → DoesSteps pit old task.steps goes new
@@ -73,15 +75,15 @@ failed-has pit task n old new fresh does = by task.end (steps-come pit task n ol
     by ending.Abort is = ap (ended ending.Abort) is
 
 -- a commit's answer
-pub commit-ends : (pit : Pit) (w : Sets) (old seen es : List Answered) (r : Reply) → IsAnswered pit (work_call w act.Commit) (entry_reply r) old seen
-    → es ≡ record { call = work_call w act.Commit; reply = entry_reply r } ∷ [] → EndsBy act.Commit w seen es (tried_of r)
-commit-ends pit w old seen es (answered.Committed number) answer is = (is, refl)
-commit-ends pit w old seen es (answered.Refused (refusal.Ahead start commits)) answer is = (is, refl)
-commit-ends pit w old seen es (answered.Refused (refusal.Moved block version)) answer is =
+pub commit-ends : (pit : Pit) (max_entries : ℕ) (w : Sets) (old seen es : List Answered) (r : Reply) → IsAnswered pit (work_call w act.Commit) (entry_reply r) old seen
+    → es ≡ record { call = work_call w act.Commit; reply = entry_reply r } ∷ [] → EndsBy max_entries act.Commit w seen es (tried_of r)
+commit-ends pit max_entries w old seen es (answered.Committed number) answer is = (is, refl)
+commit-ends pit max_entries w old seen es (answered.Refused (refusal.Ahead start commits)) answer is = (is, refl)
+commit-ends pit max_entries w old seen es (answered.Refused (refusal.Moved block version)) answer is =
     (is, answered-moved pit (work_call w act.Commit) (reply.Refused (refusal.Moved block version)) old seen block version answer refl)
-commit-ends pit w old seen es (answered.Refused (refusal.Misread block)) answer is = (is, refl)
-commit-ends pit w old seen es (answered.Refused (refusal.Precedence block before)) answer is = (is, refl)
-commit-ends pit w old seen es (answered.Refused (refusal.Over resource period load limit)) answer is = (is, refl)
+commit-ends pit max_entries w old seen es (answered.Refused (refusal.Misread block)) answer is = (is, refl)
+commit-ends pit max_entries w old seen es (answered.Refused (refusal.Precedence block before)) answer is = (is, refl)
+commit-ends pit max_entries w old seen es (answered.Refused (refusal.Over resource period load limit)) answer is = (is, refl)
 
 grows-on : (old new p : PlannerState) (es : List Answered) → SeesOn old new → Grows new es p → Grows old es p
 grows-on old new p es sees grows = record {
@@ -95,31 +97,31 @@ start-after : (n : ℕ) (old new : TransactionState) → IsFresh n old → Same 
 start-after n old new fresh same = let is = same.start in let after = fresh.after in omega arith
 
 -- a try that had seen less before
-tries-from : (pit : Pit) (task : Job) (n : ℕ) (less old new es : List Answered) (t : Tried) → IsPrefix less old → Tries pit task n old new es t → Tries pit task n less new es t
-tries-from pit task n less old new es (tried.Moved block version) begins tries = try-from pit task n less old new es block version begins tries
-tries-from pit task n less old new es (tried.Answered answer) begins tries = tries
-tries-from pit task n less old new es (tried.Stopped why) begins tries = tries
+tries-from : (pit : Pit) (max_entries : ℕ) (task : Job) (n : ℕ) (less old new es : List Answered) (t : Tried) → IsPrefix less old → Tries pit max_entries task n old new es t → Tries pit max_entries task n less new es t
+tries-from pit max_entries task n less old new es (tried.Moved block version) begins tries = try-from pit task n less old new es block version begins tries
+tries-from pit max_entries task n less old new es (tried.Answered answer) begins tries = tries
+tries-from pit max_entries task n less old new es (tried.Stopped why) begins tries = tries
 
-pub ends-tries : (pit : Pit) (task : Job) (n : ℕ) (old new : TransactionState) (how : Act) (p : PlannerState) (t : Tried) → IsFresh n old → Same old new
-    → HasEffect pit task (work_call new.work how) → ((es : List Answered) × Grows new.planner es p × EndsBy how new.work p.seen es t)
-    → (es : List Answered) × Grows old.planner es p × Tries pit task n old.planner.seen p.seen es t
-ends-tries pit task n old new how p t fresh same has (es, grows, ends) =
+pub ends-tries : (pit : Pit) (max_entries : ℕ) (task : Job) (n : ℕ) (old new : TransactionState) (how : Act) (p : PlannerState) (t : Tried) → IsFresh n old → Same old new
+    → HasEffect pit task (work_call new.work how) → ((es : List Answered) × Grows new.planner es p × EndsBy max_entries how new.work p.seen es t)
+    → (es : List Answered) × Grows old.planner es p × Tries pit max_entries task n old.planner.seen p.seen es t
+ends-tries pit max_entries task n old new how p t fresh same has (es, grows, ends) =
     let grew = grows-on old.planner new.planner p es same.sees grows in
-    (es, grew, tries-of pit task n how new.work old.planner p es t (same.job ∙ fresh.job) (start-after n old new fresh same) has grew ends)
+    (es, grew, tries-of pit max_entries task n how new.work old.planner p es t (same.job ∙ fresh.job) (start-after n old new fresh same) has grew ends)
 
 -- the same of a job by another name
-pub tries-same : (pit : Pit) (task other : Job) (n : ℕ) (old p : PlannerState) (t : Tried) → other ≡ task → ((es : List Answered) × Grows old es p × Tries pit task n old.seen p.seen es t)
-    → (es : List Answered) × Grows old es p × Tries pit other n old.seen p.seen es t
-tries-same pit task other n old p t same (es, grows, tries) = (es, grows, subst (λ (j : Job). Tries pit j n old.seen p.seen es t) (sym same) tries)
+pub tries-same : (pit : Pit) (max_entries : ℕ) (task other : Job) (n : ℕ) (old p : PlannerState) (t : Tried) → other ≡ task → ((es : List Answered) × Grows old es p × Tries pit max_entries task n old.seen p.seen es t)
+    → (es : List Answered) × Grows old es p × Tries pit max_entries other n old.seen p.seen es t
+tries-same pit max_entries task other n old p t same (es, grows, tries) = (es, grows, subst (λ (j : Job). Tries pit max_entries j n old.seen p.seen es t) (sym same) tries)
 
 pub grows-none : (old new : PlannerState) → SeesOn old new → Grows old [] new
 grows-none old new sees = record { number = sees.number; items = sees.items ∙ sym (append-nil old.items); seen = sees.seen }
 
 -- a try whose steps met a block that moved
-pub moved-tries : (pit : Pit) (task : Job) (n : ℕ) (old : TransactionState) (p : PlannerState) (block version : ℕ) → IsFresh n old → SeesOn old.planner p
+pub moved-tries : (pit : Pit) (max_entries : ℕ) (task : Job) (n : ℕ) (old : TransactionState) (p : PlannerState) (block version : ℕ) → IsFresh n old → SeesOn old.planner p
     → Meets (IsRead task.steps) old.work.start p.seen (met.Moved block version)
-    → (es : List Answered) × Grows old.planner es p × Tries pit task n old.planner.seen p.seen es (tried.Moved block version)
-moved-tries pit task n old p block version fresh sees meets = (
+    → (es : List Answered) × Grows old.planner es p × Tries pit max_entries task n old.planner.seen p.seen es (tried.Moved block version)
+moved-tries pit max_entries task n old p block version fresh sees meets = (
   [],
   grows-none old.planner p sees,
   record { start = old.work.start; after = fresh.after; sees = sees.seen; moved = meets.1; made = inr (refl, meets.0) },
@@ -129,33 +131,46 @@ pub ended-grows : (pit : Pit) (old new : PlannerState) (call : Call) (reply : En
 ended-grows pit old new call reply ended = record { number = ended.number; items = ended.items; seen = ended.seen }
 
 -- a try that stops adds nothing
-pub stopped-tries : (pit : Pit) (task : Job) (n : ℕ) (old p : PlannerState) (why : JobStop) → SeesOn old p
-    → (es : List Answered) × Grows old es p × Tries pit task n old.seen p.seen es (tried.Stopped why)
-stopped-tries pit task n old p why sees = ([], grows-none old p sees, refl)
+pub stopped-tries : (pit : Pit) (max_entries : ℕ) (task : Job) (n : ℕ) (old p : PlannerState) (why : JobStop) → SeesOn old p → IsStop max_entries p.seen why
+    → (es : List Answered) × Grows old es p × Tries pit max_entries task n old.seen p.seen es (tried.Stopped why)
+stopped-tries pit max_entries task n old p why sees stop = ([], grows-none old p sees, (refl, stop))
 
-pub stopped-ends : (how : Act) (w : Sets) (old p : PlannerState) (why : JobStop) → p ≡ old → (es : List Answered) × Grows old es p × EndsBy how w p.seen es (tried.Stopped why)
-stopped-ends how w old p why same = ([], grows-none old p (sees-same old p same), refl)
+stopped-sees : (max_entries : ℕ) (old later : TransactionState) (s : Stop) → IsStopped max_entries old s later → SeesOn old.planner later.planner
+stopped-sees max_entries old later desk_stop.Full stopped = stopped.1
+stopped-sees max_entries old later desk_stop.NoMemory stopped = sees-same old.planner later.planner (ap (λ (t : TransactionState). t.planner) stopped)
+
+stopped-is : (max_entries : ℕ) (old later : TransactionState) (s : Stop) → IsStopped max_entries old s later → IsStop max_entries later.planner.seen (stop_of s)
+stopped-is max_entries old later desk_stop.Full stopped = stopped.2
+stopped-is max_entries old later desk_stop.NoMemory stopped = tt
+
+-- an ending that got no answer
+pub stopped-ends : (max_entries : ℕ) (how : Act) (old later : TransactionState) (p : PlannerState) (s : Stop) (why : JobStop) → IsStopped max_entries old s later → p ≡ later.planner → why ≡ stop_of s
+    → (es : List Answered) × Grows old.planner es p × EndsBy max_entries how old.work p.seen es (tried.Stopped why)
+stopped-ends max_entries how old later p s why stopped same is =
+    let sees = subst (SeesOn old.planner) (sym same) (stopped-sees max_entries old later s stopped) in
+    let here = subst (λ (q : PlannerState). IsStop max_entries q.seen (stop_of s)) (sym same) (stopped-is max_entries old later s stopped) in
+    ([], grows-none old.planner p sees, (refl, subst (IsStop max_entries p.seen) (sym is) here))
 
 -- a withdrawal that was answered
-pub withdrawn-ends : (pit : Pit) (w : Sets) (old p : PlannerState) → IsEnded pit old (work_call w act.Withdraw) reply.Withdrawn p
-    → (es : List Answered) × Grows old es p × EndsBy act.Withdraw w p.seen es (tried.Answered reply.Withdrawn)
-withdrawn-ends pit w old p ended =
+pub withdrawn-ends : (pit : Pit) (max_entries : ℕ) (w : Sets) (old p : PlannerState) → IsEnded pit old (work_call w act.Withdraw) reply.Withdrawn p
+    → (es : List Answered) × Grows old es p × EndsBy max_entries act.Withdraw w p.seen es (tried.Answered reply.Withdrawn)
+withdrawn-ends pit max_entries w old p ended =
     (record { call = work_call w act.Withdraw; reply = reply.Withdrawn } ∷ [], ended-grows pit old p (work_call w act.Withdraw) reply.Withdrawn ended, (refl, refl))
 
 -- and a commit
-pub answered-ends : (pit : Pit) (w : Sets) (old p : PlannerState) (r : Reply) (t : Tried) → IsEnded pit old (work_call w act.Commit) (entry_reply r) p → t ≡ tried_of r
-    → (es : List Answered) × Grows old es p × EndsBy act.Commit w p.seen es t
-answered-ends pit w old p r t ended is =
+pub answered-ends : (pit : Pit) (max_entries : ℕ) (w : Sets) (old p : PlannerState) (r : Reply) (t : Tried) → IsEnded pit old (work_call w act.Commit) (entry_reply r) p → t ≡ tried_of r
+    → (es : List Answered) × Grows old es p × EndsBy max_entries act.Commit w p.seen es t
+answered-ends pit max_entries w old p r t ended is =
     let es : List Answered = record { call = work_call w act.Commit; reply = entry_reply r } ∷ [] in (
       es,
       ended-grows pit old p (work_call w act.Commit) (entry_reply r) ended,
-      subst (λ (x : Tried). EndsBy act.Commit w p.seen es x) (sym is) (commit-ends pit w old.seen p.seen es r ended.answer refl),
+      subst (λ (x : Tried). EndsBy max_entries act.Commit w p.seen es x) (sym is) (commit-ends pit max_entries w old.seen p.seen es r ended.answer refl),
     )
 
-pub begun-tries : (pit : Pit) (task : Job) (n : ℕ) (old new p : PlannerState) (t : Tried) → SeesOn old new
-    → ((es : List Answered) × Grows new es p × Tries pit task n new.seen p.seen es t) → (es : List Answered) × Grows old es p × Tries pit task n old.seen p.seen es t
-begun-tries pit task n old new p t sees (es, grows, tries) =
-    (es, grows-on old new p es sees grows, tries-from pit task n old.seen new.seen p.seen es t sees.seen tries)
+pub begun-tries : (pit : Pit) (max_entries : ℕ) (task : Job) (n : ℕ) (old new p : PlannerState) (t : Tried) → SeesOn old new
+    → ((es : List Answered) × Grows new es p × Tries pit max_entries task n new.seen p.seen es t) → (es : List Answered) × Grows old es p × Tries pit max_entries task n old.seen p.seen es t
+begun-tries pit max_entries task n old new p t sees (es, grows, tries) =
+    (es, grows-on old new p es sees grows, tries-from pit max_entries task n old.seen new.seen p.seen es t sees.seen tries)
 
 pub fresh-of : (pit : Pit) (old : PlannerState) (n : ℕ) (t : TransactionState) → Begins pit old n t → IsFresh n t
 fresh-of pit old n t begins = record {

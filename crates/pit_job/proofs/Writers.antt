@@ -80,24 +80,24 @@ given-moved pit task retries n old new es o block version tries (inr g) is =
     let after = g.moved.after in
     (g.moved.start, omega arith, subst (λ (b : ℕ). IsMovedBlock new g.moved.start b version) one (subst (IsMovedBlock new g.moved.start g.block) two g.moved.moved))
 
-outcome-moved : (pit : Pit) (retries n : ℕ) (old new : List Answered) (jobs : List Job) (es : List Answered) (os : List Outcome) (ended : RunEnd) → RanFrom pit retries old new n jobs es os ended
+outcome-moved : (pit : Pit) (max_entries retries n : ℕ) (old new : List Answered) (jobs : List Job) (es : List Answered) (os : List Outcome) (ended : RunEnd) → RanFrom pit max_entries retries old new n jobs es os ended
     → (j block version tries : ℕ) → slice_get os j ≡ Some (outcome.Refused (refusal.Moved block version) tries)
     → (start : ℕ) × (length (commits_of old) ≤ start) × IsMovedBlock new start block version
-outcome-moved pit retries n old new jobs es [] ended ran j block version tries at = absurd (cc at)
-outcome-moved pit retries n old new [] es (o ∷ os) ended ran j block version tries at = absurd ran
-outcome-moved pit retries n old new (task ∷ rest) es (o ∷ os) ended (mid, mine, later, cut, ran, more) zero block version tries at =
+outcome-moved pit max_entries retries n old new jobs es [] ended ran j block version tries at = absurd (cc at)
+outcome-moved pit max_entries retries n old new [] es (o ∷ os) ended ran j block version tries at = absurd ran
+outcome-moved pit max_entries retries n old new (task ∷ rest) es (o ∷ os) ended (mid, mine, later, cut, ran, more) zero block version tries at =
     let found = given-moved pit task retries n old mid mine o block version tries ran (cc at) in
-    (found.0, found.1, moved-on mid new found.0 block version (all-sees pit retries (n + 1) mid new rest later os ended more) found.2)
-outcome-moved pit retries n old new (task ∷ rest) es (o ∷ os) ended (mid, mine, later, cut, ran, more) (suc j) block version tries at =
-    let found = outcome-moved pit retries (n + 1) mid new rest later os ended more j block version tries at in
+    (found.0, found.1, moved-on mid new found.0 block version (all-sees pit max_entries retries (n + 1) mid new rest later os ended more) found.2)
+outcome-moved pit max_entries retries n old new (task ∷ rest) es (o ∷ os) ended (mid, mine, later, cut, ran, more) (suc j) block version tries at =
+    let found = outcome-moved pit max_entries retries (n + 1) mid new rest later os ended more j block version tries at in
     let fewer = commits-fewer old mid (ran-sees pit task retries n old mid mine o ran) in
     let after = found.1 in
     (found.0, omega arith, found.2)
 
-pub outcome-writer : (pit : Pit) (retries n : ℕ) (old new : List Answered) (jobs : List Job) (es : List Answered) (os : List Outcome) (ended : RunEnd) → RanFrom pit retries old new n jobs es os ended
+pub outcome-writer : (pit : Pit) (max_entries retries n : ℕ) (old new : List Answered) (jobs : List Job) (es : List Answered) (os : List Outcome) (ended : RunEnd) → RanFrom pit max_entries retries old new n jobs es os ended
     → (j block version tries : ℕ) → slice_get os j ≡ Some (outcome.Refused (refusal.Moved block version) tries) → (length (commits_of old) < version) × IsWriter new version block
-outcome-writer pit retries n old new jobs es os ended ran j block version tries at =
-    let found = outcome-moved pit retries n old new jobs es os ended ran j block version tries at in
+outcome-writer pit max_entries retries n old new jobs es os ended ran j block version tries at =
+    let found = outcome-moved pit max_entries retries n old new jobs es os ended ran j block version tries at in
     let after = found.1 in
     let past = found.2.past in
     (omega arith, moved-writer new found.0 block version found.2)

@@ -1,5 +1,5 @@
 -- What becomes of a planner's script.
-use Rattle.std.specs.Prelude.{◌≡◌, ℕ, ◌+◌, ◌≤◌, ◌⊎◌, false, List, [], ◌∷◌, ◌++◌}
+use Rattle.std.specs.Prelude.{◌≡◌, ℕ, ◌+◌, ◌≤◌, ◌⊎◌, false, List, [], ◌∷◌, ◌++◌, length}
 use mathlib.Core.List.{IsPrefix}
 use Rattle.pit_model.specs.Pit.{Pit}
 use Rattle.pit_desk.specs.History.{Answered}
@@ -60,20 +60,20 @@ pub record LeftOff (pit : Pit) (task : Job) (retries n : ℕ) (old new es : List
   pub repeats : Repeats pit task n before old new es
   pub few : before ≤ retries
 
--- the run ended before job n had its outcome
-abbrev pub EndedBefore : ℕ → RunEnd → Type 0
-EndedBefore n end.Whole = ⊥
-EndedBefore n (end.Full job) = job ≡ n
-EndedBefore n (end.NoMemory job) = job ≡ n
-EndedBefore n (end.NoEntry job) = job ≡ n
-EndedBefore n end.NoThread = ⊥
+-- the run ended before job n had its outcome, and where that is since the history is full, the planner has seen so many entries
+abbrev pub EndedBefore : ℕ → List Answered → ℕ → RunEnd → Type 0
+EndedBefore max_entries seen n end.Whole = ⊥
+EndedBefore max_entries seen n (end.Full job) = (job ≡ n) × (max_entries ≤ length seen)
+EndedBefore max_entries seen n (end.NoMemory job) = job ≡ n
+EndedBefore max_entries seen n (end.NoEntry job) = job ≡ n
+EndedBefore max_entries seen n end.NoThread = ⊥
 
 -- the entries of jobs that are numbered from n, one after the other, with their outcomes, and how that ended; and what the planner had seen before
 -- them, and has seen then
-abbrev pub RanFrom : Pit → ℕ → List Answered → List Answered → ℕ → List Job → List Answered → List Outcome → RunEnd → Type 0
-RanFrom pit retries old new n [] es [] ended = (es ≡ []) × (ended ≡ end.Whole) × IsPrefix old new
-RanFrom pit retries old new n [] es (o ∷ os) ended = ⊥
-RanFrom pit retries old new n (task ∷ rest) es [] ended = EndedBefore n ended × LeftOff pit task retries n old new es
-RanFrom pit retries old new n (task ∷ rest) es (o ∷ os) ended =
+abbrev pub RanFrom : Pit → ℕ → ℕ → List Answered → List Answered → ℕ → List Job → List Answered → List Outcome → RunEnd → Type 0
+RanFrom pit max_entries retries old new n [] es [] ended = (es ≡ []) × (ended ≡ end.Whole) × IsPrefix old new
+RanFrom pit max_entries retries old new n [] es (o ∷ os) ended = ⊥
+RanFrom pit max_entries retries old new n (task ∷ rest) es [] ended = EndedBefore max_entries new n ended × LeftOff pit task retries n old new es
+RanFrom pit max_entries retries old new n (task ∷ rest) es (o ∷ os) ended =
     (mid : List Answered) × (mine : List Answered) × (later : List Answered) × (es ≡ mine ++ later)
-    × Ran pit task retries n old mid mine o × RanFrom pit retries mid new (n + 1) rest later os ended
+    × Ran pit task retries n old mid mine o × RanFrom pit max_entries retries mid new (n + 1) rest later os ended

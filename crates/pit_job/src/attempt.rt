@@ -5,7 +5,7 @@ ghost use Rattle.pit_desk.specs.declared.entry.Act.TheVariants.{Commit as commit
 ghost use Rattle.pit_job.specs.Inside.Doing.{IsFresh};
 ghost use Rattle.pit_job.specs.Outcomes.{Grows};
 ghost use Rattle.pit_job.specs.Inside.Runs.{IsJobNumber, job_numbered};
-ghost use Rattle.pit_job.specs.Inside.Outcomes.{Tries, EndsBy, tried_of as tried_by};
+ghost use Rattle.pit_job.specs.Inside.Outcomes.{Tries, EndsBy, stop_of as stop_by, tried_of as tried_by};
 
 use crate::doing::{StepStop, do_steps};
 use crate::gate::Gate;
@@ -36,7 +36,7 @@ pub(crate) fn attempt<
     requires pit { script.now.pit ≡ S.instance }
     requires job { IsJobNumber script.now.jobs n }
     ensures { (es : List Answered) × Grows planner.entry es result.0
-        × Tries S.instance (job_numbered script.now.jobs n) n planner.entry.seen result.0.seen es result.1 }
+        × Tries S.instance S.max_entries (job_numbered script.now.jobs n) n planner.entry.seen result.0.seen es result.1 }
 {
     let number = planner.number();
     match planner.begin(n) {
@@ -66,7 +66,7 @@ fn done<
     requires job { IsJobNumber script.now.jobs n }
     requires fresh { IsFresh n t }
     ensures { (es : List Answered) × Grows t.entry.planner es result.0
-        × Tries S.instance (job_numbered script.now.jobs n) n t.entry.planner.seen result.0.seen es result.1 }
+        × Tries S.instance S.max_entries (job_numbered script.now.jobs n) n t.entry.planner.seen result.0.seen es result.1 }
 {
     let mut t = t;
     let (steps, end) = script.job(n - 1);
@@ -86,7 +86,7 @@ fn withdraw<'a, S: Session, R: Wait + Drop, A: Allocator + Copy + Drop, W: Wait>
     rt: &W,
     t: Transaction<'a, S, R, A>,
 ) -> (Planner<'a, S, R, A>, Tried)
-    ensures { (es : List Answered) × Grows t.entry.planner es result.0 × EndsBy withdraw_act t.entry.work result.0.seen es result.1 }
+    ensures { (es : List Answered) × Grows t.entry.planner es result.0 × EndsBy S.max_entries withdraw_act t.entry.work result.0.seen es result.1 }
 {
     match t.abort(rt) {
         Ok(planner) => (planner, Tried::Answered(EntryReply::Withdrawn)),
@@ -101,7 +101,7 @@ fn commit<'a, S: Session, R: Wait + Drop, A: Allocator + Copy + Drop, W: Wait, G
     n: u32,
     gate: &G,
 ) -> (Planner<'a, S, R, A>, Tried)
-    ensures { (es : List Answered) × Grows t.entry.planner es result.0 × EndsBy commit_act t.entry.work result.0.seen es result.1 }
+    ensures { (es : List Answered) × Grows t.entry.planner es result.0 × EndsBy S.max_entries commit_act t.entry.work result.0.seen es result.1 }
 {
     gate.before_commit(number, n);
     let answer = t.commit(rt);
@@ -112,7 +112,9 @@ fn commit<'a, S: Session, R: Wait + Drop, A: Allocator + Copy + Drop, W: Wait, G
     }
 }
 
-fn stop_of(stop: Stop) -> JobStop {
+fn stop_of(stop: Stop) -> JobStop
+    ensures { result ≡ stop_by stop }
+{
     match stop {
         Stop::Full => JobStop::Full,
         Stop::NoMemory => JobStop::NoMemory,

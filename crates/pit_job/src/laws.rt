@@ -1,5 +1,5 @@
 //! Laws of effects and of runs, each as the contract of a function that does nothing.
-ghost use Rattle.std.specs.Prelude.{◌≡◌, ◌≢◌, ℕ, ◌+◌, ◌<◌, ℤ, List, length, slice_get, Some, All};
+ghost use Rattle.std.specs.Prelude.{◌≡◌, ◌≢◌, ℕ, ◌+◌, ◌<◌, ◌≤◌, ℤ, List, length, slice_get, Some, All};
 ghost use Rattle.pit_model.specs.Pit.{Pit};
 ghost use Rattle.pit_desk.specs.History.{Answered, commit_of, commits_of};
 ghost use Rattle.pit_desk.specs.OneThread.{IsOfOneThread, held_period_after};
@@ -9,6 +9,7 @@ ghost use Rattle.pit_script.specs.Jobs.{Job};
 ghost use Rattle.pit_job.specs.declared.outcome.Outcome.{Outcome};
 ghost use Rattle.pit_job.specs.declared.outcome.Outcome.TheVariants.{Refused};
 ghost use Rattle.pit_job.specs.declared.outcome.RunEnd.{RunEnd};
+ghost use Rattle.pit_job.specs.declared.outcome.RunEnd.TheVariants.{Full};
 ghost use Rattle.pit_job.specs.declared.planner_run.TheConstants.{RETRIES_MAX};
 ghost use Rattle.pit_job.specs.Effect.{Known, Agrees, Effect, effect, changes, unread, whole, HasEffect};
 ghost use Rattle.pit_job.specs.Runs.{RanFrom, Ran};
@@ -30,16 +31,19 @@ pub fn one_by_one()
 {}
 
 /// A law of runs: each job's entries are settled by its outcome, each entry has its own job's effect, and the end says how many jobs have
-/// an outcome. An outcome Moved names a commit that was seen, behind all that had been seen before the run, and that writes the block.
+/// an outcome. An end since the history is full comes only where the planner has seen so many entries. An outcome Moved names a commit that was seen,
+/// behind all that had been seen before the run, and that writes the block.
 pub fn each_job()
-    ensures jobs { (pit : Pit) (retries : ℕ) (old new : List Answered) (jobs : List Job) (es : List Answered) (os : List Outcome) (ended : RunEnd) → RanFrom pit retries old new 1 jobs es os ended
-        → (j : ℕ) (task : Job) (o : Outcome) → slice_get jobs j ≡ Some task → slice_get os j ≡ Some o → Ran pit task retries (1 + j) old new (of_job (1 + j) es) o }
-    ensures effects { (pit : Pit) (retries : ℕ) (old new : List Answered) (jobs : List Job) (es : List Answered) (os : List Outcome) (ended : RunEnd) → RanFrom pit retries old new 1 jobs es os ended
-        → All (λ e. HasOwnEffect pit 1 jobs e) es }
-    ensures ends { (pit : Pit) (retries : ℕ) (old new : List Answered) (jobs : List Job) (es : List Answered) (os : List Outcome) (ended : RunEnd) → RanFrom pit retries old new 1 jobs es os ended
-        → EndsAfter 1 jobs os ended }
-    ensures moved { (pit : Pit) (retries : ℕ) (old new : List Answered) (jobs : List Job) (es : List Answered) (os : List Outcome) (ended : RunEnd) → RanFrom pit retries old new 1 jobs es os ended
-        → (j block version tries : ℕ) → slice_get os j ≡ Some (Refused (Moved block version) tries) → (length (commits_of old) < version) × IsWriter new version block }
+    ensures jobs { (pit : Pit) (max_entries retries : ℕ) (old new : List Answered) (jobs : List Job) (es : List Answered) (os : List Outcome) (ended : RunEnd)
+        → RanFrom pit max_entries retries old new 1 jobs es os ended → (j : ℕ) (task : Job) (o : Outcome) → slice_get jobs j ≡ Some task → slice_get os j ≡ Some o → Ran pit task retries (1 + j) old new (of_job (1 + j) es) o }
+    ensures effects { (pit : Pit) (max_entries retries : ℕ) (old new : List Answered) (jobs : List Job) (es : List Answered) (os : List Outcome) (ended : RunEnd)
+        → RanFrom pit max_entries retries old new 1 jobs es os ended → All (λ e. HasOwnEffect pit 1 jobs e) es }
+    ensures ends { (pit : Pit) (max_entries retries : ℕ) (old new : List Answered) (jobs : List Job) (es : List Answered) (os : List Outcome) (ended : RunEnd)
+        → RanFrom pit max_entries retries old new 1 jobs es os ended → EndsAfter 1 jobs os ended }
+    ensures full { (pit : Pit) (max_entries retries : ℕ) (old new : List Answered) (jobs : List Job) (es : List Answered) (os : List Outcome) (ended : RunEnd)
+        → RanFrom pit max_entries retries old new 1 jobs es os ended → (job : ℕ) → ended ≡ Full job → max_entries ≤ length new }
+    ensures moved { (pit : Pit) (max_entries retries : ℕ) (old new : List Answered) (jobs : List Job) (es : List Answered) (os : List Outcome) (ended : RunEnd)
+        → RanFrom pit max_entries retries old new 1 jobs es os ended → (j block version tries : ℕ) → slice_get os j ≡ Some (Refused (Moved block version) tries) → (length (commits_of old) < version) × IsWriter new version block }
 {}
 
 /// A law of runs, in numbers: a job is tried again at most a thousand times.

@@ -39,7 +39,7 @@ pub fn run_script<
     requires pit { script.now.pit ≡ S.instance }
     requires few { retries ≤ RETRIES_MAX }
     ensures { (es : List Answered) × Grows planner.entry es result.0
-        × RanFrom S.instance retries planner.entry.seen result.0.seen 1 script.now.jobs es result.1.items result.2 }
+        × RanFrom S.instance S.max_entries retries planner.entry.seen result.0.seen 1 script.now.jobs es result.1.items result.2 }
 {
     let mut outcomes = Vec::new(alloc);
     let mut now = planner;
@@ -79,7 +79,7 @@ fn run_job<
     requires job { IsJobNumber script.now.jobs n }
     requires few { retries ≤ RETRIES_MAX }
     ensures { (es : List Answered) × Grows planner.entry es result.0
-        × RanJob S.instance (job_numbered script.now.jobs n) retries n planner.entry.seen result.0.seen es result.1 }
+        × RanJob S.instance S.max_entries (job_numbered script.now.jobs n) retries n planner.entry.seen result.0.seen es result.1 }
 {
     let mut now = planner;
     for before in 0..retries {

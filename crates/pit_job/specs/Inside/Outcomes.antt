@@ -1,10 +1,12 @@
 -- What a try comes to.
-use Rattle.std.specs.Prelude.{◌≡◌, ℕ, false, List, [], ◌∷◌}
+use Rattle.std.specs.Prelude.{◌≡◌, ℕ, ◌≤◌, false, List, [], ◌∷◌, length, ⊤}
 use Rattle.pit_model.specs.Pit.{Pit}
 use Rattle.pit_tx.specs.Sets.{Sets}
 use Rattle.pit_desk.specs.History.{Answered}
 use Rattle.pit_desk.specs.Calls.{work_call}
 use Rattle.pit_desk.specs.declared.entry.Act.{Act}
+use Rattle.pit_desk.specs.declared.error.Stop.{Stop}
+use Rattle.pit_desk.specs.declared.error.Stop.TheVariants as desk_stop
 use Rattle.pit_desk.specs.declared.reply.Refusal.{Refusal}
 use Rattle.pit_desk.specs.declared.reply.Refusal.TheVariants as refusal
 use Rattle.pit_desk.specs.declared.reply.Reply.{Reply}
@@ -12,6 +14,8 @@ use Rattle.pit_desk.specs.declared.reply.Reply.TheVariants as answered
 use Rattle.pit_desk.specs.declared.reply.EntryReply.{EntryReply}
 use Rattle.pit_desk.specs.declared.reply.EntryReply.TheVariants as reply
 use Rattle.pit_script.specs.Jobs.{Job}
+use Rattle.pit_job.specs.declared.outcome.JobStop.{JobStop}
+use Rattle.pit_job.specs.declared.outcome.JobStop.TheVariants as stop
 use Rattle.pit_job.specs.declared.outcome.Tried.{Tried}
 use Rattle.pit_job.specs.declared.outcome.Tried.TheVariants as tried
 use Rattle.pit_job.specs.declared.outcome.Outcome.{Outcome}
@@ -23,20 +27,31 @@ outcome_of (reply.Committed number) tries = outcome.Committed number tries
 outcome_of (reply.Refused why) tries = outcome.Refused why tries
 outcome_of reply.Withdrawn tries = outcome.Withdrawn tries
 
+-- what a stop of the desk is to a job
+abbrev pub stop_of : Stop → JobStop
+stop_of desk_stop.Full = stop.Full
+stop_of desk_stop.NoMemory = stop.NoMemory
+
+-- a try stopped, and where that is since the history is full, its planner has seen so many entries
+abbrev pub IsStop : ℕ → List Answered → JobStop → Type 0
+IsStop max_entries seen stop.Full = max_entries ≤ length seen
+IsStop max_entries seen stop.NoMemory = ⊤
+IsStop max_entries seen stop.NoEntry = ⊤
+
 -- what one try adds to the log
-abbrev pub Tries : Pit → Job → ℕ → List Answered → List Answered → List Answered → Tried → Type 0
-Tries pit task n old new es (tried.Moved block version) = IsMovedTry pit task n old new es block version
-Tries pit task n old new es (tried.Answered answer) =
+abbrev pub Tries : Pit → ℕ → Job → ℕ → List Answered → List Answered → List Answered → Tried → Type 0
+Tries pit max_entries task n old new es (tried.Moved block version) = IsMovedTry pit task n old new es block version
+Tries pit max_entries task n old new es (tried.Answered answer) =
     (e : Answered) × (es ≡ e ∷ []) × IsItem pit task n e × (e.reply ≡ answer) × (is_moved_reply answer ≡ false)
-Tries pit task n old new es (tried.Stopped why) = es ≡ []
+Tries pit max_entries task n old new es (tried.Stopped why) = (es ≡ []) × IsStop max_entries new why
 
 -- what the ending of a transaction with this work adds to the log
-abbrev pub EndsBy : Act → Sets → List Answered → List Answered → Tried → Type 0
-EndsBy ending work seen es (tried.Moved block version) =
+abbrev pub EndsBy : ℕ → Act → Sets → List Answered → List Answered → Tried → Type 0
+EndsBy max_entries ending work seen es (tried.Moved block version) =
     (es ≡ record { call = work_call work ending; reply = reply.Refused (refusal.Moved block version) } ∷ []) × IsMovedBlock seen work.start block version
-EndsBy ending work seen es (tried.Answered answer) =
+EndsBy max_entries ending work seen es (tried.Answered answer) =
     (es ≡ record { call = work_call work ending; reply = answer } ∷ []) × (is_moved_reply answer ≡ false)
-EndsBy ending work seen es (tried.Stopped why) = es ≡ []
+EndsBy max_entries ending work seen es (tried.Stopped why) = (es ≡ []) × IsStop max_entries seen why
 
 abbrev pub tried_refused : Refusal → Tried
 tried_refused (refusal.Ahead start commits) = tried.Answered (reply.Refused (refusal.Ahead start commits))

@@ -7,4 +7,4 @@ use Rattle.pit_job.proofs.planner_run.run_script.Given as goal
 abbrev pub invariant-loop-i : goal.invariant-loop-i
 invariant-loop-i g l =
     (es : List Answered) × Grows l.initial.now es l.now
-    × RanUpTo g.S.Session.instance l.retries l.initial.now.seen l.now.seen l.script.jobs l.i (l.i + 1) es l.outcomes.items
+    × RanUpTo g.S.Session.instance g.S.Session.max_entries l.retries l.initial.now.seen l.now.seen l.script.jobs l.i (l.i + 1) es l.outcomes.items
