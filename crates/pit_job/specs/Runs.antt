@@ -50,7 +50,7 @@ pub record GivenUp (pit : Pit) (task : Job) (retries n : ℕ) (old new es : List
   pub moved : IsMovedTry pit task n mid new last block version
   pub answer : o ≡ outcome.Refused (refusal.Moved block version) (retries + 1)
 
--- the entries of one job, and its outcome, of a planner who had seen the old list before it and has then seen the new one
+-- the entries of one job, and its outcome, of a planner who had seen the old list before it, and has then seen no more than the new one
 abbrev pub Ran : Pit → Job → ℕ → ℕ → List Answered → List Answered → List Answered → Outcome → Type 0
 Ran pit task retries n old new es o = Settled pit task retries n old new es o ⊎ GivenUp pit task retries n old new es o
 
@@ -68,8 +68,8 @@ EndedBefore max_entries seen n (end.NoMemory job) = job ≡ n
 EndedBefore max_entries seen n (end.NoEntry job) = job ≡ n
 EndedBefore max_entries seen n end.NoThread = ⊥
 
--- the entries of jobs that are numbered from n, one after the other, with their outcomes, and how that ended; and what the planner had seen before
--- them, and has seen then
+-- the entries of jobs that are numbered from n, one after the other, with their outcomes, and how that ended, of a planner who had seen the old list
+-- before them, and has then seen no more than the new one
 abbrev pub RanFrom : Pit → ℕ → ℕ → List Answered → List Answered → ℕ → List Job → List Answered → List Outcome → RunEnd → Type 0
 RanFrom pit max_entries retries old new n [] es [] ended = (es ≡ []) × (ended ≡ end.Whole) × IsPrefix old new
 RanFrom pit max_entries retries old new n [] es (o ∷ os) ended = ⊥

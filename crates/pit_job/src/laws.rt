@@ -35,7 +35,8 @@ pub fn one_by_one()
 /// behind all that had been seen before the run, and that writes the block.
 pub fn each_job()
     ensures jobs { (pit : Pit) (max_entries retries : ℕ) (old new : List Answered) (jobs : List Job) (es : List Answered) (os : List Outcome) (ended : RunEnd)
-        → RanFrom pit max_entries retries old new 1 jobs es os ended → (j : ℕ) (task : Job) (o : Outcome) → slice_get jobs j ≡ Some task → slice_get os j ≡ Some o → Ran pit task retries (1 + j) old new (of_job (1 + j) es) o }
+        → RanFrom pit max_entries retries old new 1 jobs es os ended
+        → (j : ℕ) (task : Job) (o : Outcome) → slice_get jobs j ≡ Some task → slice_get os j ≡ Some o → Ran pit task retries (1 + j) old new (of_job (1 + j) es) o }
     ensures effects { (pit : Pit) (max_entries retries : ℕ) (old new : List Answered) (jobs : List Job) (es : List Answered) (os : List Outcome) (ended : RunEnd)
         → RanFrom pit max_entries retries old new 1 jobs es os ended → All (λ e. HasOwnEffect pit 1 jobs e) es }
     ensures ends { (pit : Pit) (max_entries retries : ℕ) (old new : List Answered) (jobs : List Job) (es : List Answered) (os : List Outcome) (ended : RunEnd)
@@ -43,7 +44,8 @@ pub fn each_job()
     ensures full { (pit : Pit) (max_entries retries : ℕ) (old new : List Answered) (jobs : List Job) (es : List Answered) (os : List Outcome) (ended : RunEnd)
         → RanFrom pit max_entries retries old new 1 jobs es os ended → (job : ℕ) → ended ≡ Full job → max_entries ≤ length new }
     ensures moved { (pit : Pit) (max_entries retries : ℕ) (old new : List Answered) (jobs : List Job) (es : List Answered) (os : List Outcome) (ended : RunEnd)
-        → RanFrom pit max_entries retries old new 1 jobs es os ended → (j block version tries : ℕ) → slice_get os j ≡ Some (Refused (Moved block version) tries) → (length (commits_of old) < version) × IsWriter new version block }
+        → RanFrom pit max_entries retries old new 1 jobs es os ended
+        → (j block version tries : ℕ) → slice_get os j ≡ Some (Refused (Moved block version) tries) → (length (commits_of old) < version) × IsWriter new version block }
 {}
 
 /// A law of runs, in numbers: a job is tried again at most a thousand times.

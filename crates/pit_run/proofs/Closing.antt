@@ -2,7 +2,7 @@
 use Rattle.std.proofs.lemmas.List.Elements.{All-nil, All-cons, All-head, All-tail}
 use Rattle.std.proofs.lemmas.Option.{slice_get_within, slice_get-get_or, get_or_from_slice_get}
 use Rattle.std.proofs.lemmas.Bool.Decides.{nat_tests}
-use Rattle.std.proofs.Common.{◌≡◌, ℕ, zero, suc, ◌+◌, ◌==◌, Bool, true, false, List, [], ◌∷◌, length, get_or, drop, add-zero, zero-add, refl, sym, ap, subst, ◌∙◌, arith, inl, inr}
+use Rattle.std.proofs.Common.{◌≡◌, ℕ, zero, suc, ◌+◌, ◌<◌, ◌==◌, Bool, true, false, List, [], ◌∷◌, length, get_or, drop, add-zero, zero-add, refl, sym, ap, subst, ◌∙◌, arith, inl, inr}
 use Rattle.std.specs.Prelude.{All, Some, slice_get, if◌then◌else◌, ◌⊎◌}
 use Rattle.pit_model.specs.Pit.{Pit}
 use Rattle.pit_plan.specs.Schedule.{Commit, earned_in, held_period, value_of}
@@ -15,9 +15,13 @@ use Rattle.pit_desk.specs.OneThread.{IsOfOneThread}
 use Rattle.pit_script.specs.Jobs.{Job}
 use Rattle.pit_share.specs.Logs.{entries_of, IsPlanner}
 use Rattle.pit_job.proofs.CallerLemmas.{committed-effect}
+use Rattle.pit_desk.specs.declared.reply.Refusal.TheVariants as refusal
+use Rattle.pit_job.specs.declared.outcome.Outcome.{Outcome}
+use Rattle.pit_job.specs.declared.outcome.Outcome.TheVariants as outcome
+use Rattle.pit_job.specs.declared.outcome.RunEnd.TheVariants as end
 use Rattle.pit_job.specs.Runs.{RanFrom}
-use Rattle.pit_job.specs.JobByJob.{HasOwnEffect}
-use Rattle.pit_job.proofs.CallerLemmas.{own-effects}
+use Rattle.pit_job.specs.JobByJob.{HasOwnEffect, IsWriter}
+use Rattle.pit_job.proofs.CallerLemmas.{own-effects, outcome-writer, ends-full}
 use Rattle.pit_run.specs.Reports.{RunState, RanScript, NotStarted, AllDid, IsReport}
 use Rattle.pit_run.specs.Laws.{IsOneByOne}
 
@@ -38,29 +42,30 @@ past-at (x ∷ xs) (suc m) i = past-at xs m i ∙ ap (slice_get (x ∷ xs)) (suc
     suc-add : (a b : ℕ) → suc (a + b) ≡ suc a + b
     suc-add a b = omega arith
 
-did-at : (pit : Pit) (retries : ℕ) (opening : List Answered) (k : ℕ) (past : List Answered) (ss : List (List Job)) (rs : List RunState) → AllDid pit retries opening k past ss rs → (p : ℕ) (s : List Job) → slice_get ss p ≡ Some s
-    → (r : RunState) × (slice_get rs p ≡ Some r) × (seen : List Answered) × RanScript pit retries opening seen s (k + p) (entries_of (k + p) past) r
-did-at pit retries opening k past [] rs all p s at = absurd (cc at)
-did-at pit retries opening k past (x ∷ ss) [] all p s at = absurd all
-did-at pit retries opening k past (x ∷ ss) (r ∷ rs) (seen, first, rest) zero s at =
+did-at : (pit : Pit) (max_entries retries : ℕ) (opening history : List Answered) (k : ℕ) (ss : List (List Job)) (rs : List RunState) → AllDid pit max_entries retries opening history k ss rs
+    → (p : ℕ) (s : List Job) → slice_get ss p ≡ Some s
+    → (r : RunState) × (slice_get rs p ≡ Some r) × RanScript pit max_entries retries opening history s (k + p) (entries_of (k + p) (drop (length opening) history)) r
+did-at pit max_entries retries opening history k [] rs all p s at = absurd (cc at)
+did-at pit max_entries retries opening history k (x ∷ ss) [] all p s at = absurd all
+did-at pit max_entries retries opening history k (x ∷ ss) (r ∷ rs) (first, rest) zero s at =
     let a : x ≡ s = cc at in
-    (r, refl, seen, rw (add-zero, ← a) first)
-did-at pit retries opening k past (x ∷ ss) (r ∷ rs) (seen, first, rest) (suc p) s at =
+    (r, refl, rw (add-zero, ← a) first)
+did-at pit max_entries retries opening history k (x ∷ ss) (r ∷ rs) (first, rest) (suc p) s at =
     let number : (k + 1) + p ≡ k + suc p = omega arith in
-    let d = did-at pit retries opening (k + 1) past ss rs rest p s at in
-    (d.0, d.1, d.2, subst (λ (n : ℕ). RanScript pit retries opening d.2 s n (entries_of n past) d.0) number d.3)
+    let d = did-at pit max_entries retries opening history (k + 1) ss rs rest p s at in
+    (d.0, d.1, subst (λ (n : ℕ). RanScript pit max_entries retries opening history s n (entries_of n (drop (length opening) history)) d.0) number d.2)
 
 pub each-planner : (pit : Pit) (opening : List Answered) (max_entries retries : ℕ) (scripts : List (List Job)) (desk : State) (runs : List RunState) → IsReport pit opening max_entries retries scripts desk runs
     → (p : ℕ) (script : List Job) → slice_get scripts p ≡ Some script
     → (run : RunState) × (slice_get runs p ≡ Some run)
-    × (seen : List Answered) × RanScript pit retries opening seen script (1 + p) (entries_of (1 + p) (drop (length opening) desk.history)) run
-each-planner pit opening max_entries retries scripts desk runs report p script at = did-at pit retries opening 1 (drop (length opening) desk.history) scripts runs report.did p script at
+    × RanScript pit max_entries retries opening desk.history script (1 + p) (entries_of (1 + p) (drop (length opening) desk.history)) run
+each-planner pit opening max_entries retries scripts desk runs report p script at = did-at pit max_entries retries opening desk.history 1 scripts runs report.did p script at
 
-script-effects : (pit : Pit) (retries k : ℕ) (old new : List Answered) (s : List Job) (es : List Answered) (r : RunState) → RanScript pit retries old new s k es r → All (λ e. HasOwnEffect pit 1 s e) es
-script-effects pit retries k old new s es r ran = by ran.ran
+script-effects : (pit : Pit) (max_entries retries k : ℕ) (old new : List Answered) (s : List Job) (es : List Answered) (r : RunState) → RanScript pit max_entries retries old new s k es r → All (λ e. HasOwnEffect pit 1 s e) es
+script-effects pit max_entries retries k old new s es r ran = by ran.ran
   where
-    by : (RanFrom pit retries old new 1 s es r.jobs r.ended ⊎ NotStarted es r) → All (λ e. HasOwnEffect pit 1 s e) es
-    by (inl h) = own-effects pit retries 1 old new s es r.jobs r.ended h
+    by : (RanFrom pit max_entries retries old new 1 s es r.jobs r.ended ⊎ NotStarted es r) → All (λ e. HasOwnEffect pit 1 s e) es
+    by (inl h) = own-effects pit max_entries retries 1 old new s es r.jobs r.ended h
     by (inr n) = subst (All (λ e. HasOwnEffect pit 1 s e)) (sym n.none) (All-nil (λ e. HasOwnEffect pit 1 s e))
 
 -- a history that a desk keeps is one of one thread
@@ -95,8 +100,8 @@ one-by-one pit opening max_entries retries scripts desk runs report = record {
       let its = its-script scripts e.call.planner one in
       let p = its.0 in
       let script = its.1 in
-      let d = did-at pit retries opening 1 past scripts runs report.did p script its.3 in
-      let own = all-mine (λ e. HasOwnEffect pit 1 script e) (1 + p) past (script-effects pit retries (1 + p) opening d.2 script (entries_of (1 + p) past) d.0 d.3) in
+      let d = did-at pit max_entries retries opening desk.history 1 scripts runs report.did p script its.3 in
+      let own = all-mine (λ e. HasOwnEffect pit 1 script e) (1 + p) past (script-effects pit max_entries retries (1 + p) opening desk.history script (entries_of (1 + p) past) d.0 d.2) in
       let has = subst (λ (x : Answered). x.call.planner ≡ 1 + p → HasOwnEffect pit 1 script x) read (own i e below) its.2 in
       record {
         place = p;
@@ -113,3 +118,39 @@ one-by-one pit opening max_entries retries scripts desk runs report = record {
         };
       };
 }
+
+-- ---- what a run tells of the history
+
+did-run : (pit : Pit) (max_entries retries : ℕ) (opening history : List Answered) (k : ℕ) (ss : List (List Job)) (rs : List RunState) → AllDid pit max_entries retries opening history k ss rs
+    → (p : ℕ) (r : RunState) → slice_get rs p ≡ Some r → (s : List Job) × (es : List Answered) × (RanFrom pit max_entries retries opening history 1 s es r.jobs r.ended ⊎ NotStarted es r)
+did-run pit max_entries retries opening history k [] [] all p r at = absurd (cc at)
+did-run pit max_entries retries opening history k [] (x ∷ rs) all p r at = absurd all
+did-run pit max_entries retries opening history k (s ∷ ss) [] all p r at = absurd all
+did-run pit max_entries retries opening history k (s ∷ ss) (x ∷ rs) (first, rest) zero r at =
+    let a : x ≡ r = cc at in
+    let es = entries_of k (drop (length opening) history) in
+    (s, es, subst (λ (y : RunState). RanFrom pit max_entries retries opening history 1 s es y.jobs y.ended ⊎ NotStarted es y) a first.ran)
+did-run pit max_entries retries opening history k (s ∷ ss) (x ∷ rs) (first, rest) (suc p) r at = did-run pit max_entries retries opening history (k + 1) ss rs rest p r at
+
+-- the pair of an outcome Moved is a commit's past the opening
+pub moved-writes : (pit : Pit) (opening : List Answered) (max_entries retries : ℕ) (scripts : List (List Job)) (desk : State) (runs : List RunState) → IsReport pit opening max_entries retries scripts desk runs
+    → (p j block version tries : ℕ) (run : RunState) → slice_get runs p ≡ Some run → slice_get run.jobs j ≡ Some (outcome.Refused (refusal.Moved block version) tries)
+    → (length (commits_of opening) < version) × IsWriter desk.history version block
+moved-writes pit opening max_entries retries scripts desk runs report p j block version tries run at is =
+    let found = did-run pit max_entries retries opening desk.history 1 scripts runs report.did p run at in
+    elim found.2 [
+      | inl ran ↦ outcome-writer pit max_entries retries 1 opening desk.history found.0 found.1 run.jobs run.ended ran j block version tries is
+      | inr without ↦ let none = without.jobs in absurd (cc (is, ap (λ (os : List Outcome). slice_get os j) none))
+    ]
+
+-- an end since the history is full is told of a full one
+pub full-is : (pit : Pit) (opening : List Answered) (max_entries retries : ℕ) (scripts : List (List Job)) (desk : State) (runs : List RunState) → IsReport pit opening max_entries retries scripts desk runs
+    → (p job : ℕ) (run : RunState) → slice_get runs p ≡ Some run → run.ended ≡ end.Full job → length desk.history ≡ max_entries
+full-is pit opening max_entries retries scripts desk runs report p job run at is =
+    let found = did-run pit max_entries retries opening desk.history 1 scripts runs report.did p run at in
+    elim found.2 [
+      | inl ran ↦
+          let full = ends-full pit max_entries retries 1 opening desk.history found.0 found.1 run.jobs run.ended ran job is in
+          omega (arith, full, report.closed.kept.few, report.closed.goes_on.limit)
+      | inr without ↦ let never = without.ended in absurd (cc (is, never))
+    ]

@@ -25,9 +25,10 @@ use Rattle.pit_job.specs.Runs.{RanFrom}
 use Rattle.pit_job.specs.declared.outcome.Outcome.{Outcome}
 use Rattle.pit_job.specs.declared.outcome.RunEnd.{RunEnd}
 use Rattle.pit_job.specs.declared.outcome.RunEnd.TheVariants as end
-use Rattle.pit_job.proofs.CallerLemmas.{all-from}
+use Rattle.pit_job.proofs.CallerLemmas.{all-from, all-on}
 use Rattle.pit_run.specs.Reports.{RunState, RanScript, AllDid, IsReport}
 use Rattle.pit_run.specs.Turns.{entries_by_planner, TookTurn, DidInTurn, IsTurnUnclosed, IsInTurnError}
+use Rattle.pit_run.proofs.Threading.{script-on}
 use Rattle.pit_run.proofs.ByPlanner.{IsOf, IsUpTo, entries_of-own, none-of, by_planner-up_to, entries_of-earlier, entries_of-last, by_planner-next, get-front}
 use Rattle.pit_run.specs.Inside.Turns.{IsTurn, IsUnclosedTurn, IsTurnError}
 use Rattle.pit_run.specs.declared.report.InTurnError.{InTurnError}
@@ -35,34 +36,43 @@ use Rattle.pit_run.specs.declared.report.InTurnError.TheVariants as error
 
 -- ---- one planner more
 
-ran-not-without : (pit : Pit) (retries n : ℕ) (old new : List Answered) (script : List Job) (es : List Answered) (jobs : List Outcome) (ended : RunEnd) → RanFrom pit retries old new n script es jobs ended → ended ≢ end.NoThread
-ran-not-without pit retries n old new [] es [] ended ran without = absurd (cc (ran.1, without))
-ran-not-without pit retries n old new [] es (o ∷ os) ended ran without = absurd ran
-ran-not-without pit retries n old new (task ∷ rest) es [] end.NoThread ran without = absurd ran.0
-ran-not-without pit retries n old new (task ∷ rest) es [] end.Whole ran without = absurd ran.0
-ran-not-without pit retries n old new (task ∷ rest) es [] (end.Full job) ran without = absurd (cc without)
-ran-not-without pit retries n old new (task ∷ rest) es [] (end.NoMemory job) ran without = absurd (cc without)
-ran-not-without pit retries n old new (task ∷ rest) es [] (end.NoEntry job) ran without = absurd (cc without)
-ran-not-without pit retries n old new (task ∷ rest) es (o ∷ os) ended ran without = ran-not-without pit retries (n + 1) ran.0 new rest ran.2 os ended ran.5 without
+ran-not-without : (pit : Pit) (max_entries retries n : ℕ) (old new : List Answered) (script : List Job) (es : List Answered) (jobs : List Outcome) (ended : RunEnd) → RanFrom pit max_entries retries old new n script es jobs ended → ended ≢ end.NoThread
+ran-not-without pit max_entries retries n old new [] es [] ended ran without = absurd (cc (ran.1, without))
+ran-not-without pit max_entries retries n old new [] es (o ∷ os) ended ran without = absurd ran
+ran-not-without pit max_entries retries n old new (task ∷ rest) es [] end.NoThread ran without = absurd ran.0
+ran-not-without pit max_entries retries n old new (task ∷ rest) es [] end.Whole ran without = absurd ran.0
+ran-not-without pit max_entries retries n old new (task ∷ rest) es [] (end.Full job) ran without = absurd (cc without)
+ran-not-without pit max_entries retries n old new (task ∷ rest) es [] (end.NoMemory job) ran without = absurd (cc without)
+ran-not-without pit max_entries retries n old new (task ∷ rest) es [] (end.NoEntry job) ran without = absurd (cc without)
+ran-not-without pit max_entries retries n old new (task ∷ rest) es (o ∷ os) ended ran without = ran-not-without pit max_entries retries (n + 1) ran.0 new rest ran.2 os ended ran.5 without
 
 -- entries of a later planner leave what the earlier ones did
-did-earlier : (pit : Pit) (retries : ℕ) (opening : List Answered) (n k : ℕ) (past own : List Answered) (scripts : List (List Job)) (runs : List RunState) → n + length scripts ≤ suc k → All (IsOf (suc k)) own
-    → AllDid pit retries opening n past scripts runs → AllDid pit retries opening n (past ++ own) scripts runs
-did-earlier pit retries opening n k past own [] [] early all did = tt
-did-earlier pit retries opening n k past own [] (run ∷ runs) early all did = absurd did
-did-earlier pit retries opening n k past own (script ∷ scripts) [] early all did = absurd did
-did-earlier pit retries opening n k past own (script ∷ scripts) (run ∷ runs) early all (seen, first, rest) =
-    let same = entries_of-earlier n k past own (omega (arith, early)) all in
-    (seen, subst (λ (es : List Answered). RanScript pit retries opening seen script n es run) (sym same) first, did-earlier pit retries opening (n + 1) k past own scripts runs (omega (arith, early)) all rest)
+did-earlier : (pit : Pit) (max_entries retries : ℕ) (opening history more own : List Answered) (n k : ℕ) (scripts : List (List Job)) (runs : List RunState)
+    → n + length scripts ≤ suc k → All (IsOf (suc k)) own → drop (length opening) more ≡ drop (length opening) history ++ own → IsPrefix history more
+    → AllDid pit max_entries retries opening history n scripts runs → AllDid pit max_entries retries opening more n scripts runs
+did-earlier pit max_entries retries opening history more own n k [] [] early all is on did = tt
+did-earlier pit max_entries retries opening history more own n k [] (run ∷ runs) early all is on did = absurd did
+did-earlier pit max_entries retries opening history more own n k (script ∷ scripts) [] early all is on did = absurd did
+did-earlier pit max_entries retries opening history more own n k (script ∷ scripts) (run ∷ runs) early all is on (first, rest) =
+    let past = drop (length opening) history in
+    let same = ap (entries_of n) is ∙ entries_of-earlier n k past own (omega (arith, early)) all in
+    let here = script-on pit max_entries retries n opening history more script (entries_of n past) run on first in (
+      subst (λ (es : List Answered). RanScript pit max_entries retries opening more script n es run) (sym same) here,
+      did-earlier pit max_entries retries opening history more own (n + 1) k scripts runs (omega (arith, early)) all is on rest,
+    )
 
-did-more : (pit : Pit) (retries : ℕ) (opening now : List Answered) (n : ℕ) (past : List Answered) (scripts : List (List Job)) (runs : List RunState) (script : List Job) (run : RunState) → AllDid pit retries opening n past scripts runs
-    → RanScript pit retries opening now script (n + length scripts) (entries_of (n + length scripts) past) run → AllDid pit retries opening n past (scripts ++ script ∷ []) (runs ++ run ∷ [])
-did-more pit retries opening now n past [] [] script run did last = (now, subst (λ (m : ℕ). RanScript pit retries opening now script m (entries_of m past) run) (add-zero n) last, tt)
-did-more pit retries opening now n past [] (x ∷ runs) script run did last = absurd did
-did-more pit retries opening now n past (x ∷ scripts) [] script run did last = absurd did
-did-more pit retries opening now n past (x ∷ scripts) (y ∷ runs) script run (seen, first, rest) last =
+did-more : (pit : Pit) (max_entries retries : ℕ) (opening history : List Answered) (n : ℕ) (scripts : List (List Job)) (runs : List RunState) (script : List Job) (run : RunState)
+    → AllDid pit max_entries retries opening history n scripts runs
+    → RanScript pit max_entries retries opening history script (n + length scripts) (entries_of (n + length scripts) (drop (length opening) history)) run
+    → AllDid pit max_entries retries opening history n (scripts ++ script ∷ []) (runs ++ run ∷ [])
+did-more pit max_entries retries opening history n [] [] script run did last =
+    (subst (λ (m : ℕ). RanScript pit max_entries retries opening history script m (entries_of m (drop (length opening) history)) run) (add-zero n) last, tt)
+did-more pit max_entries retries opening history n [] (x ∷ runs) script run did last = absurd did
+did-more pit max_entries retries opening history n (x ∷ scripts) [] script run did last = absurd did
+did-more pit max_entries retries opening history n (x ∷ scripts) (y ∷ runs) script run (first, rest) last =
     let same : n + length (x ∷ scripts) ≡ (n + 1) + length scripts = omega arith in
-    (seen, first, did-more pit retries opening now (n + 1) past scripts runs script run rest (subst (λ (m : ℕ). RanScript pit retries opening now script m (entries_of m past) run) same last))
+    let there = subst (λ (m : ℕ). RanScript pit max_entries retries opening history script m (entries_of m (drop (length opening) history)) run) same last in
+    (first, did-more pit max_entries retries opening history (n + 1) scripts runs script run rest there)
 
 -- ---- a history that goes on from one that goes on
 
@@ -149,7 +159,7 @@ has-log q (x ∷ logs) has = by (x.number == q) refl has (has-log q logs)
 
 -- only the planner whose turn it was has entries
 turn-own : (pit : Pit) (opening : List Answered) (max_entries planners retries planner : ℕ) (script : List Job) (desk : State) (run : RunState) (logs : List PlannerState)
-    → IsClosed pit opening max_entries planners logs desk → TookTurn pit retries opening script planner logs run → All (IsOf planner) (drop (length opening) desk.history)
+    → IsClosed pit opening max_entries planners logs desk → TookTurn pit max_entries retries opening script planner logs run → All (IsOf planner) (drop (length opening) desk.history)
 turn-own pit opening max_entries planners retries planner script desk run logs closed took i e less =
     let past = drop (length opening) desk.history in
     let q = (get_or past i e).call.planner in
@@ -174,13 +184,13 @@ turn-own pit opening max_entries planners retries planner script desk run logs c
 
 -- and those are its script's
 turn-ran : (pit : Pit) (opening : List Answered) (max_entries planners retries planner : ℕ) (script : List Job) (desk : State) (run : RunState) (turn : IsTurn pit opening max_entries planners retries planner script desk run)
-    → IsPlanner planners planner → RanFrom pit retries opening turn.took.log.seen 1 script (drop (length opening) desk.history) run.jobs run.ended
+    → IsPlanner planners planner → RanFrom pit max_entries retries opening turn.took.log.seen 1 script (drop (length opening) desk.history) run.jobs run.ended
 turn-ran pit opening max_entries planners retries planner script desk run turn one =
     let past = drop (length opening) desk.history in
     let took = turn.took in
     let own = turn-own pit opening max_entries planners retries planner script desk run turn.logs turn.closed took in
     let logged : entries_of planner past ≡ took.log.items = (turn.closed.logged.each planner one).each took.log took.among took.did.of_log in
-    subst (λ (es : List Answered). RanFrom pit retries opening took.log.seen 1 script es run.jobs run.ended) (sym logged ∙ entries_of-own planner past own) took.did.ran
+    subst (λ (es : List Answered). RanFrom pit max_entries retries opening took.log.seen 1 script es run.jobs run.ended) (sym logged ∙ entries_of-own planner past own) took.did.ran
 
 -- ---- turn after turn
 
@@ -202,18 +212,23 @@ in-turn-next pit opening max_entries retries planners done desk runs script next
     let own = drop (length desk.history) next.history in
     let all : All (IsOf (suc k)) own = turn-own pit desk.history max_entries planners retries (suc k) script next run turn.logs turn.closed turn.took in
     let seen = turn.took.log.seen in
-    let ran : RanFrom pit retries desk.history seen 1 script own run.jobs run.ended = turn-ran pit desk.history max_entries planners retries (suc k) script next run turn (omega arith, omega (arith, less)) in
+    let ran : RanFrom pit max_entries retries desk.history seen 1 script own run.jobs run.ended = turn-ran pit desk.history max_entries planners retries (suc k) script next run turn (omega arith, omega (arith, less)) in
     let on = goes-on-on pit opening max_entries planners desk next so_far.goes_on turn.closed.goes_on in
     let parts = past-on opening desk.history next.history so_far.goes_on.begins turn.closed.goes_on.begins in
     let turns : past ≡ entries_by_planner k past = ap (drop (length opening)) so_far.in_turn.turns ∙ rest-is opening (entries_by_planner k past) in
     let few : All (IsUpTo k) past = subst (All (IsUpTo k)) (sym turns) (by_planner-up_to k past) in
     let mine : own ≡ entries_of (suc k) (past ++ own) = sym (entries_of-last k past own few all) in
     let number : suc k ≡ 1 + k = omega arith in
-    let begun = all-from pit retries 1 opening desk.history seen script own run.jobs run.ended (begins-prefix opening desk.history so_far.goes_on.begins) ran in
-    let last : RanScript pit retries opening seen script (suc k) (entries_of (suc k) (past ++ own)) run =
-    record { number = turn.took.did.of_run; ran = inl (subst (λ (es : List Answered). RanFrom pit retries opening seen 1 script es run.jobs run.ended) mine begun) } in
-    let before = did-earlier pit retries opening 1 k past own done runs (omega arith) all so_far.did in
-    let more = did-more pit retries opening seen 1 (past ++ own) done runs script run before (subst (λ (n : ℕ). RanScript pit retries opening seen script n (entries_of n (past ++ own)) run) number last) in
+    let begins = begins-prefix desk.history next.history turn.closed.goes_on.begins in
+    let shown = All-contains (λ log. IsPrefix log.seen next.history) turn.logs turn.took.log turn.closed.seen turn.took.among in
+    let begun = all-from pit max_entries retries 1 opening desk.history seen script own run.jobs run.ended (begins-prefix opening desk.history so_far.goes_on.begins) ran in
+    let whole = all-on pit max_entries retries 1 opening seen next.history script own run.jobs run.ended shown begun in
+    let there = mine ∙ ap (entries_of (suc k)) (sym on.1) in
+    let last : RanScript pit max_entries retries opening next.history script (suc k) (entries_of (suc k) (drop (length opening) next.history)) run =
+    record { number = turn.took.did.of_run; ran = inl (subst (λ (es : List Answered). RanFrom pit max_entries retries opening next.history 1 script es run.jobs run.ended) there whole) } in
+    let before = did-earlier pit max_entries retries opening desk.history next.history own 1 k done runs (omega arith) all on.1 begins so_far.did in
+    let more = did-more pit max_entries retries opening next.history 1 done runs script run before
+    (subst (λ (n : ℕ). RanScript pit max_entries retries opening next.history script n (entries_of n (drop (length opening) next.history)) run) number last) in
     let many : suc k ≡ length (done ++ script ∷ []) = omega (arith, length-append done (script ∷ [])) in
     let by_planner : past ++ own ≡ entries_by_planner (suc k) (past ++ own) = by_planner-next k past own turns all in
     let in_order : drop (length opening) next.history ≡ entries_by_planner (length (done ++ script ∷ [])) (drop (length opening) next.history) =
@@ -222,8 +237,8 @@ in-turn-next pit opening max_entries retries planners done desk runs script next
     record {
       kept = turn.closed.kept;
       goes_on = on.0;
-      did = subst (λ (es : List Answered). AllDid pit retries opening 1 es (done ++ script ∷ []) (runs ++ run ∷ [])) (sym on.1) more;
-      started = All-push (λ run. run.ended ≢ end.NoThread) runs run so_far.started (ran-not-without pit retries 1 desk.history seen script own run.jobs run.ended ran);
+      did = more;
+      started = All-push (λ run. run.ended ≢ end.NoThread) runs run so_far.started (ran-not-without pit max_entries retries 1 desk.history seen script own run.jobs run.ended ran);
       in_turn = record { turns = parts.0 ∙ ap (λ (es : List Answered). opening ++ es) (sym on.1 ∙ in_order) };
     }
 
@@ -374,6 +389,11 @@ logs_of-logged zero past = All-nil (λ log. entries_of log.number past ≡ log.i
 logs_of-logged (suc k) past =
     All-cons (λ log. entries_of log.number past ≡ log.items) (planner_of (suc k) (entries_of (suc k) past) []) (logs_of k past) refl (logs_of-logged k past)
 
+logs_of-seen : (k : ℕ) (past history : List Answered) → All (λ log. IsPrefix log.seen history) (logs_of k past)
+logs_of-seen zero past history = All-nil (λ log. IsPrefix log.seen history)
+logs_of-seen (suc k) past history =
+    All-cons (λ log. IsPrefix log.seen history) (planner_of (suc k) (entries_of (suc k) past) []) (logs_of k past) (history, refl) (logs_of-seen k past history)
+
 pub in-turn-report : (pit : Pit) (opening : List Answered) (max_entries retries : ℕ) (scripts : List (List Job)) (desk : State) (runs : List RunState)
     → DidInTurn pit opening max_entries retries (length scripts) scripts desk runs → IsReport pit opening max_entries retries scripts desk runs
 in-turn-report pit opening max_entries retries scripts desk runs all =
@@ -387,6 +407,7 @@ in-turn-report pit opening max_entries retries scripts desk runs all =
         goes_on = all.goes_on;
         count = omega (arith, many, logs_of-count n past);
         whole = record { each = logs_of-each n past };
+        seen = logs_of-seen n past desk.history;
         logged = record {
           each = λ q one. record {
             each = λ log among same.

@@ -26,44 +26,44 @@ pub record NotStarted (es : List Answered) (run : RunState) : Type 0 where
   pub jobs : run.jobs ≡ []
   pub none : es ≡ []
 
--- a planner who had seen the old list did its script, with these entries, and had then seen the new one
-pub record RanScript (pit : Pit) (retries : ℕ) (old new : List Answered) (script : List Job) (planner : ℕ) (es : List Answered) (run : RunState) : Type 0 where
+-- a planner who had seen the old list did its script, with these entries, and has then seen no more than the new one
+pub record RanScript (pit : Pit) (max_entries retries : ℕ) (old new : List Answered) (script : List Job) (planner : ℕ) (es : List Answered) (run : RunState) : Type 0 where
   pub number : run.planner ≡ planner
-  pub ran : RanFrom pit retries old new 1 script es run.jobs run.ended ⊎ NotStarted es run
+  pub ran : RanFrom pit max_entries retries old new 1 script es run.jobs run.ended ⊎ NotStarted es run
 
 -- and handed in this log, which tells what it has then seen
-pub record PlannerRan (pit : Pit) (retries : ℕ) (opening : List Answered) (script : List Job) (planner : ℕ) (log : PlannerState) (run : RunState) : Type 0 where
+pub record PlannerRan (pit : Pit) (max_entries retries : ℕ) (opening : List Answered) (script : List Job) (planner : ℕ) (log : PlannerState) (run : RunState) : Type 0 where
   pub number : log.number ≡ planner
-  pub script_ran : RanScript pit retries opening log.seen script planner log.items run
+  pub script_ran : RanScript pit max_entries retries opening log.seen script planner log.items run
 
 -- each of the planners from this one on
-abbrev pub AllRan : Pit → ℕ → List Answered → ℕ → List (List Job) → List PlannerState → List RunState → Type 0
-AllRan pit retries opening planner [] [] [] = Unit {0}
-AllRan pit retries opening planner [] [] (run ∷ runs) = ⊥
-AllRan pit retries opening planner [] (log ∷ logs) runs = ⊥
-AllRan pit retries opening planner (script ∷ scripts) [] runs = ⊥
-AllRan pit retries opening planner (script ∷ scripts) (log ∷ logs) [] = ⊥
-AllRan pit retries opening planner (script ∷ scripts) (log ∷ logs) (run ∷ runs) = PlannerRan pit retries opening script planner log run × AllRan pit retries opening (planner + 1) scripts logs runs
+abbrev pub AllRan : Pit → ℕ → ℕ → List Answered → ℕ → List (List Job) → List PlannerState → List RunState → Type 0
+AllRan pit max_entries retries opening planner [] [] [] = Unit {0}
+AllRan pit max_entries retries opening planner [] [] (run ∷ runs) = ⊥
+AllRan pit max_entries retries opening planner [] (log ∷ logs) runs = ⊥
+AllRan pit max_entries retries opening planner (script ∷ scripts) [] runs = ⊥
+AllRan pit max_entries retries opening planner (script ∷ scripts) (log ∷ logs) [] = ⊥
+AllRan pit max_entries retries opening planner (script ∷ scripts) (log ∷ logs) (run ∷ runs) = PlannerRan pit max_entries retries opening script planner log run × AllRan pit max_entries retries opening (planner + 1) scripts logs runs
 
--- each planner from this one on did its script, with its own of these entries
-abbrev pub AllDid : Pit → ℕ → List Answered → ℕ → List Answered → List (List Job) → List RunState → Type 0
-AllDid pit retries opening planner past [] [] = Unit {0}
-AllDid pit retries opening planner past [] (run ∷ runs) = ⊥
-AllDid pit retries opening planner past (script ∷ scripts) [] = ⊥
-AllDid pit retries opening planner past (script ∷ scripts) (run ∷ runs) =
-    (seen : List Answered) × RanScript pit retries opening seen script planner (entries_of planner past) run
-    × AllDid pit retries opening (planner + 1) past scripts runs
+-- each planner from this one on did its script, with its own of the entries past the opening ones, and has seen no more than the history
+abbrev pub AllDid : Pit → ℕ → ℕ → List Answered → List Answered → ℕ → List (List Job) → List RunState → Type 0
+AllDid pit max_entries retries opening history planner [] [] = Unit {0}
+AllDid pit max_entries retries opening history planner [] (run ∷ runs) = ⊥
+AllDid pit max_entries retries opening history planner (script ∷ scripts) [] = ⊥
+AllDid pit max_entries retries opening history planner (script ∷ scripts) (run ∷ runs) =
+    RanScript pit max_entries retries opening history script planner (entries_of planner (drop (length opening) history)) run
+    × AllDid pit max_entries retries opening history (planner + 1) scripts runs
 
 -- the workspace was closed by logs, so no entry past the opening ones is another's, and each planner did its script, with its own of those entries
 pub record IsReport (pit : Pit) (opening : List Answered) (max_entries retries : ℕ) (scripts : List (List Job)) (desk : State) (runs : List RunState) : Type 0 where
   pub logs : List PlannerState
   pub closed : IsClosed pit opening max_entries (length scripts) logs desk
-  pub did : AllDid pit retries opening 1 (drop (length opening) desk.history) scripts runs
+  pub did : AllDid pit max_entries retries opening desk.history 1 scripts runs
 
 -- each planner did its script, and the workspace was not closed by their logs
 pub record IsUnclosed (pit : Pit) (opening : List Answered) (max_entries retries : ℕ) (scripts : List (List Job)) (logs : List PlannerState) (cause : CloseError) : Type 0 where
   pub runs : List RunState
-  pub ran : AllRan pit retries opening 1 scripts logs runs
+  pub ran : AllRan pit max_entries retries opening 1 scripts logs runs
   pub refused : IsCloseError pit opening max_entries (length scripts) logs cause
 
 -- what is handed back where there is no report: the seats as they were, or the logs of planners who have ended

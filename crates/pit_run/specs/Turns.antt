@@ -30,23 +30,23 @@ abbrev pub AllStarted : List RunState → Type 0
 AllStarted runs = All (λ run. run.ended ≢ end.NoThread) runs
 
 -- a planner did its script, and handed in this log
-pub record DidScript (pit : Pit) (retries : ℕ) (opening : List Answered) (script : List Job) (planner : ℕ) (log : PlannerState) (run : RunState) : Type 0 where
+pub record DidScript (pit : Pit) (max_entries retries : ℕ) (opening : List Answered) (script : List Job) (planner : ℕ) (log : PlannerState) (run : RunState) : Type 0 where
   pub of_log : log.number ≡ planner
   pub of_run : run.planner ≡ planner
-  pub ran : RanFrom pit retries opening log.seen 1 script log.items run.jobs run.ended
+  pub ran : RanFrom pit max_entries retries opening log.seen 1 script log.items run.jobs run.ended
 
 -- a planner did its script, and the logs are its own and empty ones
-pub record TookTurn (pit : Pit) (retries : ℕ) (opening : List Answered) (script : List Job) (planner : ℕ) (logs : List PlannerState) (run : RunState) : Type 0 where
+pub record TookTurn (pit : Pit) (max_entries retries : ℕ) (opening : List Answered) (script : List Job) (planner : ℕ) (logs : List PlannerState) (run : RunState) : Type 0 where
   pub log : PlannerState
   pub among : Contains logs log
-  pub did : DidScript pit retries opening script planner log run
+  pub did : DidScript pit max_entries retries opening script planner log run
   pub others : All (λ other. other.number ≢ planner → other.items ≡ []) logs
 
 -- the first of so many planners did these scripts in turn, which led from the opening history to this desk
 pub record DidInTurn (pit : Pit) (opening : List Answered) (max_entries retries planners : ℕ) (scripts : List (List Job)) (desk : State) (runs : List RunState) : Type 0 where
   pub kept : IsDeskKept desk
   pub goes_on : GoesOn pit opening max_entries planners desk
-  pub did : AllDid pit retries opening 1 (drop (length opening) desk.history) scripts runs
+  pub did : AllDid pit max_entries retries opening desk.history 1 scripts runs
   pub started : AllStarted runs
   pub in_turn : IsInTurn (length scripts) opening desk.history
 
@@ -61,7 +61,7 @@ pub record IsTurnUnclosed (pit : Pit) (opening : List Answered) (max_entries ret
   pub did_before : DidInTurn pit opening max_entries retries (length scripts) (take place scripts) left before
   pub logs : List PlannerState
   pub run : RunState
-  pub took : TookTurn pit retries left.history script planner logs run
+  pub took : TookTurn pit max_entries retries left.history script planner logs run
   pub whole : HasEachLog (length scripts) logs
   pub refused : IsCloseError pit left.history max_entries (length scripts) logs cause
 

@@ -204,7 +204,7 @@ fn take_turn<S: Session, O: Wait + Drop, R: Wait, A: Allocator + Copy + Drop, G:
     requires place { k < length seats.items }
     requires none { logs.items ≡ [] }
     requires room { length seats.items ≤ vec_capacity logs }
-    ensures took { TookTurn S.instance retries S.opening script.now.jobs (k + 1) result.0.items result.1 }
+    ensures took { TookTurn S.instance S.max_entries retries S.opening script.now.jobs (k + 1) result.0.items result.1 }
     ensures each { HasEachLog (length seats.items) result.0.items }
 {
     let mut seats = seats;

@@ -1,22 +1,31 @@
 //! Laws of runs.
-ghost use Rattle.std.specs.Prelude.{◌≡◌, ℕ, ◌+◌, ◌≤◌, List, slice_get, Some, length, drop};
+ghost use Rattle.std.specs.Prelude.{◌≡◌, ℕ, ◌+◌, ◌<◌, ◌≤◌, List, slice_get, Some, length, drop};
 ghost use Rattle.pit_model.specs.Pit.{Pit};
 ghost use Rattle.pit_plan.specs.Schedule.{held_period, value_of};
 ghost use Rattle.pit_desk.specs.History.{Answered, commits_of};
 ghost use Rattle.pit_desk.specs.State.{State};
 ghost use Rattle.pit_desk.specs.OneThread.{IsOfOneThread};
+ghost use Rattle.pit_desk.specs.declared.reply.Refusal.TheVariants.{Moved};
 ghost use Rattle.pit_script.specs.Jobs.{Job};
 ghost use Rattle.pit_share.specs.Logs.{entries_of};
+ghost use Rattle.pit_job.specs.JobByJob.{IsWriter};
+ghost use Rattle.pit_job.specs.declared.outcome.Outcome.TheVariants.{Refused};
+ghost use Rattle.pit_job.specs.declared.outcome.RunEnd.TheVariants.{Full};
 ghost use Rattle.pit_run.specs.Reports.{RunState, IsReport, RanScript};
 ghost use Rattle.pit_run.specs.Turns.{IsInTurn};
 ghost use Rattle.pit_run.specs.Laws.{IsOneByOne};
 
-/// A law of reports: the run of each planner is that of its own script and of its own entries past the opening ones.
+/// A law of reports: the run of each planner is that of its own script and of its own entries past the opening ones. An end since the history is full
+/// comes only where it is. An outcome Moved names a commit of the history past the opening, which writes the block.
 pub fn each_planner()
-    ensures { (pit : Pit) (opening : List Answered) (max_entries retries : ℕ) (scripts : List (List Job)) (desk : State) (runs : List RunState) → IsReport pit opening max_entries retries scripts desk runs
-        → (p : ℕ) (script : List Job) → slice_get scripts p ≡ Some script
-        → (run : RunState) × (slice_get runs p ≡ Some run)
-        × (seen : List Answered) × RanScript pit retries opening seen script (1 + p) (entries_of (1 + p) (drop (length opening) desk.history)) run }
+    ensures each { (pit : Pit) (opening : List Answered) (max_entries retries : ℕ) (scripts : List (List Job)) (desk : State) (runs : List RunState) → IsReport pit opening max_entries retries scripts desk runs
+        → (p : ℕ) (script : List Job) → slice_get scripts p ≡ Some script → (run : RunState) × (slice_get runs p ≡ Some run)
+        × RanScript pit max_entries retries opening desk.history script (1 + p) (entries_of (1 + p) (drop (length opening) desk.history)) run }
+    ensures full { (pit : Pit) (opening : List Answered) (max_entries retries : ℕ) (scripts : List (List Job)) (desk : State) (runs : List RunState) → IsReport pit opening max_entries retries scripts desk runs
+        → (p job : ℕ) (run : RunState) → slice_get runs p ≡ Some run → run.ended ≡ Full job → length desk.history ≡ max_entries }
+    ensures moved { (pit : Pit) (opening : List Answered) (max_entries retries : ℕ) (scripts : List (List Job)) (desk : State) (runs : List RunState) → IsReport pit opening max_entries retries scripts desk runs
+        → (p j block version tries : ℕ) (run : RunState) → slice_get runs p ≡ Some run → slice_get run.jobs j ≡ Some (Refused (Moved block version) tries)
+        → (length (commits_of opening) < version) × IsWriter desk.history version block }
 {}
 
 /// A law of reports: the closed history is one of one thread, in which the committed jobs were done one after another, after the opening. Each

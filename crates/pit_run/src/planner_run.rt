@@ -73,7 +73,7 @@ pub(crate) fn run_planner<S: Session, O: Wait + Drop, A: Allocator + Copy + Drop
 ) -> (PlannerLog<S, A>, PlannerRun<A>)
     requires pit { script.now.pit ≡ S.instance }
     requires few { retries ≤ RETRIES_MAX }
-    ensures { DidScript S.instance retries S.opening script.now.jobs seat result.0 result.1 }
+    ensures { DidScript S.instance S.max_entries retries S.opening script.now.jobs seat result.0 result.1 }
 {
     let planner = seat.sit(workspace);
     let number = planner.number();

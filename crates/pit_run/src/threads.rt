@@ -24,7 +24,7 @@ fn finish_planner<S: Session, O: Wait + Drop, A: Allocator + Copy + Drop>(
     workspace: &Workspace<S, O, A>,
     seat: Seat<S, A>,
 ) -> (PlannerLog<S, A>, PlannerRun<A>)
-    ensures { (retries : ℕ) (script : List Job) → PlannerRan S.instance retries S.opening script seat result.0 result.1 }
+    ensures { (retries : ℕ) (script : List Job) → PlannerRan S.instance S.max_entries retries S.opening script seat result.0 result.1 }
 {
     let planner = seat.sit(workspace);
     let number = planner.number();
@@ -44,7 +44,7 @@ pub(crate) struct RunOf<A: Allocator + Copy + Drop> {
 
 impl<S: Session, A: Allocator + Copy + Drop> Promise<(PlannerLog<S, A>, PlannerRun<A>)>
     for RunOf<A> {
-    ghost kept_by = { λ p r. PlannerRan S.instance p.retries S.opening p.script.value.jobs p.planner r.0 r.1 };
+    ghost kept_by = { λ p r. PlannerRan S.instance S.max_entries p.retries S.opening p.script.value.jobs p.planner r.0 r.1 };
 }
 
 /// Does a planner's script, or hands in its empty log where its thread was refused.
@@ -55,7 +55,7 @@ fn run_unless_refused<S: Session, O: Wait + Drop, A: Allocator + Copy + Drop, R:
     number: u32,
 ) -> (PlannerLog<S, A>, PlannerRun<A>)
     requires { script.now.pit ≡ S.instance }
-    ensures { PlannerRan S.instance shared.now.retries S.opening script.now.jobs seat result.0 result.1 }
+    ensures { PlannerRan S.instance S.max_entries shared.now.retries S.opening script.now.jobs seat result.0 result.1 }
 {
     if shared.refused.load(Ordering::SeqCst) == number as u64 {
         return finish_planner(shared.alloc, shared.workspace, seat);
@@ -93,7 +93,7 @@ fn start<
     requires pit { script.now.pit ≡ S.instance }
     requires number { seat ≡ number }
     ensures ok { IfOk result (λ h. (h.promise.retries ≡ shared.now.retries) × (h.promise.planner ≡ number) × (h.promise.script.value ≡ script.now)) }
-    ensures err { IfErr result (λ d. PlannerRan S.instance shared.now.retries S.opening script.now.jobs number d.0 d.1) }
+    ensures err { IfErr result (λ d. PlannerRan S.instance S.max_entries shared.now.retries S.opening script.now.jobs number d.0 d.1) }
 {
     let promise = RunOf {
         retries: shared.retries,
@@ -104,7 +104,7 @@ fn start<
         promise,
         move || -> (PlannerLog<S, A>, PlannerRun<A>)
             requires { script.now.pit ≡ S.instance }
-            ensures { PlannerRan S.instance shared.entry.now.retries S.opening script.entry.now.jobs seat result.0 result.1 }
+            ensures { PlannerRan S.instance S.max_entries shared.entry.now.retries S.opening script.entry.now.jobs seat result.0 result.1 }
         { run_unless_refused(shared, seat, script, number) },
     );
     match started {
@@ -129,8 +129,8 @@ fn joined<S: Session, A: Allocator + Copy + Drop, R: Threads>(
     number: u32,
 ) -> (PlannerLog<S, A>, PlannerRun<A>)
     requires ok { IfOk started (λ h. (h.promise.retries ≡ retries) × (h.promise.planner ≡ number) × (h.promise.script.value ≡ script.now)) }
-    requires err { IfErr started (λ d. PlannerRan S.instance retries S.opening script.now.jobs number d.0 d.1) }
-    ensures { PlannerRan S.instance retries S.opening script.now.jobs number result.0 result.1 }
+    requires err { IfErr started (λ d. PlannerRan S.instance S.max_entries retries S.opening script.now.jobs number d.0 d.1) }
+    ensures { PlannerRan S.instance S.max_entries retries S.opening script.now.jobs number result.0 result.1 }
 {
     match started {
         Ok(handle) => handle.join(rt),
@@ -159,7 +159,7 @@ fn run_all<
     requires planners { length seats.old.items ≤ PLANNERS_MAX }
     requires none { (logs.old.items ≡ []) × (runs.old.items ≡ []) }
     requires room { (length seats.old.items ≤ vec_capacity logs.old) × (length seats.old.items ≤ vec_capacity runs.old) }
-    ensures ran { AllRan S.instance shared.now.retries S.opening 1 (take (length seats.old.items) shared.now.scripts) logs.new.items runs.new.items }
+    ensures ran { AllRan S.instance S.max_entries shared.now.retries S.opening 1 (take (length seats.old.items) shared.now.scripts) logs.new.items runs.new.items }
     ensures len { (length logs.new.items ≡ length seats.old.items) × (length runs.new.items ≡ length seats.old.items) }
     ensures room { (vec_capacity logs.old ≤ vec_capacity logs.new) × (vec_capacity runs.old ≤ vec_capacity runs.new) }
 {
@@ -218,7 +218,7 @@ pub(crate) fn run_scoped<
     requires planners { length seats.items ≤ PLANNERS_MAX }
     requires none { (logs.items ≡ []) × (runs.items ≡ []) }
     requires room { (length seats.items ≤ vec_capacity logs) × (length seats.items ≤ vec_capacity runs) }
-    ensures { AllRan S.instance shared.now.retries S.opening 1 shared.now.scripts result.0.items result.1.items }
+    ensures { AllRan S.instance S.max_entries shared.now.retries S.opening 1 shared.now.scripts result.0.items result.1.items }
 {
     thread::scope(
         thread::scope_env(),
@@ -229,7 +229,7 @@ pub(crate) fn run_scoped<
             requires planners { length seats.items ≤ PLANNERS_MAX }
             requires none { (logs.items ≡ []) × (runs.items ≡ []) }
             requires room { (length seats.items ≤ vec_capacity logs) × (length seats.items ≤ vec_capacity runs) }
-            ensures { AllRan S.instance shared.entry.now.retries S.opening 1 shared.entry.now.scripts result.0.items result.1.items }
+            ensures { AllRan S.instance S.max_entries shared.entry.now.retries S.opening 1 shared.entry.now.scripts result.0.items result.1.items }
         { run_in(scope, shared, seats, logs, runs) },
     )
 }
@@ -255,7 +255,7 @@ fn run_in<
     requires planners { length seats.items ≤ PLANNERS_MAX }
     requires none { (logs.items ≡ []) × (runs.items ≡ []) }
     requires room { (length seats.items ≤ vec_capacity logs) × (length seats.items ≤ vec_capacity runs) }
-    ensures { AllRan S.instance shared.now.retries S.opening 1 shared.now.scripts result.0.items result.1.items }
+    ensures { AllRan S.instance S.max_entries shared.now.retries S.opening 1 shared.now.scripts result.0.items result.1.items }
 {
     let mut seats = seats;
     let mut logs = logs;

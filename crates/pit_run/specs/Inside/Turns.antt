@@ -18,13 +18,13 @@ use Rattle.pit_run.specs.declared.report.InTurnError.TheVariants as error
 pub record IsTurn (pit : Pit) (opening : List Answered) (max_entries planners retries planner : ℕ) (script : List Job) (desk : State) (run : RunState) : Type 0 where
   pub logs : List PlannerState
   pub closed : IsClosed pit opening max_entries planners logs desk
-  pub took : TookTurn pit retries opening script planner logs run
+  pub took : TookTurn pit max_entries retries opening script planner logs run
 
 -- or was not, though each planner's is there
 pub record IsUnclosedTurn (pit : Pit) (opening : List Answered) (max_entries planners retries planner : ℕ) (script : List Job) (cause : CloseError) : Type 0 where
   pub logs : List PlannerState
   pub run : RunState
-  pub took : TookTurn pit retries opening script planner logs run
+  pub took : TookTurn pit max_entries retries opening script planner logs run
   pub whole : HasEachLog planners logs
   pub refused : IsCloseError pit opening max_entries planners logs cause
 

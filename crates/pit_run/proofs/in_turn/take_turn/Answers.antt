@@ -17,8 +17,8 @@ returns-clause-took g c =
     let seats : List ℕ = c.args.seats.items in
     let number : c.remove-seat.result ≡ planner =
     c.remove-seat.ensures.value ∙ (get_or_default seats c.args.k c.remove-seat.result 0 c.requires.place ∙ c.requires.seats.each c.args.k c.requires.place) in
-    let did : DidScript g.S.Session.instance c.args.retries g.S.Session.opening c.args.script.now.jobs planner log run =
-    subst (λ (n : ℕ). DidScript g.S.Session.instance c.args.retries g.S.Session.opening c.args.script.now.jobs n log run) number c.run_planner-log.ensures in
+    let did : DidScript g.S.Session.instance g.S.Session.max_entries c.args.retries g.S.Session.opening c.args.script.now.jobs planner log run =
+    subst (λ (n : ℕ). DidScript g.S.Session.instance g.S.Session.max_entries c.args.retries g.S.Session.opening c.args.script.now.jobs n log run) number c.run_planner-log.ensures in
     let logs : c.push_log.new.logs.items ≡ front ++ log ∷ [] = c.push_log.ensures.items in
     let empty = All-weaker (λ other. other.items ≡ []) (λ other. other.number ≢ planner → other.items ≡ []) (λ other none differs. none) front (c.finish_all.ensures.empty (subst (λ (ls : List PlannerState). All (λ other. other.items ≡ []) ls) (sym c.requires.none) (All-nil (λ other. other.items ≡ [])))) in
     record {

@@ -1,4 +1,4 @@
-use Rattle.std.proofs.Common.{◌≡◌, List, map, length, drop, rules, sym, ◌∙◌, subst}
+use Rattle.std.proofs.Common.{◌≡◌, List, map, length, rules, sym, ◌∙◌, subst}
 use Rattle.std.proofs.lemmas.List.{length-map}
 use Rattle.pit_script.specs.Jobs.{Job}
 use Rattle.pit_share.specs.Planners.{PlannerState}
@@ -14,14 +14,13 @@ returns-in-Ok-close-clause-ok g c =
     let opening = g.S.Session.opening in
     let most = g.S.Session.max_entries in
     let scripts : List (List Job) = map (λ script. script.jobs) c.args.scripts.now in
-    let past = drop (length opening) c.in-Ok-close.closed.history in
     let logs = c.run_scoped-logs.result.0.items in
     let runs = c.run_scoped-logs.result.1.items in
-    let ran : AllRan pit c.args.retries opening 1 scripts logs runs = subst (λ (s : SharedState). AllRan pit s.retries opening 1 s.scripts logs runs) c.new-shared.ensures c.run_scoped-logs.ensures in
+    let ran : AllRan pit most c.args.retries opening 1 scripts logs runs = subst (λ (s : SharedState). AllRan pit most s.retries opening 1 s.scripts logs runs) c.new-shared.ensures c.run_scoped-logs.ensures in
     let many : length scripts ≡ g.S.Session.planners = length-map c.args.scripts.now _ ∙ c.requires.each in
     let closed : IsClosed pit opening most g.S.Session.planners logs c.in-Ok-close.closed = search rules in
     let each : IsClosed pit opening most (length scripts) logs c.in-Ok-close.closed = subst (λ n. IsClosed pit opening most n logs c.in-Ok-close.closed) (sym many) closed in
-    record { logs = logs; closed = each; did = did pit c.args.retries opening past scripts logs runs ran each.logged }
+    record { logs = logs; closed = each; did = did pit most c.args.retries opening c.in-Ok-close.closed.history scripts logs runs ran each.logged each.seen }
 
 pub returns-in-Err-clause-err : goal.returns-in-Err-clause-err
 returns-in-Err-clause-err g c =
@@ -35,7 +34,7 @@ returns-in-Err-clause-err g c =
     let refused : IsCloseError pit opening most g.S.Session.planners logs c.in-Err.cause = c.in-Err.ensures.err in
     let unclosed : IsUnclosed pit opening most c.args.retries scripts logs c.in-Err.cause = record {
       runs = runs;
-      ran = subst (λ (s : SharedState). AllRan pit s.retries opening 1 s.scripts logs runs) c.new-shared.ensures c.run_scoped-logs.ensures;
+      ran = subst (λ (s : SharedState). AllRan pit most s.retries opening 1 s.scripts logs runs) c.new-shared.ensures c.run_scoped-logs.ensures;
       refused = subst (λ n. IsCloseError pit opening most n logs c.in-Err.cause) (sym many) refused;
     } in
     subst (λ (ls : List PlannerState). IsUnclosed pit opening most c.args.retries scripts ls c.in-Err.cause) (sym (λ i. (c.in-Err.ensures.logs i).items)) unclosed

@@ -15,12 +15,12 @@ returns-clause-ran g t c =
     let at : c.len-k.result ≡ k = search rules in
     let here : s ≡ get_or shared.scripts k [] = subst (λ (m : ℕ). s ≡ get_or shared.scripts m []) at c.script-script.ensures.jobs in
     let less : k < length shared.scripts = omega (arith, is, c.requires.each) in
-    let all : AllRan g.S.Session.instance shared.retries g.S.Session.opening 1 (take k shared.scripts) c.run_all.new.logs.items c.run_all.new.runs.items = c.run_all.ensures.ran in
-    let last : PlannerRan g.S.Session.instance shared.retries g.S.Session.opening s (c.len-k.result + 1) c.joined-log.result.0 c.joined-log.result.1 =
-    subst (λ (retries : ℕ). PlannerRan g.S.Session.instance retries g.S.Session.opening s (c.len-k.result + 1) c.joined-log.result.0 c.joined-log.result.1) (ap (λ shared. shared.retries) c.shared.view_is) c.joined-log.ensures in
-    ran-next g.S.Session.instance shared.retries g.S.Session.opening n k shared.scripts c.run_all.new.logs.items c.push_log.new.logs.items c.run_all.new.runs.items c.push_run.new.runs.items
+    let all : AllRan g.S.Session.instance g.S.Session.max_entries shared.retries g.S.Session.opening 1 (take k shared.scripts) c.run_all.new.logs.items c.run_all.new.runs.items = c.run_all.ensures.ran in
+    let last : PlannerRan g.S.Session.instance g.S.Session.max_entries shared.retries g.S.Session.opening s (c.len-k.result + 1) c.joined-log.result.0 c.joined-log.result.1 =
+    subst (λ (retries : ℕ). PlannerRan g.S.Session.instance g.S.Session.max_entries retries g.S.Session.opening s (c.len-k.result + 1) c.joined-log.result.0 c.joined-log.result.1) (ap (λ shared. shared.retries) c.shared.view_is) c.joined-log.ensures in
+    ran-next g.S.Session.instance g.S.Session.max_entries shared.retries g.S.Session.opening n k shared.scripts c.run_all.new.logs.items c.push_log.new.logs.items c.run_all.new.runs.items c.push_run.new.runs.items
     s c.joined-log.result.0 c.joined-log.result.1 is less (here ∙ get_or_default shared.scripts k [] s less) all
-    (subst (λ (m : ℕ). PlannerRan g.S.Session.instance shared.retries g.S.Session.opening s m c.joined-log.result.0 c.joined-log.result.1) (omega (arith, is, at)) last)
+    (subst (λ (m : ℕ). PlannerRan g.S.Session.instance g.S.Session.max_entries shared.retries g.S.Session.opening s m c.joined-log.result.0 c.joined-log.result.1) (omega (arith, is, at)) last)
     c.push_log.ensures.items c.push_run.ensures.items
 
 pub start-started-requires-clause-number : goal.start-started-requires-clause-number
