@@ -148,9 +148,12 @@ each 'plan with a history' plan --history kept "$data/tiny.cpit" "$data/tiny.pre
 cp whole.kept history
 cp history old
 each 'plan, a history is carried on' plan --continue kept "$data/tiny.cpit" "$data/tiny.prec" one
+each 'merge, a history is carried on' merge --continue kept --from 1 "$data/tiny.cpit" "$data/tiny.prec" "$data/early.sol" "$data/over.sol"
 each 'plan, the history is an input' plan --history kept "$data/tiny.cpit" "$data/tiny.prec" kept
 input_stays
 echo before >old
+each 'merge, an edit that is refused, and a block that somebody else has changed' merge --start "$data/tiny.sol" --history kept "$data/tiny.cpit" "$data/tiny.prec" "$data/early.sol" "$data/short.sol" "$data/over.sol" history
+each 'merge, the same is left out' merge --start "$data/tiny.sol" --partial "$data/tiny.cpit" "$data/tiny.prec" "$data/short.sol" "$data/over.sol"
 each 'log' log --writes "$data/tiny.cpit" "$data/tiny.prec" history
 each 'replay' replay "$data/tiny.cpit" "$data/tiny.prec" history
 # Each line of this one is read by its JSON value.
@@ -177,6 +180,7 @@ each 'help show' help show
 each 'help plan' help plan
 each 'help replay' help replay
 each 'help log' help log
+each 'help merge' help merge
 each 'version' --version
 each 'no words'
 each 'no such subcommand' valu

@@ -3,7 +3,7 @@
 #![tactic(auto)]
 
 use pit_book::{Desk, Refusal, Reply, to_lines};
-use pit_model::{Builder, Instance};
+use pit_model::{BuildError, Builder, Instance};
 use pit_tx::Work;
 use std::alloc::Global;
 use std::io::Write;
@@ -14,10 +14,21 @@ fn main(rt: HostRuntime) -> Result<(), &'static str> {
 
 fn shared(rt: &HostRuntime, alloc: Global) -> Option<()> {
     let mut desk = Desk::open(alloc, small_pit(alloc)?, &[], 100).ok()?;
-    let first = work_of(alloc, &desk, 1, 0)?;
-    let second = work_of(alloc, &desk, 2, 1)?;
-    commit(rt, &mut desk, first)?;
-    commit(rt, &mut desk, second)?;
+    let answer = share(rt, alloc, &mut desk);
+    drop(desk);
+    answer
+}
+
+/// Both planners read before one of them commits.
+fn share(rt: &HostRuntime, alloc: Global, desk: &mut Desk<Global>) -> Option<()> {
+    let first = work_of(alloc, desk, 1, 0)?;
+    let second = work_of(alloc, desk, 2, 1)?;
+    commit(rt, desk, first)?;
+    commit(rt, desk, second)?;
+    print_lines(rt, alloc, desk)
+}
+
+fn print_lines(rt: &HostRuntime, alloc: Global, desk: &Desk<Global>) -> Option<()> {
     let lines = to_lines(alloc, desk.history()).ok()?;
     rt.stdout().write_all(&lines).ok()
 }
@@ -25,13 +36,17 @@ fn shared(rt: &HostRuntime, alloc: Global) -> Option<()> {
 /// Block 1 lies under block 0. They are worth -1 and 8, and each loads the mill by 2, which takes 3 in the first of two periods; in millionths.
 fn small_pit(alloc: Global) -> Option<Instance<Global>> {
     let mut pit = Builder::new(alloc, 2, 2, 1, 100_000).ok()?;
-    for (block, profit) in [(0, -1_000_000), (1, 8_000_000)] {
-        pit.set_profit(block, profit).ok()?;
-        pit.set_coef(block, 0, 2_000_000).ok()?;
-    }
-    pit.set_preds(1, &[0]).ok()?;
-    pit.add_limit(0, 0, None, Some(3_000_000)).ok()?;
+    tell(&mut pit).ok()?;
     pit.build().ok()
+}
+
+fn tell(pit: &mut Builder<Global>) -> Result<(), BuildError> {
+    for (block, profit) in [(0, -1_000_000), (1, 8_000_000)] {
+        pit.set_profit(block, profit)?;
+        pit.set_coef(block, 0, 2_000_000)?;
+    }
+    pit.set_preds(1, &[0])?;
+    pit.add_limit(0, 0, None, Some(3_000_000))
 }
 
 /// A planner's job 1, behind all commits so far: it notes the period of block 0, and puts the block into another.
