@@ -67,7 +67,7 @@ pub record IsOneHistory (texts : Texts) (options : PlanOptions) (closed : State)
   pub one_by_one : IsOneByOne closed.plan.pit (length (entries_before opening)) scripts closed.history
   pub turns : options.is_in_turn ≡ true → IsInTurn (length scripts) (entries_before opening) closed.history
   pub each : (place : ℕ) (script : List Job) → slice_get scripts place ≡ Some script → (run : RunState) × (slice_get runs place ≡ Some run)
-      × RanScript closed.plan.pit options.retries script (1 + place) (entries_of (1 + place) (drop (length (entries_before opening)) closed.history)) run
+      × RanScript closed.plan.pit ENTRIES_MAX options.retries (entries_before opening) closed.history script (1 + place) (entries_of (1 + place) (drop (length (entries_before opening)) closed.history)) run
 
 -- what was written is that of one such history
 pub record IsOfOneHistory (texts : Texts) (options : PlanOptions) (out lines : Writing) (kept : Option Keeping) (result : Result Status CliFault) : Type 0 where
