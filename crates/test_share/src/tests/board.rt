@@ -31,7 +31,7 @@ struct Held<T: Drop> {
     value: T,
 }
 
-/// A hall, and the desk whose commits it publishes.
+/// A hall, and the desk whose history it lists.
 #[derive(Drop)]
 struct OpenHall<S: Session, R: Wait + Drop, A: Allocator + Copy + Drop> {
     alloc: A,
@@ -42,13 +42,12 @@ struct OpenHall<S: Session, R: Wait + Drop, A: Allocator + Copy + Drop> {
 impl<S: Session, R: Wait + Drop, A: Allocator + Copy + Drop> Model for OpenHall<S, R, A> {
     ghost use Rattle.std.specs.Prelude.{◌≡◌};
     ghost use Rattle.pit_desk.specs.State.{State};
-    ghost use Rattle.pit_desk.specs.History.{commits_of};
 
     ghost Value = { State };
 
     ghost view = { λ o. o.desk };
 
-    ghost invariant = { λ o. (o.desk.plan.pit ≡ S.instance) × (o.hall.value ≡ commits_of o.desk.history) };
+    ghost invariant = { λ o. (o.desk.plan.pit ≡ S.instance) × (o.hall.value ≡ o.desk.history) };
 }
 
 impl<S: Session, R: Wait + Drop, A: Allocator + Copy + Drop> OpenHall<S, R, A> {
