@@ -152,7 +152,7 @@ each 'merge, a history is carried on' merge --continue kept --from 1 "$data/tiny
 each 'plan, the history is an input' plan --history kept "$data/tiny.cpit" "$data/tiny.prec" kept
 input_stays
 echo before >old
-each 'merge, an edit that is refused, and a block that somebody else has changed' merge --start "$data/tiny.sol" --history kept "$data/tiny.cpit" "$data/tiny.prec" "$data/early.sol" "$data/short.sol" "$data/over.sol" history
+each 'merge, an edit that is refused' merge --start "$data/tiny.sol" --history kept "$data/tiny.cpit" "$data/tiny.prec" "$data/early.sol" "$data/short.sol"
 each 'merge, the same is left out' merge --start "$data/tiny.sol" --partial "$data/tiny.cpit" "$data/tiny.prec" "$data/short.sol" "$data/over.sol"
 each 'log' log --writes "$data/tiny.cpit" "$data/tiny.prec" history
 each 'replay' replay "$data/tiny.cpit" "$data/tiny.prec" history
