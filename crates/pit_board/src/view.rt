@@ -1,5 +1,5 @@
 //! What one planner sees without a lock.
-ghost use Rattle.std.specs.Prelude.{◌≡◌, ◌+◌, ◌<◌, length, MatchOption, IfSome, IfNone};
+ghost use Rattle.std.specs.Prelude.{◌≡◌, ◌+◌, ◌<◌, ◌≤◌, length, MatchOption, IfSome, IfNone};
 ghost use mathlib.Core.List.{IsPrefix};
 ghost use Rattle.pit_desk.specs.History.{commits_of};
 ghost use Rattle.pit_board.specs.Boards.{slot_of};
@@ -142,6 +142,7 @@ fn shown<S: Session, A: Allocator + Copy + Drop>(
     ensures slot { IfSome result (λ slot. slot ≡ slot_of (commits_of front.new) block) }
     ensures seen { IsPrefix front.old front.new }
     ensures none { block < S.instance.blocks → IfNone result (front.new ≡ front.old) }
+    ensures due { block < S.instance.blocks → length (commits_of front.old) ≤ length (commits_of board.now) → IfNone result ⊥ }
 {
     if !front.catch_up(board.front()) {
         return None;
