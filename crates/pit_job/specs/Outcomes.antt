@@ -34,7 +34,7 @@ pub record IsItem (pit : Pit) (task : Job) (n : ℕ) (e : Answered) : Type 0 whe
 
 -- ---- tries that end by Moved
 
--- of the commits of a front of what was seen, the last one that names the block has this number, which is past the start
+-- of the commits of some prefix of what was seen, the last one that names the block has this number, which is past the start
 pub record IsMovedBlock (seen : List Answered) (start block version : ℕ) : Type 0 where
   pub front : List Answered
   pub begins : IsPrefix front seen
@@ -62,8 +62,8 @@ pub record IsMovedItem (pit : Pit) (task : Job) (n start block version : ℕ) (e
   pub begun : e.call.start ≡ start
   pub answer : e.reply ≡ reply.Refused (refusal.Moved block version)
 
--- A try that ended by Moved: it made one entry, which was refused so; or none, where a step read the block. The commit of this number was seen
--- by then, and the try began no earlier than after the commits that had been seen before.
+-- A try that ended by Moved: it made one entry, which was refused so; or none, where a step read the block. The commit of this number has then been
+-- seen, and is past the start of the try, which began after no fewer commits than had been seen before.
 pub record IsMovedTry (pit : Pit) (task : Job) (n : ℕ) (old new es : List Answered) (block version : ℕ) : Type 0 where
   pub start : ℕ
   pub after : length (commits_of old) ≤ start
