@@ -7,4 +7,5 @@ pub mod Written
 pub mod Leading
 pub mod Plain
 pub mod Wholes
+pub mod Fronts
 pub mod CallerLemmas

@@ -134,6 +134,18 @@ plain_micro text W F plain whole fraction some short few small =
     let not_long : is_too_long text ≡ false = grind (arith, nat_tests) in
     is_micro text decimal not_long small
 
+-- what the parts of a plain number say
+pub parts_micro : (text W F : List ℕ) (whole fraction places : ℕ) → IsPlain text W F → are_digits W ≡ true → are_digits F ≡ true → whole ≡ digits_value 10 W → fraction ≡ digits_value 10 F → places ≡ length F → 0 < length W + places → length W ≤ 12 → places ≤ 6
+    → whole * 10 ^ 6 + fraction * 10 ^ (6 - places) < MICRO_LIMIT → micro_of text ≡ Ok (with_sign (is_negative text) (whole * 10 ^ 6 + fraction * 10 ^ (6 - places)))
+parts_micro text W F whole fraction places plain W_digits F_digits whole_is fraction_is places_is some short few small =
+    let value : millionths text ≡ whole * 10 ^ 6 + fraction * 10 ^ (6 - places) =
+    plain_millionths text W F plain (omega arith)
+    ∙ ap (λ (n : ℕ). n * 10 ^ 6 + digits_value 10 F * 10 ^ (6 - length F)) (sym whole_is)
+    ∙ ap (λ (n : ℕ). whole * 10 ^ 6 + n * 10 ^ (6 - length F)) (sym fraction_is)
+    ∙ ap (λ (k : ℕ). whole * 10 ^ 6 + fraction * 10 ^ (6 - k)) (sym places_is) in
+    plain_micro text W F plain W_digits F_digits (omega arith) short (omega arith) (omega arith)
+    ∙ ap (λ (n : ℕ). Ok (with_sign (is_negative text) n)) value
+
 -- what two fronts of digits say of a text
 pub fronts_micro : (text U F : List ℕ) (count places whole fraction : ℕ) → U ≡ after_sign text → count ≡ prefix_len is_ascii_digit U → whole ≡ digits_value 10 (take count U) → F ≡ after_front_point (drop count U) → places ≡ prefix_len is_ascii_digit F → fraction ≡ digits_value 10 (take places F) → length F ≤ places → count + places ≢ 0 → count ≤ 12 → places ≤ 6 → whole * 10 ^ 6 + fraction * 10 ^ (6 - places) < MICRO_LIMIT → micro_of text ≡ Ok (with_sign (is_negative text) (whole * 10 ^ 6 + fraction * 10 ^ (6 - places)))
 fronts_micro text U F count places whole fraction unsigned count_is whole_is behind_is places_is fraction_is long some short few small =
@@ -146,14 +158,7 @@ fronts_micro text U F count places whole fraction unsigned count_is whole_is beh
     let tail : IsTail (drop count U) F = subst (λ (ds : List ℕ). IsTail (drop count U) ds) (sym behind_is) (tail_is (drop count U) (ap are_digits (sym behind_is) ∙ F_digits) stops) in
     let plain : IsPlain text (take count U) F = plain_is text (take count U) (drop count U) F (sym unsigned ∙ sym (take-append-drop count U)) W_digits tail in
     let F_value : fraction ≡ digits_value 10 F = fraction_is ∙ ap (λ (ds : List ℕ). digits_value 10 ds) (take_all places F long) in
-    let F_length : length F ≡ places = omega arith in
-    let value : millionths text ≡ whole * 10 ^ 6 + fraction * 10 ^ (6 - places) =
-    plain_millionths text (take count U) F plain (omega arith)
-    ∙ ap (λ (n : ℕ). n * 10 ^ 6 + digits_value 10 F * 10 ^ (6 - length F)) (sym whole_is)
-    ∙ ap (λ (n : ℕ). whole * 10 ^ 6 + n * 10 ^ (6 - length F)) (sym F_value)
-    ∙ ap (λ (k : ℕ). whole * 10 ^ 6 + fraction * 10 ^ (6 - k)) F_length in
-    plain_micro text (take count U) F plain W_digits F_digits (omega arith) (omega arith) (omega arith) (omega arith)
-    ∙ ap (λ (n : ℕ). Ok (with_sign (is_negative text) n)) value
+    parts_micro text (take count U) F whole fraction places plain W_digits F_digits whole_is F_value (omega arith) (omega arith) (omega arith) few small
 
 -- a number of few digits is below the limit
 pub plain_bound : (whole fraction places : ℕ) → whole < 10 ^ 12 → fraction < 10 ^ places → places ≤ 6 → whole * 10 ^ 6 + fraction * 10 ^ (6 - places) < MICRO_LIMIT

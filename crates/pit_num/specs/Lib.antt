@@ -1,4 +1,5 @@
 pub mod Decimal
+pub mod Front
 pub mod Factor
 pub mod Rounding
 pub mod Lines

@@ -22,8 +22,8 @@ pub use discount::{Discount, factor_is_greatest};
 pub use limits::{MICRO_LIMIT, PERIODS_MAX, RATE_MAX};
 pub use memory::NoMemory;
 pub use parse::{
-    DIGITS_MAX, EXPONENT_DIGITS_MAX, NumError, micro_from_bytes, parse_micro, parse_whole,
-    whole_from_bytes,
+    DIGITS_MAX, EXPONENT_DIGITS_MAX, NumError, micro_before, micro_from_bytes, parse_micro,
+    parse_whole, whole_before, whole_from_bytes,
 };
 pub use print::{WriteFault, write_micro, write_text, write_value, write_whole};
 pub use rounding::nearest_is_greatest;

@@ -4,9 +4,9 @@ mod parts;
 mod scale;
 mod whole;
 
-pub use micro::{micro_from_bytes, parse_micro};
+pub use micro::{micro_before, micro_from_bytes, parse_micro};
 use std::fmt;
-pub use whole::{parse_whole, whole_from_bytes};
+pub use whole::{parse_whole, whole_before, whole_from_bytes};
 
 /// Why a text is no number. The first that applies, in this order.
 #[derive(Clone, Copy, Debug, PartialEq, Eq)]

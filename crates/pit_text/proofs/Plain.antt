@@ -1,16 +1,13 @@
 -- Plain lines.
-use Rattle.std.proofs.Common.{◌≡◌, ℕ, zero, suc, ◌+◌, ◌-◌, ◌^◌, ◌<◌, ◌≤◌, ◌&&◌, ◌||◌, not, nat_eq, nat_lt, Bool, true, false, cond, Some, List, [], ◌∷◌, ◌++◌, length, take, drop, get_or, min, ap, subst, sym, ◌∙◌, refl, arith, length-append, append_assoc, Result, Ok, Err}
-use Rattle.std.specs.List.{list_all, position, position_or_len, prefix_len}
+use Rattle.std.proofs.Common.{◌≡◌, ℕ, zero, suc, ◌+◌, ◌-◌, ◌<◌, ◌&&◌, ◌||◌, not, nat_eq, nat_lt, Bool, true, false, cond, Some, List, [], ◌∷◌, ◌++◌, length, take, drop, get_or, ap, subst, sym, ◌∙◌, refl, arith, length-append, append_assoc, Result, Ok, Err}
+use Rattle.std.specs.List.{list_all, position, position_or_len}
 use Rattle.std.specs.Char.{is_ascii_digit}
-use Rattle.std.specs.Str.Parse.{digits_value}
-use Rattle.std.proofs.lemmas.List.{take_at, take-take, drop_more, take-append-drop, append-nil, length-take}
-use Rattle.std.proofs.lemmas.List.Sums.{prefix_len-le-length}
+use Rattle.std.proofs.lemmas.List.{take_at, append-nil}
 use Rattle.std.proofs.lemmas.List.Folds.{list_all-append}
 use Rattle.std.proofs.lemmas.Bool.{cond-true, cond-false}
 use Rattle.std.proofs.lemmas.Bool.Decides.{nat_tests}
 use Rattle.pit_num.specs.Decimal.{are_digits, is_number, whole_of}
-use Rattle.pit_num.proofs.Digits.{value_lt, power_le}
-use Rattle.pit_num.proofs.Leading.{digits_in_front}
+use Rattle.pit_num.specs.Front.{IsWholeThen, is_value}
 use Rattle.pit_text.specs.Cutting.{lines_of, fields_of, is_gap, is_mark, is_comment, is_last, is_read, without_return, cut_from}
 use Rattle.pit_text.specs.declared.error.Cause.{Cause}
 use Rattle.pit_text.specs.declared.error.Cause.TheVariants.{CountWrong}
@@ -18,7 +15,7 @@ use Rattle.pit_text.specs.Stands.{◌>>=◌}
 use Rattle.pit_text.specs.Numbers.{whole_field}
 use Rattle.pit_text.specs.Precedence.{wholes_of, listed_blocks, preds_line}
 use Rattle.pit_text.specs.Inside.Cutting.{FieldBegins}
-use Rattle.pit_text.specs.Inside.Plain.{IsNumberThen, is_value, is_plain, DigitFirst, AreFieldsThen, IsLineThen, IsListThen, SaysPreds, ArePair}
+use Rattle.pit_text.specs.Inside.Plain.{is_plain, DigitFirst, AreFieldsThen, IsLineThen, IsListThen, SaysPreds, ArePair}
 use Rattle.pit_text.proofs.Cuts.{line_then, field_then, field_alone, gap_in_front, not_last}
 use Rattle.pit_text.proofs.Ascii.{each, passed, whole_read}
 use Rattle.pit_text.proofs.FirstLine.{read_line, other_end}
@@ -89,33 +86,6 @@ number_digits (d ∷ ds) n h =
     let all = (each (nat_lt 0 (length (d ∷ ds))) (are_digits (d ∷ ds)) (passed (is_number (d ∷ ds)) _ _ n h)).1 in
     (all, (each (is_ascii_digit d) (are_digits ds) all).0)
 
--- few digits write a number that is small enough
-few_digits : (ds : List ℕ) → are_digits ds ≡ true → 0 < length ds → length ds ≤ 9 → whole_of ds ≡ Ok (digits_value 10 ds)
-unfolding whole_of
-few_digits ds digits some few =
-    let small : digits_value 10 ds < 2 ^ 32 = omega (arith, value_lt ds digits, power_le (length ds) 9 few) in
-    grind (arith, nat_tests)
-
--- the digits that are found in front of a text, in the words of what finds them
-pub number_in_front : (text : List ℕ) (most n count end : ℕ) → count ≡ prefix_len is_ascii_digit (take most text) → n ≡ digits_value 10 (take count (take most text)) → length (take most text) ≤ 9 → 0 < count
-    → 0 < length (drop count text) → get_or (drop count text) 0 0 ≡ end → IsNumberThen text n end (drop 1 (drop count text))
-number_in_front text most n count end count_is value short some within is =
-    let short_text = take most text in
-    let long : length short_text ≡ min most (length text) = length-take most text in
-    let at : count ≤ length short_text = omega (arith, count_is, prefix_len-le-length is_ascii_digit short_text) in
-    let seen : take count short_text ≡ take count text = take-take count most text (omega (arith, at, long)) in
-    let ds : List ℕ = take count text in
-    let digits : are_digits ds ≡ true = ap are_digits (sym seen) ∙ digits_in_front short_text count (omega (arith, count_is)) in
-    let size : length ds ≡ count = omega (arith, length-take count text, at, long) in
-    record {
-      digits = ds;
-      whole =
-          sym (take-append-drop count text)
-          ∙ ap (λ (l : List ℕ). ds ++ l) (drop_more (drop count text) 0 0 within)
-          ∙ ap (λ (b : ℕ). ds ++ b ∷ drop 1 (drop count text)) is;
-      number = few_digits ds digits (omega (arith, size, some)) (omega (arith, size, at, short)) ∙ ap (λ (k : ℕ). Ok k) (sym (value ∙ ap (λ (l : List ℕ). digits_value 10 l) seen));
-    }
-
 -- ---- a plain line
 
 no_return : (line : List ℕ) → list_all is_plain line ≡ true → DigitFirst line → without_return line ≡ line
@@ -182,7 +152,7 @@ pub fields_start : (text : List ℕ) → AreFieldsThen text [] text
 fields_start text = record { front = []; whole = refl; plain = refl; cut = λ line. refl; begins = λ line first. first; inside = λ line some. absurd (omega (arith, some)) }
 
 -- one more, with a blank behind it
-pub fields_more : (text rest after : List ℕ) (fields : List (List ℕ)) (n : ℕ) → AreFieldsThen text fields rest → (next : IsNumberThen rest n 32 after) → AreFieldsThen text (fields ++ next.digits ∷ []) after
+pub fields_more : (text rest after : List ℕ) (fields : List (List ℕ)) (n : ℕ) → AreFieldsThen text fields rest → (next : IsWholeThen rest n 32 after) → AreFieldsThen text (fields ++ next.digits ∷ []) after
 fields_more text rest after fields n are next =
     let ds : List ℕ = next.digits in
     let number = number_digits ds n next.number in
@@ -225,14 +195,14 @@ pub has_digit : (ds : List ℕ) → DigitFirst ds → 0 < length ds
 has_digit [] first = absurd first
 has_digit (d ∷ ds) first = omega arith
 
-pub fields_end : (text rest after : List ℕ) (fields : List (List ℕ)) (n : ℕ) → AreFieldsThen text fields rest → (next : IsNumberThen rest n 10 after) → IsLineThen text (fields ++ next.digits ∷ []) after
+pub fields_end : (text rest after : List ℕ) (fields : List (List ℕ)) (n : ℕ) → AreFieldsThen text fields rest → (next : IsWholeThen rest n 10 after) → IsLineThen text (fields ++ next.digits ∷ []) after
 fields_end text rest after fields n are next =
     let ds : List ℕ = next.digits in
     let number = number_digits ds n next.number in
     line_ends text rest after fields ds are next.whole (all_weaker is_ascii_digit is_value digit_value ds number.0) (has_digit ds number.1) (are.begins ds number.1)
 
 -- a line of two numbers
-pub two_fields : (text behind rest : List ℕ) (n m : ℕ) → IsNumberThen text n 32 behind → IsNumberThen behind m 10 rest → (fields : List (List ℕ)) × IsLineThen text fields rest × ArePair fields n m
+pub two_fields : (text behind rest : List ℕ) (n m : ℕ) → IsWholeThen text n 32 behind → IsWholeThen behind m 10 rest → (fields : List (List ℕ)) × IsLineThen text fields rest × ArePair fields n m
 two_fields text behind rest n m one other = (
   one.digits ∷ other.digits ∷ [],
   fields_end text behind rest (one.digits ∷ []) m (fields_more text text behind [] n (fields_start text) one) other,
@@ -282,7 +252,7 @@ read_none text k ns nothing none = record {
   );
 }
 
-pub read_one : (text rest after : List ℕ) (count k : ℕ) (ns more : List ℕ) (n : ℕ) → AreRead text rest count ns → IsNumberThen rest n 32 after → k ≡ count + 1 → more ≡ ns ++ n ∷ [] → AreRead text after k more
+pub read_one : (text rest after : List ℕ) (count k : ℕ) (ns more : List ℕ) (n : ℕ) → AreRead text rest count ns → IsWholeThen rest n 32 after → k ≡ count + 1 → more ≡ ns ++ n ∷ [] → AreRead text after k more
 read_one text rest after count k ns more n read next counts is = record {
   front = λ whole fields are.
       let was = read.front whole fields are in
@@ -294,7 +264,7 @@ read_one text rest after count k ns more n read next counts is = record {
       );
 }
 
-pub read_last : (text rest after : List ℕ) (count k : ℕ) (ns more : List ℕ) (n : ℕ) → AreRead text rest count ns → IsNumberThen rest n 10 after → k ≡ count + 1 → more ≡ ns ++ n ∷ []
+pub read_last : (text rest after : List ℕ) (count k : ℕ) (ns more : List ℕ) (n : ℕ) → AreRead text rest count ns → IsWholeThen rest n 10 after → k ≡ count + 1 → more ≡ ns ++ n ∷ []
     → IsListThen text k more after
 read_last text rest after count k ns more n read next counts is whole fields are =
     let was = read.front whole fields are in
@@ -315,7 +285,7 @@ says_preds b k fields block count ns one other long are =
     ∙ ap (λ (t : Bool). cond t (wholes_of fields) (Err CountWrong) >>= (λ listed. Ok (block, listed))) same
     ∙ ap (λ (r : Result (List ℕ) Cause). r >>= (λ listed. Ok (block, listed))) are
 
-pub no_preds : (text behind rest : List ℕ) (block k : ℕ) (ns : List ℕ) → IsNumberThen text block 32 behind → IsNumberThen behind k 10 rest → k ≡ 0 → ns ≡ [] → SaysPreds text block ns rest
+pub no_preds : (text behind rest : List ℕ) (block k : ℕ) (ns : List ℕ) → IsWholeThen text block 32 behind → IsWholeThen behind k 10 rest → k ≡ 0 → ns ≡ [] → SaysPreds text block ns rest
 no_preds text behind rest block k ns one other nothing none = (
   one.digits,
   other.digits ∷ [],
@@ -323,7 +293,7 @@ no_preds text behind rest block k ns one other nothing none = (
   says_preds one.digits other.digits [] block k ns one.number other.number (sym nothing) (ap (λ (l : List ℕ). Ok l) (sym none)),
 )
 
-pub some_preds : (text behind next rest : List ℕ) (block count : ℕ) (ns : List ℕ) → IsNumberThen text block 32 behind → IsNumberThen behind count 32 next → IsListThen next count ns rest → SaysPreds text block ns rest
+pub some_preds : (text behind next rest : List ℕ) (block count : ℕ) (ns : List ℕ) → IsWholeThen text block 32 behind → IsWholeThen behind count 32 next → IsListThen next count ns rest → SaysPreds text block ns rest
 some_preds text behind next rest block count ns one other listed =
     let front = fields_more text behind next (one.digits ∷ []) count (fields_more text text behind [] block (fields_start text) one) other in
     let said = listed text (one.digits ∷ other.digits ∷ []) front in (

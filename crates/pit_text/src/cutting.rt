@@ -8,4 +8,3 @@ mod plain;
 
 pub use fields::Fields;
 pub use lines::{Line, Lines};
-pub(crate) use plain::number_before;

@@ -1,8 +1,10 @@
-ghost use Rattle.std.specs.Prelude.{◌≡◌, ◌+◌, ◌-◌, ◌*◌, ◌^◌, ◌<◌, ◌≤◌};
+ghost use Rattle.std.specs.Prelude.{◌≡◌, ◌+◌, ◌-◌, ◌*◌, ◌^◌, ◌<◌, ◌≤◌, IfSome};
 ghost use Rattle.pit_num.specs.Decimal.{micro_of, with_sign};
+ghost use Rattle.pit_num.specs.Front.{IsMicroThen};
+ghost use Rattle.pit_num.specs.Inside.Decimal.{IsFractionThen};
 
 use super::digits::{SHORT_MAX, are_digits, leading_digits};
-use super::parts::{after_front_point, split_exponent, split_point, split_sign};
+use super::parts::{after_front_point, split_exponent, split_minus, split_point, split_sign};
 use super::scale::magnitude;
 use super::{DIGITS_MAX, EXPONENT_DIGITS_MAX, NumError};
 use crate::limits::MICRO_LIMIT;
@@ -31,6 +33,40 @@ pub fn micro_from_bytes(text: &[u8]) -> Result<i64, NumError>
     }
     let magnitude = plain_magnitude(whole, fraction, places);
     Ok(with_sign(negative, magnitude))
+}
+
+/// The decimal that a text begins with, without a plus sign or an exponent, of at most 12 digits before its point and 6
+/// behind it, where this byte follows, and what follows that byte. Takes no memory.
+#[inline]
+pub fn micro_before(text: &[u8], end: u8) -> Option<(i64, &[u8])>
+    ensures { IfSome result (λ read. IsMicroThen text.now read.0 end read.1.now) }
+{
+    let (negative, unsigned) = split_minus(text);
+    let (whole, digits) = leading_digits(&unsigned[..unsigned.len().min(PLAIN_DIGITS)]);
+    let (fraction, places, behind) = leading_fraction(&unsigned[digits..]);
+    if digits + places == 0 {
+        return None;
+    }
+    let magnitude = plain_magnitude(whole, fraction, places);
+    match behind {
+        [b, rest @ ..] if *b == end => Some((with_sign(negative, magnitude), rest)),
+        _ => None,
+    }
+}
+
+/// The digits behind a point that a text begins with, at most `PLACES`, as a number; how many they are; and what follows.
+/// Where no point stands there, none.
+#[inline]
+fn leading_fraction(text: &[u8]) -> (u64, usize, &[u8])
+    ensures { IsFractionThen text.now result.0 result.1 result.2.now }
+{
+    match text {
+        [b'.', behind @ ..] => {
+            let (fraction, places) = leading_digits(&behind[..behind.len().min(PLACES)]);
+            (fraction, places, &behind[places..])
+        }
+        _ => (0, 0, text),
+    }
 }
 
 /// The decimal places of a number of millionths.

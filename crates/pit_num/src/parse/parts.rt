@@ -1,7 +1,7 @@
 ghost use Rattle.std.specs.Prelude.{◌≡◌, ◌+◌, ◌≤◌, length, [], IsTrue, IsSome, IfSome, IfNone, ◌↔◌};
 ghost use Rattle.std.specs.List.{before_first, after_first, list_any, position};
 ghost use Rattle.pit_num.specs.Decimal.{is_negative, after_sign, is_point, is_e};
-ghost use Rattle.pit_num.specs.Inside.Decimal.{after_front_point};
+ghost use Rattle.pit_num.specs.Inside.Decimal.{after_front_point, with_minus};
 
 /// Whether a minus sign stands in front, and what follows the sign.
 #[inline]
@@ -12,6 +12,17 @@ pub fn split_sign(text: &[u8]) -> (bool, &[u8])
     match text {
         [b'-', rest @ ..] => (true, rest),
         [b'+', rest @ ..] => (false, rest),
+        _ => (false, text),
+    }
+}
+
+/// Whether a minus sign stands in front, and what follows it. A plus sign is none here.
+#[inline]
+pub fn split_minus(text: &[u8]) -> (bool, &[u8])
+    ensures { text.now ≡ with_minus result.0 result.1.now }
+{
+    match text {
+        [b'-', rest @ ..] => (true, rest),
         _ => (false, text),
     }
 }

@@ -2,22 +2,12 @@
 use Rattle.std.specs.Prelude.{◌≡◌, ℕ, ◌<◌, ◌==◌, ◌||◌, Bool, true, false, List, [], ◌∷◌, ◌++◌, length, Ok}
 use Rattle.std.specs.List.{list_all}
 use Rattle.std.specs.Char.{is_ascii_digit}
-use Rattle.pit_num.specs.Decimal.{whole_of}
+use Rattle.pit_num.specs.Front.{is_value}
 use Rattle.pit_text.specs.Cutting.{lines_of, fields_of, is_comment, is_last}
 use Rattle.pit_text.specs.Numbers.{whole_field}
 use Rattle.pit_text.specs.Precedence.{wholes_of, preds_line}
 
--- a text begins with the digits of this number and with this byte, and this is behind them
-pub record IsNumberThen (text : List ℕ) (n end : ℕ) (rest : List ℕ) : Type 0 where
-  pub digits : List ℕ
-  pub whole : text ≡ digits ++ end ∷ rest
-  pub number : whole_of digits ≡ Ok n
-
--- a digit, a minus or a point
-abbrev pub is_value : ℕ → Bool
-is_value b = is_ascii_digit b || b == 45 || b == 46
-
--- one of these, or a blank
+-- a byte of a number, or a blank
 abbrev pub is_plain : ℕ → Bool
 is_plain b = is_value b || b == 32
 

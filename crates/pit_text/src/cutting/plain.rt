@@ -1,21 +1,15 @@
-ghost use Rattle.std.specs.Prelude.{◌≡◌, ◌^◌, ◌<◌, ◌≤◌, List, ℕ, length, take, IfOk, IfSome};
-ghost use Rattle.std.specs.List.{prefix_len};
-ghost use Rattle.std.specs.Str.Parse.{digits_value};
-ghost use Rattle.std.specs.Char.{is_ascii_digit};
-ghost use Rattle.pit_text.specs.Inside.Plain.{IsNumberThen, IsLineThen, IsListThen, SaysPreds, ArePair};
+ghost use Rattle.std.specs.Prelude.{◌<◌, List, ℕ, IfOk, IfSome};
+ghost use Rattle.pit_text.specs.Inside.Plain.{IsLineThen, IsListThen, SaysPreds, ArePair};
 
-use pit_num::NoMemory;
+use pit_num::{NoMemory, whole_before};
 use std::alloc::Allocator;
-
-/// So many digits write a number below 2^32.
-const SHORT_MAX: usize = 9;
 
 /// The numbers of a plain line of two fields that a text begins with, and what follows the line.
 pub(crate) fn pair_line(text: &[u8]) -> Option<(u32, u32, &[u8])>
     ensures { IfSome result (λ read. (fields : List (List ℕ)) × IsLineThen text.now fields read.2.now × ArePair fields read.0 read.1) }
 {
-    let (first, behind) = number_before(text, b' ')?;
-    let (second, rest) = number_before(behind, b'\n')?;
+    let (first, behind) = whole_before(text, b' ')?;
+    let (second, rest) = whole_before(behind, b'\n')?;
     Some((first, second, rest))
 }
 
@@ -28,13 +22,13 @@ pub(crate) fn counted_line<'a, B: Allocator + Drop>(
     ensures { IfOk result (λ found. IfSome found (λ read. SaysPreds text.now read.0 listed.new.items read.1.now)) }
 {
     listed.clear();
-    let Some((first, behind)) = number_before(text, b' ') else {
+    let Some((first, behind)) = whole_before(text, b' ') else {
         return Ok(None);
     };
-    if let Some((0, rest)) = number_before(behind, b'\n') {
+    if let Some((0, rest)) = whole_before(behind, b'\n') {
         return Ok(Some((first, rest)));
     }
-    let Some((count, behind)) = number_before(behind, b' ') else {
+    let Some((count, behind)) = whole_before(behind, b' ') else {
         return Ok(None);
     };
     if count == 0 {
@@ -59,49 +53,16 @@ fn listed_line<'a, B: Allocator + Drop>(
     let mut rest = text;
     let mut left = count;
     while left > 1 {
-        let Some((n, behind)) = number_before(rest, b' ') else {
+        let Some((n, behind)) = whole_before(rest, b' ') else {
             return Ok(None);
         };
         listed.push(n)?;
         rest = behind;
         left -= 1;
     }
-    let Some((n, behind)) = number_before(rest, b'\n') else {
+    let Some((n, behind)) = whole_before(rest, b'\n') else {
         return Ok(None);
     };
     listed.push(n)?;
     Ok(Some(behind))
-}
-
-/// The number of the few digits that a text begins with, where this byte follows them, and what follows that.
-#[inline]
-pub(crate) fn number_before(text: &[u8], end: u8) -> Option<(u32, &[u8])>
-    ensures { IfSome result (λ read. IsNumberThen text.now read.0 end read.1.now) }
-{
-    let (n, digits) = leading_digits(&text[..text.len().min(SHORT_MAX)]);
-    if digits == 0 {
-        return None;
-    }
-    match &text[digits..] {
-        [b, rest @ ..] if *b == end => Some((n, rest)),
-        _ => None,
-    }
-}
-
-/// The number that the digits at the front of a short text write, and how many they are.
-#[inline]
-fn leading_digits(text: &[u8]) -> (u32, usize)
-    requires { length text.now ≤ SHORT_MAX }
-    ensures count { result.1 ≡ prefix_len is_ascii_digit text.now }
-    ensures value { result.0 ≡ digits_value 10 (take result.1 text.now) }
-{
-    let mut n = 0u32;
-    for i in 0..text.len() {
-        let b = text[i];
-        if !b.is_ascii_digit() {
-            return (n, i);
-        }
-        n = n * 10 + u32::from(b - b'0');
-    }
-    (n, text.len())
 }

@@ -1,18 +1,16 @@
 //! Plain lines of sections.
-ghost use Rattle.std.specs.Prelude.{◌≡◌, not, Some, IfSome, IfNone};
-ghost use Rattle.std.specs.List.{position};
+ghost use Rattle.std.specs.Prelude.{◌≡◌, Some, IfSome, IfNone};
 ghost use Rattle.std.specs.Option.{option_map};
 ghost use Rattle.pit_text.specs.Left.{fields_left, LinesStep};
 ghost use Rattle.pit_text.specs.declared.model.section.Section.{Section};
 ghost use Rattle.pit_text.specs.declared.model.section.Section.TheVariants.{Objective, Coefficients};
 ghost use Rattle.pit_text.specs.declared.model.section_fact.SectionFact.TheVariants.{Profit, Coefficient};
-ghost use Rattle.pit_text.specs.Inside.Plain.{is_value};
-ghost use Rattle.pit_text.specs.Inside.PlainFacts.{IsFieldThen, IsValueThen, IsSaid, SaysFact};
+ghost use Rattle.pit_text.specs.Inside.PlainFacts.{IsSaid, SaysFact};
 
 use super::section::Section;
 use super::section_fact::SectionFact;
-use crate::cutting::{Line, Lines, number_before};
-use pit_num::micro_from_bytes;
+use crate::cutting::{Line, Lines};
+use pit_num::{micro_before, whole_before};
 
 /// What `next` of the lines answers; where the line is a plain one of this section, what it says beside it.
 pub(crate) fn next_said<'a>(
@@ -61,52 +59,16 @@ fn said_in_front(section: Section, text: &[u8]) -> Option<(SectionFact, &[u8])>
 fn profit_line(text: &[u8]) -> Option<(SectionFact, &[u8])>
     ensures { IfSome result (λ read. SaysFact Objective text.now read.0 read.1.now) }
 {
-    let (block, behind) = number_before(text, b' ')?;
-    let (value, rest) = value_before(behind)?;
+    let (block, behind) = whole_before(text, b' ')?;
+    let (value, rest) = micro_before(behind, b'\n')?;
     Some((SectionFact::Profit(block, value), rest))
 }
 
 fn coefficient_line(text: &[u8]) -> Option<(SectionFact, &[u8])>
     ensures { IfSome result (λ read. SaysFact Coefficients text.now read.0 read.1.now) }
 {
-    let (block, behind) = number_before(text, b' ')?;
-    let (resource, last) = number_before(behind, b' ')?;
-    let (value, rest) = value_before(last)?;
+    let (block, behind) = whole_before(text, b' ')?;
+    let (resource, last) = whole_before(behind, b' ')?;
+    let (value, rest) = micro_before(last, b'\n')?;
     Some((SectionFact::Coefficient(block, resource, value), rest))
-}
-
-/// The decimal that a text begins with, where it has no exponent and a line feed follows it, and what follows that.
-fn value_before(text: &[u8]) -> Option<(i64, &[u8])>
-    ensures { IfSome result (λ read. IsValueThen text.now read.0 read.1.now) }
-{
-    let (field, rest) = cut_value(text)?;
-    match micro_from_bytes(field) {
-        Ok(value) => Some((value, rest)),
-        Err(_) => None,
-    }
-}
-
-/// The digits, points and minus signs that a text begins with, where a line feed follows them, and what follows that.
-fn cut_value(text: &[u8]) -> Option<(&[u8], &[u8])>
-    ensures { IfSome result (λ cut. IsFieldThen text.now cut.0.now cut.1.now) }
-{
-    let end = value_end(text)?;
-    if text[end] != b'\n' {
-        return None;
-    }
-    Some((&text[..end], &text[end + 1..]))
-}
-
-/// The place of the first byte that is neither a digit, nor a point, nor a minus sign.
-fn value_end(text: &[u8]) -> Option<usize>
-    ensures { result ≡ position (λ b. not (is_value b)) text.now }
-{
-    text.iter().position(|b| !is_value(*b))
-}
-
-#[inline]
-fn is_value(b: u8) -> bool
-    ensures { result ≡ is_value b }
-{
-    b.is_ascii_digit() || b == b'-' || b == b'.'
 }

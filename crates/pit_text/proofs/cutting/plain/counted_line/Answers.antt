@@ -9,6 +9,6 @@ returns-in-Some-eq0-default g c =
 
 pub returns-in-Some-2 : goal.returns-in-Some-2
 returns-in-Some-2 g c =
-    let next = c.in-Some-number_before.behind.now in
-    let listed = some_of c.in_ok-rest.field-0 c.in-Some-2.rest (λ r. IsListThen next c.in-Some-number_before.count c.listed_line.new.listed.items r.now) c.in-Some-2.is c.in_ok-rest.ensures in
-    some_preds c.args.text.now c.in-Some.behind.now next c.in-Some-2.rest.now c.in-Some.first c.in-Some-number_before.count c.listed_line.new.listed.items c.in-Some.ensures c.in-Some-number_before.ensures listed
+    let next = c.in-Some-whole_before.behind.now in
+    let listed = some_of c.in_ok-rest.field-0 c.in-Some-2.rest (λ r. IsListThen next c.in-Some-whole_before.count c.listed_line.new.listed.items r.now) c.in-Some-2.is c.in_ok-rest.ensures in
+    some_preds c.args.text.now c.in-Some.behind.now next c.in-Some-2.rest.now c.in-Some.first c.in-Some-whole_before.count c.listed_line.new.listed.items c.in-Some.ensures c.in-Some-whole_before.ensures listed

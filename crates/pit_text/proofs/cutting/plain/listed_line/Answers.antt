@@ -18,4 +18,4 @@ loop-left-preserved g c = record {
 
 pub returns : goal.returns
 returns g c =
-    read_last c.args.text.now c.loop-left.rest.now c.in-Some-number_before.behind.now (c.args.count - c.loop-left.left) c.args.count c.loop-left.listed.items _ c.in-Some-number_before.n c.loop-left.invariant.read c.in-Some-number_before.ensures (omega arith) c.in_ok-push-2.ensures.items
+    read_last c.args.text.now c.loop-left.rest.now c.in-Some-whole_before.behind.now (c.args.count - c.loop-left.left) c.args.count c.loop-left.listed.items _ c.in-Some-whole_before.n c.loop-left.invariant.read c.in-Some-whole_before.ensures (omega arith) c.in_ok-push-2.ensures.items
