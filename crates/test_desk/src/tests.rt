@@ -1,15 +1,14 @@
-//! The sets of transactions, plans, and desks, over pits that were written down by hand, or drawn.
+//! The sets of transactions, plans, and desks, over pits that were written down by hand.
 //!
 //! One harness serves all. `calls` makes works of what transactions do, and compares entries with that. A story is what a desk is called, and what
 //! comes of its history; `stories` plays it, and `worked`, `revised`, `resumed` and `wrong` have those that were worked by hand. `opened` is about
-//! desks that are opened or full, and `steps` about the two steps of a commit. `plans` has plans that were worked by hand, and `drawn` lists of
-//! commits that look random. `sets` is about the sets of a transaction. In `memory`, `large` and `sets` each request for memory is refused in turn.
+//! desks that are opened or full, and `steps` about the two steps of a commit. `plans` has a plan judge and get commits. `sets` is about the sets of a
+//! transaction. In `memory`, `large` and `sets` each request for memory is refused in turn.
 ghost use Rattle.std.specs.Prelude.{◌≡◌, ◌<◌, true, All, map};
 ghost use Rattle.std.specs.List.Sorted.{IsStrictlyIncreasing};
 ghost use Rattle.pit_model.specs.Fitting.{IsSchedule};
 
 mod calls;
-mod drawn;
 mod large;
 mod memory;
 mod opened;

@@ -4,7 +4,6 @@ use EntryReply::Refused;
 use pit_desk::{Act, Desk, Entry, EntryReply, Refusal, Stop, entry_reply_of};
 use pit_model::{BLOCKS_MAX, RESOURCES_MAX};
 use pit_num::PERIODS_MAX;
-use pit_plan::Breach;
 use pit_sample::{Size, has_pairs};
 use pit_tx::{LimitMap, Work, WorkError};
 use std::alloc::Allocator;
@@ -53,20 +52,6 @@ pub(super) fn reply_of(due: Due) -> EntryReply {
             load,
             limit,
         }),
-    }
-}
-
-/// The breach that a refusal tells, if it tells one.
-pub(super) fn breach_of(due: Option<Due>) -> Option<Breach> {
-    match due {
-        Some(Due::Late(block, before)) => Some(Breach::Precedence { block, before }),
-        Some(Due::Over(resource, period, load, limit)) => Some(Breach::Over {
-            resource,
-            period,
-            load,
-            limit,
-        }),
-        _ => None,
     }
 }
 
