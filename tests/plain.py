@@ -6,7 +6,8 @@ usage: tests/plain.py PIT [PITS [SEED]]      60 pits from seed 1, where these ar
 
 Plain are digits with single blanks between and a line feed behind, in some texts a minus and a point. The other forms have doubled blanks, tabs, colons,
 carriage returns, blanks at the ends of lines, or zeros before numbers. Whole numbers have 1 to 12 digits, on both sides of the nine that a plain line may
-have. Some texts have faults, and one pit's texts are cut behind each byte. Ends with status 1 at the first difference, and leaves the texts.
+have, and decimals up to 16 and 7, on both sides of its twelve before a point and six behind it. Some texts have faults, and one pit's texts are cut behind
+each byte. Ends with status 1 at the first difference, and leaves the texts.
 """
 import os
 import random
@@ -47,8 +48,8 @@ def number(draw, n):
 
 
 def value(draw):
-    whole = draw.choice(["0", "7", "12", "345", "98765432", "123456789012", "0000000000000001"])
-    return draw.choice(["", "", "-"]) + whole + draw.choice(["", "", ".", ".5", ".000001", ".1234567"])
+    whole = draw.choice(["0", "7", "12", "345", "98765432", "123456789012", "0123456789012", "0000000000000001"])
+    return draw.choice(["", "", "-"]) + whole + draw.choice(["", "", ".", ".5", ".000001", ".123456", ".1234567"])
 
 
 WRONG = [
