@@ -9,3 +9,5 @@ pub mod Plain
 pub mod Wholes
 pub mod Fronts
 pub mod CallerLemmas
+pub mod Eight
+pub mod EightLanes

@@ -1,4 +1,5 @@
 mod digits;
+mod eight;
 mod micro;
 mod parts;
 mod scale;
