@@ -1,5 +1,5 @@
 -- The number that eight digits in the bytes of a word write.
-use Rattle.std.proofs.Common.{◌≡◌, ℕ, zero, suc, ◌+◌, ◌-◌, ◌*◌, ◌/◌, ◌%◌, ◌^◌, ◌<◌, ◌≤◌, List, [], ◌∷◌, length, bit_and, refl, sym, ap, ◌∙◌, arith}
+use Rattle.std.proofs.Common.{◌≡◌, ℕ, ◌+◌, ◌*◌, ◌/◌, ◌%◌, ◌^◌, ◌<◌, List, [], ◌∷◌, length, bit_and, ap, ◌∙◌, arith}
 use lib.Arith.{digits_div, digits_mod}
 use lib.Bits.{and_block, and_mask}
 use lib.Lanes.{number_l}

@@ -1,5 +1,5 @@
 -- The digits in front of eight bytes, which a load reads at once.
-use Rattle.std.proofs.Common.{◌≡◌, ℕ, zero, suc, ◌+◌, ◌-◌, ◌*◌, ◌/◌, ◌%◌, ◌^◌, ◌<◌, ◌≤◌, ◌&&◌, Bool, true, false, not, cond, ltb, eqb, List, [], ◌∷◌, ◌++◌, map, length, get_or, take, drop, replicate, bit_xor, refl, sym, ap, ◌∙◌, arith, length-take, Fits, w8, w64}
+use Rattle.std.proofs.Common.{◌≡◌, ℕ, zero, suc, ◌+◌, ◌-◌, ◌*◌, ◌%◌, ◌^◌, ◌<◌, ◌≤◌, ◌&&◌, Bool, true, false, not, cond, ltb, eqb, min, List, [], ◌∷◌, ◌++◌, map, length, get_or, take, replicate, bit_xor, refl, sym, ap, ◌∙◌, arith, length-take, Fits, w8, w64}
 use lib.Arith.{digits_div, digits_mod, mod-mul}
 use lib.Bits.{xor_lt}
 use lib.Lanes.{number_l, mask_l, top, zip2}
@@ -12,7 +12,7 @@ use Rattle.std.specs.Char.{digit_value, is_ascii_digit}
 use Rattle.std.specs.List.{prefix_len}
 use Rattle.std.proofs.Math.Nat.{mul-div_cancel, add-zero, pow-suc, zero-mod, mul-mod_left}
 use Rattle.std.proofs.lemmas.Bool.Decides.{nat_tests}
-use Rattle.std.proofs.lemmas.Bool.{agree_below, agree_below_at}
+use Rattle.std.proofs.lemmas.Bool.{eqb-true, agree_below_at}
 use Rattle.std.proofs.lemmas.Simd.{zip2_splat, zip2_splat_left, mask_l-mod}
 use Rattle.std.proofs.lemmas.Int.Digits.{digits_value_is}
 
@@ -127,3 +127,22 @@ shifted_is xs n word eight digits few e =
       p.2 ∙ ap (number_from_digits 10) v.1 ∙ sym (digits_value_is 10 (take n xs)),
     )
 
+-- the shift of bits is one of bytes
+powers : (k : ℕ) → k < 9 → eqb (2 ^ (8 * k)) (256 ^ k) ≡ true
+powers k h = agree_below_at (λ j. eqb (2 ^ (8 * j)) (256 ^ j)) (λ _. true) 9 k refl h
+
+pub bytes_up : (word k : ℕ) → k < 9 → word * 2 ^ (8 * k) % 2 ^ 64 ≡ word * 256 ^ k % 2 ^ 64
+bytes_up word k h =
+    let same : 2 ^ (8 * k) ≡ 256 ^ k = eqb-true _ _ (powers k h) in
+    ap (λ p. word * p % 2 ^ 64) same
+
+-- ---- from the first bytes to all
+
+one_more : (n run whole : ℕ) (b : Bool) → run ≡ min n whole → cond b (1 + run) 0 ≡ min (suc n) (cond b (1 + whole) 0)
+one_more n run whole true h = omega arith
+one_more n run whole false h = omega arith
+
+pub run_in_front : (xs : List ℕ) (n : ℕ) → prefix_len is_ascii_digit (take n xs) ≡ min n (prefix_len is_ascii_digit xs)
+run_in_front xs zero = omega arith
+run_in_front [] (suc n) = omega arith
+run_in_front (x ∷ xs) (suc n) = one_more n _ _ (is_ascii_digit x) (run_in_front xs n)

@@ -5,6 +5,7 @@ ghost use Rattle.std.specs.Char.{is_ascii_digit};
 ghost use Rattle.pit_num.specs.Decimal.{are_digits};
 
 use super::DIGITS_MAX;
+use super::eight::{LANES, leading_in_lanes};
 
 /// The greatest length of a text whose digits always write a number below 2^64.
 pub const SHORT_MAX: usize = 19;
@@ -24,8 +25,27 @@ pub fn leading_digits(text: &[u8]) -> (u64, usize)
     ensures value { result.0 ≡ digits_value 10 (take result.1 text.now) }
     ensures bound { result.0 < 10 ^ result.1 }
 {
-    let mut n = 0u64;
-    for i in 0..text.len() {
+    if text.len() < LANES {
+        return leading_digits_from(text, 0, 0);
+    }
+    let (n, digits) = leading_in_lanes(text);
+    if digits < LANES {
+        return (n, digits);
+    }
+    leading_digits_from(text, n, LANES)
+}
+
+/// The same, where so many digits at the front are known to write this number.
+fn leading_digits_from(text: &[u8], front: u64, digits: usize) -> (u64, usize)
+    requires short { length text.now ≤ SHORT_MAX }
+    requires digits { digits ≤ prefix_len is_ascii_digit text.now }
+    requires front { front ≡ digits_value 10 (take digits text.now) }
+    ensures count { result.1 ≡ prefix_len is_ascii_digit text.now }
+    ensures value { result.0 ≡ digits_value 10 (take result.1 text.now) }
+    ensures bound { result.0 < 10 ^ result.1 }
+{
+    let mut n = front;
+    for i in digits..text.len() {
         let b = text[i];
         if !b.is_ascii_digit() {
             return (n, i);
