@@ -1,6 +1,6 @@
 -- What writes leave of a list that has an item for each number.
 use Rattle.std.proofs.Common.{◌≡◌, ◌≢◌, ℕ, zero, suc, ◌+◌, ◌*◌, ◌<◌, ℤ, cond, List, [], ◌∷◌, ◌++◌, length, length-append, length-set, take, get_or, Option, Some, None, refl, sym, ap, subst, ◌∙◌, arith, inl, inr}
-use Rattle.std.specs.Prelude.{nat_eq, unwrap_or, is_some, slice_set, replicate, AllPairs}
+use Rattle.std.specs.Prelude.{nat_eq, unwrap_or, is_some, slice_set, replicate, All, AllPairs}
 use Rattle.std.specs.Map.{lookup}
 use Rattle.std.specs.List.{AllByRecursion}
 use Rattle.std.proofs.lemmas.List.{take_more, get_or-set_same, get_or-set_other, get_or-replicate}
@@ -9,9 +9,10 @@ use Rattle.std.proofs.lemmas.List.Elements.{recursion_from_All}
 use Rattle.std.proofs.lemmas.Bool.Decides.{eqb_tells}
 use Rattle.pit_model.specs.Fitting.{Fits, RevisionsFit}
 use Rattle.pit_model.specs.Pit.{Pit, cell_of, upper_of}
-use Rattle.pit_plan.specs.Schedule.{Commit, write_of, revision_of, held_period, last_number, limit_of}
+use Rattle.pit_plan.specs.Schedule.{Commit, Writes, by_block, write_of, revision_of, held_period, last_number, limit_of}
 use Rattle.pit_plan.specs.Standing.{Standing, IsPlanOf, Adds}
 use Rattle.pit_plan.specs.Inside.Plan.{with_writes}
+use Rattle.pit_plan.specs.Inside.Touched.{overlaid_item}
 use Rattle.pit_plan.specs.Limits.{cell_limit, at_cell}
 use Rattle.pit_plan.specs.Inside.Limits.{by_cell}
 use Rattle.pit_plan.proofs.Commits.{held_period-nil, held_period-push, last_number-nil, last_number-push, limit_of-nil, limit_of-push}
@@ -75,6 +76,26 @@ with_writes-named {Y = Y} value xs (w ∷ ws) b d p once below some =
       | inr there ↦
           with_writes-named value (slice_set xs w.0 (value w)) ws b d p once.1 (simp length-set below) (sym (ap (λ x. cond x (Some w.1) (lookup (nat_eq b) ws)) there.0) ∙ some)
     ]
+
+-- a block that a write names is in range, where each write is
+named-below : {Y : Type 0} (ws : List (ℕ × Y)) (b n : ℕ) (p : Y) → AllByRecursion (λ w. w.0 < n) ws → lookup (nat_eq b) ws ≡ Some p → b < n
+named-below [] b n p each some = absurd (cc (some))
+named-below (w ∷ ws) b n p each some =
+    elim (eqb_tells b w.0) [
+      | inl here ↦ subst (λ (k : ℕ). k < n) (sym here.1) each.0
+      | inr there ↦ named-below ws b n p each.1 (sym (ap (λ x. cond x (Some w.1) (lookup (nat_eq b) ws)) there.0) ∙ some)
+    ]
+
+-- periods into which writes are laid are those over which they are laid
+pub with_writes-overlaid : (periods : List (Option ℕ)) (writes : Writes) (b : ℕ) → AllPairs (λ v w. v.0 ≢ w.0) writes → All (λ w. w.0 < length periods) writes
+    → by_block (with_writes (λ w. w.1) periods writes) b ≡ overlaid_item (by_block periods) writes b
+with_writes-overlaid periods writes b once below = by (lookup (nat_eq b) writes) refl
+  where
+    by : (x : Option (Option ℕ)) → lookup (nat_eq b) writes ≡ x → by_block (with_writes (λ w. w.1) periods writes) b ≡ overlaid_item (by_block periods) writes b
+    by None is = with_writes-other (λ w. w.1) periods writes b None is ∙ sym (ap (λ y. unwrap_or y (by_block periods b)) is)
+    by (Some p) is =
+        let known = named-below writes b (length periods) p (recursion_from_All (λ w. w.0 < length periods) writes below) is in
+        with_writes-named (λ w. w.1) periods writes b None p (once-from_pairs writes once) known is ∙ sym (ap (λ y. unwrap_or y (by_block periods b)) is)
 
 -- the plan after a commit stands for what it stood for and then the commit
 pub with_writes-adds : (old : Standing) (commit : Commit) → length old.periods ≡ old.pit.blocks → length old.versions ≡ old.pit.blocks → length old.limits ≡ old.pit.periods * old.pit.resources

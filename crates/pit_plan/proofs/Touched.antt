@@ -118,6 +118,16 @@ out-next pit s writes k w least before behind within is near first last =
     NearOrFirst : ℕ × ℕ → Type 0
     NearOrFirst p = IsOutNear pit s (take k writes) p ⊎ (IsOutOfOrder pit s p × (p.0 ≡ w))
 
+-- pairs that are out of order in a schedule are so in an equal one
+out-same : (pit : Pit) (s t : ℕ → Option ℕ) (p : ℕ × ℕ) → ((b : ℕ) → s b ≡ t b) → IsOutOfOrder pit s p → IsOutOfOrder pit t p
+out-same pit s t p same out = (out.0, ap (λ (x : Option ℕ). in_order x (t p.1)) (sym (same p.0)) ∙ (ap (λ (x : Option ℕ). in_order (s p.0) x) (sym (same p.1)) ∙ out.1))
+
+-- and so is the least of those near the writes
+pub out_near-same : (pit : Pit) (s t : ℕ → Option ℕ) (writes : Writes) (found : Option (ℕ × ℕ)) → ((b : ℕ) → s b ≡ t b) → IsLeast ComesBefore (IsOutNear pit s writes) found → IsLeast ComesBefore (IsOutNear pit t writes) found
+out_near-same pit s t writes found same least =
+    least-same ComesBefore (IsOutNear pit s writes) (IsOutNear pit t writes) found least
+    (λ p near. (out-same pit s t p same near.0, near.1)) (λ p near. (out-same pit t s p (λ b. sym (same b)) near.0, near.1))
+
 -- a number that the list doesn't name has what was there
 overlaid_item-absent : {X : Type 0} (before : ℕ → X) (pairs : List (ℕ × X)) (k : ℕ) → is_some (lookup (nat_eq k) pairs) ≡ false → overlaid_item before pairs k ≡ before k
 overlaid_item-absent {X = X} before pairs k none = by (lookup (nat_eq k) pairs) none

@@ -14,7 +14,7 @@ ghost use Rattle.pit_plan.specs.Inside.Touched.{overlaid_item, lesser_of, IsOutN
 use crate::breach::Breach;
 use crate::limits::Limits;
 use crate::moving::{look_at_revised, moved_loads};
-use crate::overlay::{FEW, Few, One, Overlay, Pairs, revised, written};
+use crate::overlay::{FEW, Few, MANY, One, Overlay, Pairs, periods_after, revised, written};
 use crate::schedule::{Schedule, first_late, keeps_order};
 use crate::tally::Tally;
 use pit_model::Instance;
@@ -82,6 +82,10 @@ fn first_out_after<A: Allocator + Copy + Drop>(
     }
     if writes.len() <= FEW {
         return Ok(first_out_near(pit, &Few { kept, writes }, writes));
+    }
+    if writes.len() >= kept.len() / MANY {
+        let after = periods_after(alloc, kept, writes)?;
+        return Ok(first_out_near(pit, &after, writes));
     }
     let after = Overlay {
         kept,

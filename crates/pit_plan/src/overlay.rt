@@ -1,8 +1,9 @@
 //! Periods and limits, over which writes and revisions are laid.
-ghost use Rattle.std.specs.Prelude.{◌≡◌, ◌≢◌, ◌+◌, ◌*◌, ◌<◌, None, [], ◌∷◌, length, nat_eq, slice_index_or, IfOk, IfErr, AllPairs};
+ghost use Rattle.std.specs.Prelude.{◌≡◌, ◌≢◌, ◌+◌, ◌*◌, ◌<◌, None, [], ◌∷◌, length, nat_eq, slice_index_or, IfOk, IfErr, All, AllPairs};
 ghost use Rattle.std.specs.Map.{lookup};
 ghost use Rattle.pit_model.specs.Fitting.{RevisionsFit, revisions_of};
 ghost use Rattle.pit_plan.specs.Schedule.{by_block};
+ghost use Rattle.pit_plan.specs.Inside.Plan.{with_writes};
 ghost use Rattle.pit_plan.specs.Limits.{cell_limit};
 ghost use Rattle.pit_plan.specs.Inside.Limits.{by_cell};
 ghost use Rattle.pit_plan.specs.Inside.Touched.{overlaid_item};
@@ -92,6 +93,47 @@ impl<'a> Schedule for One<'a> {
         } else {
             self.kept[b as usize]
         }
+    }
+}
+
+/// Writes to at least one block of so many are laid into a copy of all periods, where a period is found without a hash.
+pub(crate) const MANY: usize = 8;
+
+/// The periods of all blocks.
+impl<A: Allocator + Drop> Schedule for Vec<Option<u32>, A> {
+    ghost period_at = { λ periods. by_block periods.items };
+
+    ghost count = { λ periods. length periods.items };
+
+    fn period(&self, b: u32) -> Option<u32> {
+        self[b as usize]
+    }
+}
+
+/// A copy of the periods, into which the writes are laid.
+pub(crate) fn periods_after<A: Allocator + Copy + Drop>(
+    alloc: A,
+    kept: &[Option<u32>],
+    writes: &[(u32, Option<u32>)],
+) -> Result<Vec<Option<u32>, A>, NoMemory>
+    requires { All (λ w. w.0 < length kept.now) writes.now }
+    ensures { IfOk result (λ periods. periods.items ≡ with_writes (λ w. w.1) kept.now writes.now) }
+{
+    let mut periods = kept.to_vec(alloc)?;
+    write_periods(&mut periods, writes);
+    Ok(periods)
+}
+
+/// Gives each written block its period.
+fn write_periods<A: Allocator + Drop>(
+    periods: &mut Vec<Option<u32>, A>,
+    writes: &[(u32, Option<u32>)],
+)
+    requires { All (λ w. w.0 < length periods.old.items) writes.now }
+    ensures { periods.new.items ≡ with_writes (λ w. w.1) periods.old.items writes.now }
+{
+    for (block, period) in writes {
+        periods[*block as usize] = *period;
     }
 }
 
