@@ -51,7 +51,7 @@ fn overlaid_item<X: Copy, A: Allocator + Copy + Drop>(kept: &[X], pairs: &Pairs<
     }
 }
 
-/// Writes up to so many are looked through for a block. More are kept in a map, which takes memory.
+/// Writes up to so many are looked through for a block. More are kept in a map, or laid into a copy of all periods, which takes memory.
 pub(crate) const FEW: usize = 8;
 
 /// Periods, over which a few writes are laid.
@@ -96,7 +96,7 @@ impl<'a> Schedule for One<'a> {
     }
 }
 
-/// Writes to at least one block of so many are laid into a copy of all periods, where a period is found without a hash.
+/// Where one block of so many is written, or more, the writes are laid into a copy of all periods, where a period is found without a hash.
 pub(crate) const MANY: usize = 8;
 
 /// The periods of all blocks.

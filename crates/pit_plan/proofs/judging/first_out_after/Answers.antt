@@ -33,5 +33,5 @@ returns-then-writes-kept-clause-least g c =
     let after : c.in_ok-after.after.items ≡ with_writes (λ w. w.1) periods writes = c.in_ok-after.ensures ∙ ap (λ (ps : List (Option ℕ)). with_writes (λ w. w.1) ps writes) kept in
     out_near-same pit (by_block c.in_ok-after.after.items) (overlaid_item (by_block periods) writes) writes c.first_out_near-then-writes-kept.result
     (λ b. ap (λ (ps : List (Option ℕ)). by_block ps b) after
-      ∙ with_writes-overlaid periods writes b c.requires.fits.once (λ k d l. omega (arith, c.requires.fits.keys k d l, c.requires.tally.each_period)))
+    ∙ with_writes-overlaid periods writes b c.requires.fits.once (λ k d l. omega (arith, c.requires.fits.keys k d l, c.requires.tally.each_period)))
     c.first_out_near-then-writes-kept.ensures
