@@ -1,8 +1,8 @@
 -- What steps meet that stop.
 use Rattle.std.proofs.lemmas.List.Elements.{Contains-get_or}
-use Rattle.std.proofs.Common.{◌≡◌, ℕ, ◌<◌, List, length, get_or, Option, Some, None, refl, sym, ap, subst, ◌∙◌}
+use Rattle.std.proofs.Common.{◌≡◌, ℕ, ◌<◌, List, length, get_or, Bool, true, Option, Some, None, refl, sym, ap, subst, ◌∙◌}
 use Rattle.std.proofs.lemmas.Bool.{false≢true}
-use Rattle.std.specs.Prelude.{Result, Ok, Err, IfErr, IsErr, IsErrAnd}
+use Rattle.std.specs.Prelude.{Result, Ok, Err, IfErr, OnOk, OnErr, IsErr, IsErrAnd}
 use Rattle.pit_model.specs.Pit.{Pit}
 use Rattle.pit_plan.specs.Schedule.{last_number}
 use Rattle.pit_tx.specs.Sets.{known_of}
@@ -47,6 +47,15 @@ pub never-meets : (IsOne : ℕ → Type 0) (start other : ℕ) (seen more : List
 never-meets IsOne start other seen more (stop.Moved block version) meets = absurd meets.0
 never-meets IsOne start other seen more stop.NoMemory meets = tt
 never-meets IsOne start other seen more stop.NoEntry meets = tt
+
+pub never-stops : {X : Type 0} (IsOne : ℕ → Type 0) (start other : ℕ) (seen more : List Answered) (r : Result X StepStop) → IfErr r (Meets (λ block. ⊥) start seen) → IfErr r (Meets IsOne other more)
+never-stops IsOne start other seen more (Ok x) meets = tt
+never-stops IsOne start other seen more (Err s) meets = never-meets IsOne start other seen more s meets
+
+-- the only stop is want of memory
+pub told-stops : {X E : Type 0} (told : Result X E) (r : Result Bool StepStop) (Is : StepStop → Type 0) → OnOk told (r ≡ Ok true) → OnErr told (r ≡ Err stop.NoMemory) → Is stop.NoMemory → IfErr r Is
+told-stops (Ok x) r Is done stopped is = subst (λ (s : Result Bool StepStop). IfErr s Is) (sym done) tt
+told-stops (Err e) r Is done stopped is = subst (λ (s : Result Bool StepStop). IfErr s Is) (sym stopped) is
 
 -- one of the steps met it
 pub steps-meet : (xs : List Step) (i : ℕ) (d : Step) (start other : ℕ) (seen : List Answered) (s : StepStop) → i < length xs → other ≡ start

@@ -3,7 +3,7 @@ use Rattle.std.proofs.Math.Seq.{drop-cons}
 use Rattle.std.proofs.lemmas.List.{drop_all}
 use Rattle.std.proofs.lemmas.Bool.Decides.{eqb_tells}
 use Rattle.std.proofs.Common.{inl, inr, ◌≡◌, ℕ, ℤ, nat_eq, ◌+◌, ◌<◌, ◌≤◌, length, map, get_or, drop, add-one, Bool, true, false, cond, List, [], ◌∷◌, ◌++◌, Option, Some, None, refl, sym, ap, subst, ◌∙◌}
-use Rattle.std.specs.Prelude.{is_some, if◌then◌else◌, Result, Ok}
+use Rattle.std.specs.Prelude.{is_some, if◌then◌else◌, Result, Ok, Err, IfOk, OnOk, OnErr}
 use Rattle.pit_model.specs.Pit.{Pit}
 use Rattle.pit_plan.specs.Schedule.{Commit}
 use Rattle.pit_model.specs.Fitting.{pair_eq}
@@ -17,6 +17,8 @@ use Rattle.pit_script.specs.declared.step.Step.{Step}
 use Rattle.pit_script.specs.declared.step.Step.TheVariants as step
 use Rattle.pit_job.specs.Effect.{Agrees, Known, Effect, changes, read_in, seen, looked, moved_by, put_at, with_written, with_revised, with_bench, step_after, next, steps_after}
 use Rattle.pit_job.specs.Shifts.{shifted}
+use Rattle.pit_job.specs.declared.doing.StepStop.{StepStop}
+use Rattle.pit_job.specs.declared.doing.StepStop.TheVariants as stop
 use Rattle.pit_job.proofs.Agreeing.{seen-agrees}
 use Rattle.pit_job.specs.Inside.Doing.{own_of, Same, LooksUp, Puts, DoesStep, DoesSteps}
 use Rattle.pit_job.proofs.Seeing.{sees-same, sees-trans}
@@ -118,11 +120,15 @@ own-does pit old new s own same stated is = record {
   does = λ known agrees. stated known ∙ ap changes (sym is);
 }
 
-pub put-does : (pit : Pit) (old new : TransactionState) (b t : ℕ) → Same old new → own_of new.work ≡ with_written (own_of old.work) b (Some t) → DoesStep pit old (step.Put b t) true new
-put-does pit old new b t same is = own-does pit old new (step.Put b t) (with_written (own_of old.work) b (Some t)) same (λ known. refl) is
+pub put-does : (pit : Pit) (old new : TransactionState) (b t : ℕ) (goes : Bool) → Puts old b (Some t) goes new → DoesStep pit old (step.Put b t) goes new
+put-does pit old new b t goes puts =
+    subst (λ (o : Bool). DoesStep pit old (step.Put b t) o new) (sym puts.done)
+    (own-does pit old new (step.Put b t) (with_written (own_of old.work) b (Some t)) puts.same (λ known. refl) puts.own)
 
-pub clear-does : (pit : Pit) (old new : TransactionState) (b : ℕ) → Same old new → own_of new.work ≡ with_written (own_of old.work) b None → DoesStep pit old (step.Clear b) true new
-clear-does pit old new b same is = own-does pit old new (step.Clear b) (with_written (own_of old.work) b None) same (λ known. refl) is
+pub clear-does : (pit : Pit) (old new : TransactionState) (b : ℕ) (goes : Bool) → Puts old b None goes new → DoesStep pit old (step.Clear b) goes new
+clear-does pit old new b goes puts =
+    subst (λ (o : Bool). DoesStep pit old (step.Clear b) o new) (sym puts.done)
+    (own-does pit old new (step.Clear b) (with_written (own_of old.work) b None) puts.same (λ known. refl) puts.own)
 
 pub revise-does : (pit : Pit) (old new : TransactionState) (r t : ℕ) (upper : Option ℤ) → Same old new → own_of new.work ≡ with_revised (own_of old.work) r t upper → DoesStep pit old (step.Revise r t upper) true new
 revise-does pit old new r t upper same is = own-does pit old new (step.Revise r t upper) (with_revised (own_of old.work) r t upper) same (λ known. refl) is
@@ -144,16 +150,33 @@ shift-out pit old new b by t is_back is out = record {
   does = λ known agrees. ap (moved_by pit.periods (own_of old.work) b is_back by) (look-seen old new b (Some t) is known agrees) ∙ ap (put_at (own_of old.work) b) out;
 }
 
-pub shift-does : (pit : Pit) (old mid new : TransactionState) (b by t u : ℕ) (is_back : Bool) → LooksUp old b (Some t) mid → shifted pit.periods is_back by t ≡ Some u → Same mid new
-    → own_of new.work ≡ with_written (own_of mid.work) b (Some u) → DoesStep pit old (step.Shift b is_back by) true new
-shift-does pit old mid new b by t u is_back is in_range same put = record {
-  same = same-trans old mid new is.same same;
+pub shift-does : (pit : Pit) (old mid new : TransactionState) (b by t u : ℕ) (is_back goes : Bool) → LooksUp old b (Some t) mid → shifted pit.periods is_back by t ≡ Some u → Puts mid b (Some u) goes new
+    → DoesStep pit old (step.Shift b is_back by) goes new
+shift-does pit old mid new b by t u is_back goes is in_range puts = subst (λ (o : Bool). DoesStep pit old (step.Shift b is_back by) o new) (sym puts.done) record {
+  same = same-trans old mid new is.same puts.same;
   does = λ known agrees.
-      ap (moved_by pit.periods (own_of old.work) b is_back by) (look-seen old mid b (Some t) is known (Agrees-trans (read_in mid.work.reads) (read_in new.work.reads) known same.reads agrees))
+      ap (moved_by pit.periods (own_of old.work) b is_back by) (look-seen old mid b (Some t) is known (Agrees-trans (read_in mid.work.reads) (read_in new.work.reads) known puts.same.reads agrees))
       ∙ ap (put_at (own_of old.work) b) in_range
       ∙ ap (λ (own : Commit). changes (with_written own b (Some u))) (sym is.own)
-      ∙ ap changes (sym put);
+      ∙ ap changes (sym puts.own);
 }
+
+-- the same of what a call tells that only writes
+pub put-told : (pit : Pit) (old new : TransactionState) (b t : ℕ) (s : Step) (r : Result Bool StepStop) → s ≡ step.Put b t → IfOk r (λ goes. Puts old b (Some t) goes new) → IfOk r (λ goes. DoesStep pit old s goes new)
+put-told pit old new b t s (Ok goes) is puts = subst (λ (q : Step). DoesStep pit old q goes new) (sym is) (put-does pit old new b t goes puts)
+put-told pit old new b t s (Err e) is puts = tt
+
+pub clear-told : (pit : Pit) (old new : TransactionState) (b : ℕ) (s : Step) (r : Result Bool StepStop) → s ≡ step.Clear b → IfOk r (λ goes. Puts old b None goes new) → IfOk r (λ goes. DoesStep pit old s goes new)
+clear-told pit old new b s (Ok goes) is puts = subst (λ (q : Step). DoesStep pit old q goes new) (sym is) (clear-does pit old new b goes puts)
+clear-told pit old new b s (Err e) is puts = tt
+
+pub shift-told : (pit : Pit) (old mid new : TransactionState) (b by t u : ℕ) (is_back : Bool) (r : Result Bool StepStop) → LooksUp old b (Some t) mid → shifted pit.periods is_back by t ≡ Some u
+    → IfOk r (λ goes. Puts mid b (Some u) goes new) → IfOk r (λ goes. DoesStep pit old (step.Shift b is_back by) goes new)
+shift-told pit old mid new b by t u is_back (Ok goes) is in_range puts = shift-does pit old mid new b by t u is_back goes is in_range puts
+shift-told pit old mid new b by t u is_back (Err e) is in_range puts = tt
+
+pub shifted-as : (pit other : Pit) (is_back : Bool) (by t : ℕ) (r period : Option ℕ) → other ≡ pit → r ≡ shifted other.periods is_back by t → r ≡ period → shifted pit.periods is_back by t ≡ period
+shifted-as pit other is_back by t r period same is told = rw (sym same) (sym is ∙ told)
 
 -- ---- steps in order
 
@@ -204,21 +227,27 @@ writes-same old new writes planner work = record {
   reads = subst (λ (w : Sets). Agrees (read_in old.work.reads) (read_in w.reads)) (sym work) (Agrees-refl (read_in old.work.reads));
 }
 
-pub puts-of : (old new : TransactionState) (b : ℕ) (period : Option ℕ) → new.planner ≡ old.planner → new.work ≡ record old.work { writes = with_write nat_eq old.work.writes b period } → Puts old b period new
-puts-of old new b period planner work = record {
+pub write-puts : {X E : Type 0} (old new : TransactionState) (b : ℕ) (period : Option ℕ) (told : Result X E) (r : Result Bool StepStop) → OnOk told (r ≡ Ok true) → OnErr told (r ≡ Err stop.NoMemory)
+    → new.planner ≡ old.planner → OnOk told (new.work ≡ record old.work { writes = with_write nat_eq old.work.writes b period }) → IfOk r (λ goes. Puts old b period goes new)
+write-puts old new b period (Ok x) r done stopped planner work = subst (λ (s : Result Bool StepStop). IfOk s (λ goes. Puts old b period goes new)) (sym done) record {
+  done = refl;
   same = writes-same old new (with_write nat_eq old.work.writes b period) planner work;
   own = ap (λ (w : Sets). own_of w) work;
 }
+write-puts old new b period (Err e) r done stopped planner work = subst (λ (s : Result Bool StepStop). IfOk s (λ goes. Puts old b period goes new)) (sym stopped) tt
 
-pub revised-does : (pit : Pit) (old new : TransactionState) (r t : ℕ) (upper : Option ℤ) → new.planner ≡ old.planner
-    → new.work ≡ record old.work { revises = with_write pair_eq old.work.revises (r, t) upper } → DoesStep pit old (step.Revise r t upper) true new
-revised-does pit old new r t upper planner work =
-    revise-does pit old new r t upper (record {
+pub revise-told : {X E : Type 0} (pit : Pit) (old new : TransactionState) (r t : ℕ) (upper : Option ℤ) (told : Result X E) (answer : Result Bool StepStop) → OnOk told (answer ≡ Ok true)
+    → OnErr told (answer ≡ Err stop.NoMemory) → new.planner ≡ old.planner → OnOk told (new.work ≡ record old.work { revises = with_write pair_eq old.work.revises (r, t) upper })
+    → IfOk answer (λ goes. DoesStep pit old (step.Revise r t upper) goes new)
+revise-told pit old new r t upper (Ok x) answer done stopped planner work = subst (λ (s : Result Bool StepStop). IfOk s (λ goes. DoesStep pit old (step.Revise r t upper) goes new)) (sym done)
+    (revise-does pit old new r t upper (record {
       sees = sees-same old.planner new.planner planner;
       job = ap (λ (w : Sets). w.job) work;
       start = ap (λ (w : Sets). w.start) work;
       reads = subst (λ (w : Sets). Agrees (read_in old.work.reads) (read_in w.reads)) (sym work) (Agrees-refl (read_in old.work.reads));
-    }) (ap (λ (w : Sets). own_of w) work)
+    }) (ap (λ (w : Sets). own_of w) work))
+revise-told pit old new r t upper (Err e) answer done stopped planner work =
+    subst (λ (s : Result Bool StepStop). IfOk s (λ goes. DoesStep pit old (step.Revise r t upper) goes new)) (sym stopped) tt
 
 pub looks-up : (pit : Pit) (old new : TransactionState) (b : ℕ) (r : Result (Option ℕ) ReadStop) (period : Option ℕ) → b < pit.blocks → r ≡ Ok period → SeesOn old.planner new.planner
     → ((p : Option ℕ) → b < pit.blocks → known_of old.work b ≡ Some p → (r ≡ Ok p) × (new ≡ old)) → (b < pit.blocks → known_of old.work b ≡ None → IsLookedUp old b r new)
@@ -242,18 +271,19 @@ pub record IsBenchTo (old : TransactionState) (blocks left : List ℕ) (t : ℕ)
 pub bench-begins : (t : TransactionState) (blocks left : List ℕ) (period : ℕ) → left ≡ blocks → IsBenchTo t blocks left period t
 bench-begins t blocks left period same = record { same = same-refl t; own = ap (λ (bs : List ℕ). with_bench (own_of t.work) bs period) same }
 
-pub bench-more : (old now after : TransactionState) (blocks left more : List ℕ) (b t : ℕ) → left ≡ b ∷ more → IsBenchTo old blocks left t now → Puts now b (Some t) after → IsBenchTo old blocks more t after
-bench-more old now after blocks left more b t next so_far puts = record {
+pub bench-more : (old now after : TransactionState) (blocks left more : List ℕ) (b t : ℕ) (goes : Bool) → left ≡ b ∷ more → IsBenchTo old blocks left t now → Puts now b (Some t) goes after
+    → IsBenchTo old blocks more t after
+bench-more old now after blocks left more b t goes next so_far puts = record {
   same = same-trans old now after so_far.same puts.same;
   own = ap (λ (own : Commit). with_bench own more t) puts.own ∙ sym (ap (λ (bs : List ℕ). with_bench (own_of now.work) bs t) next) ∙ so_far.own;
 }
 
 -- the block at i
-pub bench-next : (old now after : TransactionState) (placed : List (ℤ × ℕ)) (i t : ℕ) (d : ℤ × ℕ) → i < length placed
-    → IsBenchTo old (map (λ p. p.1) placed) (map (λ p. p.1) (drop i placed)) t now → Puts now (get_or placed i d).1 (Some t) after
+pub bench-next : (old now after : TransactionState) (placed : List (ℤ × ℕ)) (i t : ℕ) (d : ℤ × ℕ) (goes : Bool) → i < length placed
+    → IsBenchTo old (map (λ p. p.1) placed) (map (λ p. p.1) (drop i placed)) t now → Puts now (get_or placed i d).1 (Some t) goes after
     → IsBenchTo old (map (λ p. p.1) placed) (map (λ p. p.1) (drop (i + 1) placed)) t after
-bench-next old now after placed i t d less so_far puts =
-    bench-more old now after (map (λ p. p.1) placed) (map (λ p. p.1) (drop i placed)) (map (λ p. p.1) (drop (i + 1) placed)) (get_or placed i d).1 t
+bench-next old now after placed i t d goes less so_far puts =
+    bench-more old now after (map (λ p. p.1) placed) (map (λ p. p.1) (drop i placed)) (map (λ p. p.1) (drop (i + 1) placed)) (get_or placed i d).1 t goes
     (ap (λ (ps : List (ℤ × ℕ)). map (λ p. p.1) ps) (drop-here placed i d less)) so_far puts
 
 pub bench-ends : (pit : Pit) (old new : TransactionState) (height : ℤ) (blocks left : List ℕ) (t : ℕ) → left ≡ [] → blocks ≡ bench_of pit height → IsBenchTo old blocks left t new

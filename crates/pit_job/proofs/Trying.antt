@@ -22,12 +22,14 @@ use Rattle.pit_share.specs.Endings.{IsAnswered, IsEnded, IsStopped}
 use Rattle.pit_share.specs.Planners.{PlannerState, TransactionState, Begins, SeesOn}
 use Rattle.pit_job.specs.Effect.{nothing, no_change, read_in, effect, ended, steps_after, HasEffect}
 use Rattle.pit_job.specs.declared.doing.StepStop.TheVariants as met
+use Rattle.pit_job.specs.declared.doing.StepStop.{StepStop}
 use Rattle.pit_job.specs.declared.outcome.JobStop.{JobStop}
+use Rattle.pit_job.specs.declared.outcome.JobStop.TheVariants as job_stop
 use Rattle.pit_job.specs.declared.outcome.Tried.{Tried}
 use Rattle.pit_job.specs.declared.outcome.Tried.TheVariants as tried
 use Rattle.pit_job.specs.Inside.Doing.{own_of, Same, DoesSteps, Meets, IsFresh, come_to}
 use Rattle.pit_job.specs.Outcomes.{IsRead, Grows}
-use Rattle.pit_job.specs.Inside.Outcomes.{Tries, EndsBy, IsStop, stop_of, tried_of}
+use Rattle.pit_job.specs.Inside.Outcomes.{Tries, EndsBy, IsStop, stop_of, tried_at, tried_of}
 use Rattle.pit_job.proofs.Seeing.{prefix-trans, sees-same, answered-moved}
 use Rattle.pit_job.proofs.Growing.{try-from}
 
@@ -118,7 +120,7 @@ pub grows-none : (old new : PlannerState) → SeesOn old new → Grows old [] ne
 grows-none old new sees = record { number = sees.number; items = sees.items ∙ sym (append-nil old.items); seen = sees.seen }
 
 -- a try whose steps met a block that moved
-pub moved-tries : (pit : Pit) (max_entries : ℕ) (task : Job) (n : ℕ) (old : TransactionState) (p : PlannerState) (block version : ℕ) → IsFresh n old → SeesOn old.planner p
+moved-tries : (pit : Pit) (max_entries : ℕ) (task : Job) (n : ℕ) (old : TransactionState) (p : PlannerState) (block version : ℕ) → IsFresh n old → SeesOn old.planner p
     → Meets (IsRead task.steps) old.work.start p.seen (met.Moved block version)
     → (es : List Answered) × Grows old.planner es p × Tries pit max_entries task n old.planner.seen p.seen es (tried.Moved block version)
 moved-tries pit max_entries task n old p block version fresh sees meets = (
@@ -134,6 +136,23 @@ ended-grows pit old new call reply ended = record { number = ended.number; items
 pub stopped-tries : (pit : Pit) (max_entries : ℕ) (task : Job) (n : ℕ) (old p : PlannerState) (why : JobStop) → SeesOn old p → IsStop max_entries p.seen why
     → (es : List Answered) × Grows old es p × Tries pit max_entries task n old.seen p.seen es (tried.Stopped why)
 stopped-tries pit max_entries task n old p why sees stop = ([], grows-none old p sees, (refl, stop))
+
+-- what stopped the steps of a try
+met-tries : (pit : Pit) (max_entries : ℕ) (task : Job) (n : ℕ) (old : TransactionState) (p : PlannerState) (s : StepStop) → IsFresh n old → SeesOn old.planner p
+    → Meets (IsRead task.steps) old.work.start p.seen s → (es : List Answered) × Grows old.planner es p × Tries pit max_entries task n old.planner.seen p.seen es (tried_at s)
+met-tries pit max_entries task n old p (met.Moved block version) fresh sees meets = moved-tries pit max_entries task n old p block version fresh sees meets
+met-tries pit max_entries task n old p met.NoMemory fresh sees meets = stopped-tries pit max_entries task n old.planner p job_stop.NoMemory sees tt
+met-tries pit max_entries task n old p met.NoEntry fresh sees meets = stopped-tries pit max_entries task n old.planner p job_stop.NoEntry sees tt
+
+pub abandoned-tries : (pit : Pit) (max_entries : ℕ) (task other : Job) (n : ℕ) (old mid : TransactionState) (p : PlannerState) (s : StepStop) (t : Tried) → other ≡ task → IsFresh n old
+    → SeesOn old.planner mid.planner → Meets (IsRead task.steps) old.work.start mid.planner.seen s → p ≡ mid.planner → t ≡ tried_at s
+    → (es : List Answered) × Grows old.planner es p × Tries pit max_entries other n old.planner.seen p.seen es t
+abandoned-tries pit max_entries task other n old mid p s t named fresh sees meets same is =
+    let here = subst (SeesOn old.planner) (sym same) sees in
+    let met_here = subst (λ (q : PlannerState). Meets (IsRead task.steps) old.work.start q.seen s) (sym same) meets in
+    tries-same pit max_entries task other n old.planner p t named
+    (subst (λ (x : Tried). (es : List Answered) × Grows old.planner es p × Tries pit max_entries task n old.planner.seen p.seen es x) (sym is)
+    (met-tries pit max_entries task n old p s fresh here met_here))
 
 stopped-sees : (max_entries : ℕ) (old later : TransactionState) (s : Stop) → IsStopped max_entries old s later → SeesOn old.planner later.planner
 stopped-sees max_entries old later desk_stop.Full stopped = stopped.1

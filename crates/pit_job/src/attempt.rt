@@ -5,7 +5,7 @@ ghost use Rattle.pit_desk.specs.declared.entry.Act.TheVariants.{Commit as commit
 ghost use Rattle.pit_job.specs.Inside.Doing.{IsFresh};
 ghost use Rattle.pit_job.specs.Outcomes.{Grows};
 ghost use Rattle.pit_job.specs.Inside.Runs.{IsJobNumber, job_numbered};
-ghost use Rattle.pit_job.specs.Inside.Outcomes.{Tries, EndsBy, stop_of as stop_by, tried_of as tried_by};
+ghost use Rattle.pit_job.specs.Inside.Outcomes.{Tries, EndsBy, stop_of as stop_by, tried_at as tried_until, tried_of as tried_by};
 
 use crate::doing::{StepStop, do_steps};
 use crate::gate::Gate;
@@ -71,14 +71,22 @@ fn done<
     let mut t = t;
     let (steps, end) = script.job(n - 1);
     match do_steps(&mut t, script.benches(), steps) {
-        Err(StepStop::Moved { block, version }) => (t.abandon(), Tried::Moved { block, version }),
-        Err(StepStop::NoMemory) => (t.abandon(), Tried::Stopped(JobStop::NoMemory)),
-        Err(StepStop::NoEntry) => (t.abandon(), Tried::Stopped(JobStop::NoEntry)),
+        Err(stop) => (t.abandon(), tried_at(stop)),
         Ok(false) => withdraw(rt, t),
         Ok(true) => match end {
             JobEnd::Abort => withdraw(rt, t),
             JobEnd::Commit => commit(rt, t, number, n, gate),
         },
+    }
+}
+
+fn tried_at(stop: StepStop) -> Tried
+    ensures { result ≡ tried_until stop }
+{
+    match stop {
+        StepStop::Moved { block, version } => Tried::Moved { block, version },
+        StepStop::NoMemory => Tried::Stopped(JobStop::NoMemory),
+        StepStop::NoEntry => Tried::Stopped(JobStop::NoEntry),
     }
 }
 

@@ -1,14 +1,16 @@
 //! The steps of a job, done in a transaction.
-ghost use Rattle.std.specs.Prelude.{◌≡◌, ◌<◌, IfOk, IfErr, OnOk, All, Some, None};
+ghost use Rattle.std.specs.Prelude.{◌≡◌, ◌<◌, true, IfOk, IfErr, OnOk, OnErr, Ok, Err, All};
 ghost use Rattle.pit_script.specs.Ranges.{IsStepIn};
 ghost use Rattle.pit_share.specs.Planners.{SeesOn};
 ghost use Rattle.pit_job.specs.Outcomes.{IsReadBy, IsRead};
+ghost use Rattle.pit_job.specs.Shifts.{shifted as shifted_of};
 ghost use Rattle.pit_job.specs.Inside.Doing.{LooksUp, Puts, DoesStep, DoesSteps, Meets};
 
 use crate::shift::shifted;
 use pit_board::Session;
 use pit_script::{Benches, Step};
 use pit_share::{ReadStop, Transaction};
+use pit_tx::WorkError;
 use std::alloc::Allocator;
 use std::sync::Wait;
 
@@ -56,11 +58,9 @@ fn do_step<'a, S: Session, R: Wait + Drop, A: Allocator + Copy + Drop, B: Alloca
 {
     match *step {
         Step::Read { block } => read(t, block),
-        Step::Put { block, period } => put(t, block, period),
-        Step::Clear { block } => clear(t, block),
-        Step::Shift { block, is_back, by } => {
-            shift(t, benches.pit().periods(), block, is_back, by)
-        }
+        Step::Put { block, period } => write(t, block, Some(period)),
+        Step::Clear { block } => write(t, block, None),
+        Step::Shift { block, is_back, by } => shift(t, benches, block, is_back, by),
         Step::Bench { height, period } => bench(t, benches, height, period),
         Step::Revise {
             resource,
@@ -83,35 +83,6 @@ fn read<'a, S: Session, R: Wait + Drop, A: Allocator + Copy + Drop>(
     Ok(true)
 }
 
-fn put<'a, S: Session, R: Wait + Drop, A: Allocator + Copy + Drop>(
-    t: &mut Transaction<'a, S, R, A>,
-    b: u32,
-    period: u32,
-) -> Result<bool, StepStop>
-    ensures ok { IfOk result (λ goes. DoesStep S.instance t.old (Step.Put b period) goes t.new) }
-    ensures err { IfErr result (Meets (λ block. ⊥) t.old.work.start t.new.planner.seen) }
-    ensures sees { SeesOn t.old.planner t.new.planner }
-{
-    put_in(t, b, period)?;
-    Ok(true)
-}
-
-// In range this is refused only where it is out of memory.
-fn clear<'a, S: Session, R: Wait + Drop, A: Allocator + Copy + Drop>(
-    t: &mut Transaction<'a, S, R, A>,
-    b: u32,
-) -> Result<bool, StepStop>
-    ensures ok { IfOk result (λ goes. DoesStep S.instance t.old (Step.Clear b) goes t.new) }
-    ensures err { IfErr result (Meets (λ block. ⊥) t.old.work.start t.new.planner.seen) }
-    ensures sees { SeesOn t.old.planner t.new.planner }
-{
-    match t.clear(b) {
-        Ok(()) => Ok(true),
-        Err(_) => Err(StepStop::NoMemory),
-    }
-}
-
-// In range this is refused only where it is out of memory.
 fn revise<'a, S: Session, R: Wait + Drop, A: Allocator + Copy + Drop>(
     t: &mut Transaction<'a, S, R, A>,
     resource: u32,
@@ -122,10 +93,7 @@ fn revise<'a, S: Session, R: Wait + Drop, A: Allocator + Copy + Drop>(
     ensures err { IfErr result (Meets (λ block. ⊥) t.old.work.start t.new.planner.seen) }
     ensures sees { SeesOn t.old.planner t.new.planner }
 {
-    match t.revise(resource, period, upper) {
-        Ok(()) => Ok(true),
-        Err(_) => Err(StepStop::NoMemory),
-    }
+    answered(t.revise(resource, period, upper))
 }
 
 /// Puts each block of a bench into a period.
@@ -142,19 +110,19 @@ fn bench<'a, S: Session, R: Wait + Drop, A: Allocator + Copy + Drop, B: Allocato
 {
     let blocks = benches.bench(height);
     for placed in blocks {
-        put_in(t, placed.1, period)?;
+        write(t, placed.1, Some(period))?;
     }
     Ok(true)
 }
 
-fn shift<'a, S: Session, R: Wait + Drop, A: Allocator + Copy + Drop>(
+fn shift<'a, S: Session, R: Wait + Drop, A: Allocator + Copy + Drop, B: Allocator + Copy + Drop>(
     t: &mut Transaction<'a, S, R, A>,
-    periods: u32,
+    benches: &Benches<B>,
     b: u32,
     is_back: bool,
     by: u32,
 ) -> Result<bool, StepStop>
-    requires periods { periods ≡ S.instance.periods }
+    requires pit { benches.now ≡ S.instance }
     requires block { b < S.instance.blocks }
     ensures ok { IfOk result (λ goes. DoesStep S.instance t.old (Step.Shift b is_back by) goes t.new) }
     ensures err { IfErr result (Meets (λ block. block ≡ b) t.old.work.start t.new.planner.seen) }
@@ -163,11 +131,22 @@ fn shift<'a, S: Session, R: Wait + Drop, A: Allocator + Copy + Drop>(
     let Some(now) = look(t, b)? else {
         return Ok(false);
     };
-    let Some(then) = shifted(periods, is_back, by, now) else {
+    let Some(then) = shifted_in(benches, is_back, by, now) else {
         return Ok(false);
     };
-    put_in(t, b, then)?;
-    Ok(true)
+    write(t, b, Some(then))
+}
+
+/// The period of the pit that lies so much later, or earlier where it goes back, if it is one.
+fn shifted_in<B: Allocator + Copy + Drop>(
+    benches: &Benches<B>,
+    is_back: bool,
+    by: u32,
+    t: u32,
+) -> Option<u32>
+    ensures { result ≡ shifted_of benches.now.periods is_back by t }
+{
+    shifted(benches.pit().periods(), is_back, by, t)
 }
 
 /// Reads a block of the pit.
@@ -188,18 +167,29 @@ fn look<'a, S: Session, R: Wait + Drop, A: Allocator + Copy + Drop>(
     }
 }
 
-// In range this is refused only where it is out of memory.
-fn put_in<'a, S: Session, R: Wait + Drop, A: Allocator + Copy + Drop>(
+/// Writes that a block has a period, or none.
+fn write<'a, S: Session, R: Wait + Drop, A: Allocator + Copy + Drop>(
     t: &mut Transaction<'a, S, R, A>,
     b: u32,
-    period: u32,
-) -> Result<(), StepStop>
-    ensures ok { OnOk result (Puts t.old b (Some period) t.new) }
+    period: Option<u32>,
+) -> Result<bool, StepStop>
+    ensures ok { IfOk result (λ goes. Puts t.old b period goes t.new) }
     ensures err { IfErr result (Meets (λ block. ⊥) t.old.work.start t.new.planner.seen) }
     ensures sees { SeesOn t.old.planner t.new.planner }
 {
-    match t.put(b, period) {
-        Ok(()) => Ok(()),
+    match period {
+        Some(period) => answered(t.put(b, period)),
+        None => answered(t.clear(b)),
+    }
+}
+
+/// What a step that writes or revises tells: in range it is refused only where it is out of memory.
+fn answered(told: Result<(), WorkError>) -> Result<bool, StepStop>
+    ensures done { OnOk told (result ≡ Ok true) }
+    ensures stop { OnErr told (result ≡ Err StepStop.NoMemory) }
+{
+    match told {
+        Ok(()) => Ok(true),
         Err(_) => Err(StepStop::NoMemory),
     }
 }

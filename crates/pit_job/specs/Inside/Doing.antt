@@ -55,7 +55,8 @@ pub record IsFresh (n : ℕ) (t : TransactionState) : Type 0 where
   pub after : length (commits_of t.planner.seen) ≤ t.work.start
   pub own : own_of t.work ≡ record { writes = []; revises = [] }
 
--- one more write of the own ones
-pub record Puts (old : TransactionState) (b : ℕ) (period : Option ℕ) (new : TransactionState) : Type 0 where
+-- it is done, by one more write of the own ones
+pub record Puts (old : TransactionState) (b : ℕ) (period : Option ℕ) (goes : Bool) (new : TransactionState) : Type 0 where
+  pub done : goes ≡ true
   pub same : Same old new
   pub own : own_of new.work ≡ with_written (own_of old.work) b period

@@ -14,6 +14,8 @@ use Rattle.pit_desk.specs.declared.reply.Reply.TheVariants as answered
 use Rattle.pit_desk.specs.declared.reply.EntryReply.{EntryReply}
 use Rattle.pit_desk.specs.declared.reply.EntryReply.TheVariants as reply
 use Rattle.pit_script.specs.Jobs.{Job}
+use Rattle.pit_job.specs.declared.doing.StepStop.{StepStop}
+use Rattle.pit_job.specs.declared.doing.StepStop.TheVariants as met
 use Rattle.pit_job.specs.declared.outcome.JobStop.{JobStop}
 use Rattle.pit_job.specs.declared.outcome.JobStop.TheVariants as stop
 use Rattle.pit_job.specs.declared.outcome.Tried.{Tried}
@@ -31,6 +33,12 @@ outcome_of reply.Withdrawn tries = outcome.Withdrawn tries
 abbrev pub stop_of : Stop → JobStop
 stop_of desk_stop.Full = stop.Full
 stop_of desk_stop.NoMemory = stop.NoMemory
+
+-- what a stop of the steps makes of a try
+abbrev pub tried_at : StepStop → Tried
+tried_at (met.Moved block version) = tried.Moved block version
+tried_at met.NoMemory = tried.Stopped stop.NoMemory
+tried_at met.NoEntry = tried.Stopped stop.NoEntry
 
 -- a try stopped, and where that is since the history is full, its planner has seen so many entries
 abbrev pub IsStop : ℕ → List Answered → JobStop → Type 0

@@ -1,36 +1,16 @@
-use Rattle.std.proofs.Common.{rules, true, false, sym, subst}
+use Rattle.std.proofs.Common.{rules, true, false}
 use Rattle.pit_desk.specs.declared.entry.Act.TheVariants as act
-use Rattle.pit_share.specs.Planners.{PlannerState, SeesOn}
 use Rattle.pit_script.specs.Jobs.{Job}
-use Rattle.pit_job.specs.declared.doing.StepStop.TheVariants as met
-use Rattle.pit_job.specs.declared.outcome.JobStop.TheVariants.{NoMemory, NoEntry}
-use Rattle.pit_job.specs.declared.outcome.Tried.TheVariants as tried
-use Rattle.pit_job.specs.Outcomes.{IsRead}
 use Rattle.pit_job.specs.Inside.Runs.{job_numbered}
-use Rattle.pit_job.specs.Inside.Doing.{DoesSteps, Meets}
-use Rattle.pit_job.proofs.Trying.{tries-same, ends-tries, moved-tries, stopped-tries, commit-has, abort-has, failed-has}
+use Rattle.pit_job.specs.Inside.Doing.{DoesSteps}
+use Rattle.pit_job.proofs.Trying.{tries-same, ends-tries, abandoned-tries, commit-has, abort-has, failed-has}
 use Rattle.pit_job.proofs.attempt.done.Goals as goal
 
-pub returns-in-Err-Moved : goal.returns-in-Err-Moved
-returns-in-Err-Moved g c =
+pub returns-in-Err : goal.returns-in-Err
+returns-in-Err g c =
     let task : Job = record { steps = c.job-end.result.0.now; end = c.job-end.result.1 } in
-    let sees : SeesOn c.args.t.planner c.abandon.result = subst (SeesOn c.args.t.planner) (sym c.abandon.ensures) c.do_steps.ensures.sees in
-    let meets : Meets (IsRead task.steps) c.args.t.work.start c.abandon.result.seen (met.Moved c.in-Err-Moved.block c.in-Err-Moved.version) =
-    subst (λ (p : PlannerState). Meets (IsRead task.steps) c.args.t.work.start p.seen (met.Moved c.in-Err-Moved.block c.in-Err-Moved.version)) (sym c.abandon.ensures) (search rules) in
-    rw (c.in-Err-Moved.block-is, c.in-Err-Moved.version-is)
-    (tries-same g.S.Session.instance g.S.Session.max_entries task (job_numbered c.args.script.now.jobs c.args.n) c.args.n c.args.t.planner c.abandon.result
-    (tried.Moved c.in-Err-Moved.block c.in-Err-Moved.version) c.job-end.ensures.job
-    (moved-tries g.S.Session.instance g.S.Session.max_entries task c.args.n c.args.t c.abandon.result c.in-Err-Moved.block c.in-Err-Moved.version c.requires.fresh sees meets))
-
-pub returns-in-Err-NoMemory : goal.returns-in-Err-NoMemory
-returns-in-Err-NoMemory g c =
-    let sees : SeesOn c.args.t.planner c.abandon-in-Err-NoMemory.result = subst (SeesOn c.args.t.planner) (sym c.abandon-in-Err-NoMemory.ensures) c.do_steps.ensures.sees in
-    stopped-tries g.S.Session.instance g.S.Session.max_entries (job_numbered c.args.script.now.jobs c.args.n) c.args.n c.args.t.planner c.abandon-in-Err-NoMemory.result NoMemory sees tt
-
-pub returns-in-Err-NoEntry : goal.returns-in-Err-NoEntry
-returns-in-Err-NoEntry g c =
-    let sees : SeesOn c.args.t.planner c.abandon-in-Err-NoEntry.result = subst (SeesOn c.args.t.planner) (sym c.abandon-in-Err-NoEntry.ensures) c.do_steps.ensures.sees in
-    stopped-tries g.S.Session.instance g.S.Session.max_entries (job_numbered c.args.script.now.jobs c.args.n) c.args.n c.args.t.planner c.abandon-in-Err-NoEntry.result NoEntry sees tt
+    abandoned-tries g.S.Session.instance g.S.Session.max_entries task (job_numbered c.args.script.now.jobs c.args.n) c.args.n c.args.t c.do_steps.new.t c.abandon.result c.in-Err.stop c.tried_at.result
+    c.job-end.ensures.job c.requires.fresh c.do_steps.ensures.sees c.in-Err.ensures.err c.abandon.ensures c.tried_at.ensures
 
 pub returns-in-Abort : goal.returns-in-Abort
 returns-in-Abort g c =

@@ -7,4 +7,4 @@ loop-placed-init g c = bench-begins c.args.t.now _ _ c.args.period refl
 
 pub loop-placed-preserved : goal.loop-placed-preserved
 loop-placed-preserved g c =
-    bench-next c.args.t.now c.loop-placed.t c.put_in.new.t c.bench-blocks.result.now c.loop-placed.placed-index c.args.period _ (omega arith) c.loop-placed.invariant c.in_ok-put_in.ensures.ok
+    bench-next c.args.t.now c.loop-placed.t c.write.new.t c.bench-blocks.result.now c.loop-placed.placed-index c.args.period _ _ (omega arith) c.loop-placed.invariant c.in_ok-write.ensures.ok

@@ -1,0 +1,9 @@
+use Rattle.pit_job.proofs.Stepping.{put-told, clear-told}
+use Rattle.pit_job.proofs.doing.do_step.Goals as goal
+
+pub returns-in-Put-clause-ok : goal.returns-in-Put-clause-ok
+returns-in-Put-clause-ok g c = put-told g.S.Session.instance c.args.t.now c.write.new.t c.in-Put.block c.in-Put.period c.args.step.now c.write.result c.in-Put.is c.write.ensures.ok
+
+pub returns-in-Clear-clause-ok : goal.returns-in-Clear-clause-ok
+returns-in-Clear-clause-ok g c =
+    clear-told g.S.Session.instance c.args.t.now c.write-in-Clear.new.t c.in-Clear.block c.args.step.now c.write-in-Clear.result c.in-Clear.is c.write-in-Clear.ensures.ok
