@@ -286,8 +286,15 @@ bench-next old now after placed i t d goes less so_far puts =
     bench-more old now after (map (λ p. p.1) placed) (map (λ p. p.1) (drop i placed)) (map (λ p. p.1) (drop (i + 1) placed)) (get_or placed i d).1 t goes
     (ap (λ (ps : List (ℤ × ℕ)). map (λ p. p.1) ps) (drop-here placed i d less)) so_far puts
 
-pub bench-ends : (pit : Pit) (old new : TransactionState) (height : ℤ) (blocks left : List ℕ) (t : ℕ) → left ≡ [] → blocks ≡ bench_of pit height → IsBenchTo old blocks left t new
+bench-ends : (pit : Pit) (old new : TransactionState) (height : ℤ) (blocks left : List ℕ) (t : ℕ) → left ≡ [] → blocks ≡ bench_of pit height → IsBenchTo old blocks left t new
     → DoesStep pit old (step.Bench height t) true new
 bench-ends pit old new height blocks left t none is so_far =
     bench-does pit old new height t so_far.same
     (sym (ap (λ (bs : List ℕ). with_bench (own_of new.work) bs t) none) ∙ so_far.own ∙ ap (λ (bs : List ℕ). with_bench (own_of old.work) bs t) is)
+
+-- all its blocks
+pub bench-whole : (pit other : Pit) (old new : TransactionState) (height : ℤ) (placed : List (ℤ × ℕ)) (i t : ℕ) → length placed ≤ i → other ≡ pit → map (λ p. p.1) placed ≡ bench_of other height
+    → IsBenchTo old (map (λ p. p.1) placed) (map (λ p. p.1) (drop i placed)) t new → DoesStep pit old (step.Bench height t) true new
+bench-whole pit other old new height placed i t past same is so_far =
+    bench-ends pit old new height (map (λ p. p.1) placed) (map (λ p. p.1) (drop i placed)) t (ap (λ (ps : List (ℤ × ℕ)). map (λ p. p.1) ps) (drop_all i placed past))
+    (is ∙ ap (λ (q : Pit). bench_of q height) same) so_far

@@ -58,17 +58,17 @@ steps-come pit task n old new goes fresh does =
     subst (λ (own : Commit). steps_after pit (read_in new.work.reads) own task.steps ≡ come_to goes (own_of new.work)) fresh.own (does.does (read_in new.work.reads) (λ b v is. is))
 
 -- a commit after all steps
-pub commit-has : (pit : Pit) (task : Job) (n : ℕ) (old new : TransactionState) → IsFresh n old → task.end ≡ ending.Commit → DoesSteps pit old task.steps true new → HasEffect pit task (work_call new.work act.Commit)
+commit-has : (pit : Pit) (task : Job) (n : ℕ) (old new : TransactionState) → IsFresh n old → task.end ≡ ending.Commit → DoesSteps pit old task.steps true new → HasEffect pit task (work_call new.work act.Commit)
 unfolding effect
 commit-has pit task n old new fresh is does = rw is (steps-come pit task n old new true fresh does)
 
 -- a withdrawal after all steps
-pub abort-has : (pit : Pit) (task : Job) (n : ℕ) (old new : TransactionState) → IsFresh n old → task.end ≡ ending.Abort → DoesSteps pit old task.steps true new → HasEffect pit task (work_call new.work act.Withdraw)
+abort-has : (pit : Pit) (task : Job) (n : ℕ) (old new : TransactionState) → IsFresh n old → task.end ≡ ending.Abort → DoesSteps pit old task.steps true new → HasEffect pit task (work_call new.work act.Withdraw)
 unfolding effect
 abort-has pit task n old new fresh is does = rw is (ap (ended ending.Abort) (steps-come pit task n old new true fresh does))
 
 -- and where a shift failed
-pub failed-has : (pit : Pit) (task : Job) (n : ℕ) (old new : TransactionState) → IsFresh n old → DoesSteps pit old task.steps false new → HasEffect pit task (work_call new.work act.Withdraw)
+failed-has : (pit : Pit) (task : Job) (n : ℕ) (old new : TransactionState) → IsFresh n old → DoesSteps pit old task.steps false new → HasEffect pit task (work_call new.work act.Withdraw)
 unfolding effect
 failed-has pit task n old new fresh does = by task.end (steps-come pit task n old new false fresh does)
   where
@@ -104,7 +104,7 @@ tries-from pit max_entries task n less old new es (tried.Moved block version) be
 tries-from pit max_entries task n less old new es (tried.Answered answer) begins tries = tries
 tries-from pit max_entries task n less old new es (tried.Stopped why) begins tries = tries
 
-pub ends-tries : (pit : Pit) (max_entries : ℕ) (task : Job) (n : ℕ) (old new : TransactionState) (how : Act) (p : PlannerState) (t : Tried) → IsFresh n old → Same old new
+ends-tries : (pit : Pit) (max_entries : ℕ) (task : Job) (n : ℕ) (old new : TransactionState) (how : Act) (p : PlannerState) (t : Tried) → IsFresh n old → Same old new
     → HasEffect pit task (work_call new.work how) → ((es : List Answered) × Grows new.planner es p × EndsBy max_entries how new.work p.seen es t)
     → (es : List Answered) × Grows old.planner es p × Tries pit max_entries task n old.planner.seen p.seen es t
 ends-tries pit max_entries task n old new how p t fresh same has (es, grows, ends) =
@@ -112,9 +112,32 @@ ends-tries pit max_entries task n old new how p t fresh same has (es, grows, end
     (es, grew, tries-of pit max_entries task n how new.work old.planner p es t (same.job ∙ fresh.job) (start-after n old new fresh same) has grew ends)
 
 -- the same of a job by another name
-pub tries-same : (pit : Pit) (max_entries : ℕ) (task other : Job) (n : ℕ) (old p : PlannerState) (t : Tried) → other ≡ task → ((es : List Answered) × Grows old es p × Tries pit max_entries task n old.seen p.seen es t)
+tries-same : (pit : Pit) (max_entries : ℕ) (task other : Job) (n : ℕ) (old p : PlannerState) (t : Tried) → other ≡ task → ((es : List Answered) × Grows old es p × Tries pit max_entries task n old.seen p.seen es t)
     → (es : List Answered) × Grows old es p × Tries pit max_entries other n old.seen p.seen es t
 tries-same pit max_entries task other n old p t same (es, grows, tries) = (es, grows, subst (λ (j : Job). Tries pit max_entries j n old.seen p.seen es t) (sym same) tries)
+
+-- the endings of a try whose steps came to their end
+pub committed-tries : (pit : Pit) (max_entries : ℕ) (task other : Job) (n : ℕ) (old new : TransactionState) (goes : Bool) (p : PlannerState) (t : Tried) → other ≡ task → task.end ≡ ending.Commit → IsFresh n old
+    → goes ≡ true → DoesSteps pit old task.steps goes new → ((es : List Answered) × Grows new.planner es p × EndsBy max_entries act.Commit new.work p.seen es t)
+    → (es : List Answered) × Grows old.planner es p × Tries pit max_entries other n old.planner.seen p.seen es t
+committed-tries pit max_entries task other n old new goes p t named how fresh is does ends =
+    let all = subst (λ (b : Bool). DoesSteps pit old task.steps b new) is does in
+    tries-same pit max_entries task other n old.planner p t named (ends-tries pit max_entries task n old new act.Commit p t fresh all.same (commit-has pit task n old new fresh how all) ends)
+
+pub aborted-tries : (pit : Pit) (max_entries : ℕ) (task other : Job) (n : ℕ) (old new : TransactionState) (goes : Bool) (p : PlannerState) (t : Tried) → other ≡ task → task.end ≡ ending.Abort → IsFresh n old
+    → goes ≡ true → DoesSteps pit old task.steps goes new → ((es : List Answered) × Grows new.planner es p × EndsBy max_entries act.Withdraw new.work p.seen es t)
+    → (es : List Answered) × Grows old.planner es p × Tries pit max_entries other n old.planner.seen p.seen es t
+aborted-tries pit max_entries task other n old new goes p t named how fresh is does ends =
+    let all = subst (λ (b : Bool). DoesSteps pit old task.steps b new) is does in
+    tries-same pit max_entries task other n old.planner p t named (ends-tries pit max_entries task n old new act.Withdraw p t fresh all.same (abort-has pit task n old new fresh how all) ends)
+
+-- and where a shift failed
+pub failed-tries : (pit : Pit) (max_entries : ℕ) (task other : Job) (n : ℕ) (old new : TransactionState) (goes : Bool) (p : PlannerState) (t : Tried) → other ≡ task → IsFresh n old
+    → goes ≡ false → DoesSteps pit old task.steps goes new → ((es : List Answered) × Grows new.planner es p × EndsBy max_entries act.Withdraw new.work p.seen es t)
+    → (es : List Answered) × Grows old.planner es p × Tries pit max_entries other n old.planner.seen p.seen es t
+failed-tries pit max_entries task other n old new goes p t named fresh is does ends =
+    let some = subst (λ (b : Bool). DoesSteps pit old task.steps b new) is does in
+    tries-same pit max_entries task other n old.planner p t named (ends-tries pit max_entries task n old new act.Withdraw p t fresh some.same (failed-has pit task n old new fresh some) ends)
 
 pub grows-none : (old new : PlannerState) → SeesOn old new → Grows old [] new
 grows-none old new sees = record { number = sees.number; items = sees.items ∙ sym (append-nil old.items); seen = sees.seen }

@@ -1,7 +1,7 @@
-use Rattle.std.proofs.Common.{arith, true, false, ◌∙◌}
+use Rattle.std.proofs.Common.{arith, true, false, refl, ◌∙◌}
 use Rattle.pit_job.specs.Outcomes.{IsRead}
 use Rattle.pit_job.specs.Inside.Doing.{Meets}
-use Rattle.pit_job.proofs.Seeing.{sees-trans}
+use Rattle.pit_job.proofs.Seeing.{sees-same, sees-trans}
 use Rattle.pit_job.proofs.Stepping.{steps-end, steps-next, steps-stop}
 use Rattle.pit_job.proofs.Meeting.{stop-handed, steps-meet}
 use Rattle.pit_job.proofs.doing.do_steps.Goals as goal
@@ -29,3 +29,12 @@ loop-step-preserved g c =
 pub returns-clause-ok : goal.returns-clause-ok
 returns-clause-ok g c =
     c.loop-step.invariant.does c.loop-step.t true (steps-end g.S.Session.instance c.loop-step.t c.args.steps.now c.loop-step.step-index (omega arith))
+
+pub loop-step-init : goal.loop-step-init
+loop-step-init g c = record { sees = sees-same c.args.t.now.planner c.args.t.now.planner refl; start = refl; does = λ new goes rest. rest }
+
+pub returns-then-not-branch-clause-sees : goal.returns-then-not-branch-clause-sees
+returns-then-not-branch-clause-sees g c = sees-trans c.args.t.now.planner c.loop-step.t.planner c.do_step.new.t.planner c.loop-step.invariant.sees c.do_step.ensures.sees
+
+pub returns-in_err-do_step-clause-sees : goal.returns-in_err-do_step-clause-sees
+returns-in_err-do_step-clause-sees g c = sees-trans c.args.t.now.planner c.loop-step.t.planner c.do_step.new.t.planner c.loop-step.invariant.sees c.do_step.ensures.sees
