@@ -230,6 +230,17 @@ fn finish_all<S: Session, O: Wait + Drop, A: Allocator + Copy + Drop>(
     let Some(seat) = seats.pop() else {
         return;
     };
-    push_log(logs, seat.sit(workspace).finish());
+    push_log(logs, empty_log(workspace, seat));
     finish_all(workspace, seats, logs);
+}
+
+/// The log of a planner who did nothing.
+fn empty_log<S: Session, O: Wait + Drop, A: Allocator + Copy + Drop>(
+    workspace: &Workspace<S, O, A>,
+    seat: Seat<S, A>,
+) -> PlannerLog<S, A>
+    ensures number { result.number ≡ seat }
+    ensures none { result.items ≡ [] }
+{
+    seat.sit(workspace).finish()
 }
