@@ -22,3 +22,9 @@ returns-clause-err g c =
     let read : slice_index_or c.args.scripts.now c.args.k script ≡ script = search rules in
     let same : script.jobs ≡ slice_index_or jobs c.args.k [] = sym (get_or-map (λ script. script.jobs) c.args.scripts.now c.args.k script [] c.requires.place ∙ ap (λ script. script.jobs) read) in
     subst (λ (s : List Job). IfErr c.turn_in.result (IsTurnError desk.plan.pit desk.history desk.max_entries (length c.args.scripts.now) c.args.retries (c.args.k + 1) s)) same c.turn_in.ensures.err
+
+pub turn_in-requires-clause-script : goal.turn_in-requires-clause-script
+turn_in-requires-clause-script g c κs lives =
+    let script = c.index-scripts-k.result in
+    let read : slice_index_or c.args.scripts.now c.args.k script ≡ script = search rules in
+    ap (λ script. script.pit) (sym read) ∙ c.requires.pit c.args.k script c.requires.place
