@@ -1,4 +1,5 @@
 -- Definitions that no public contract cites.
 pub mod Reports
 pub mod Shared
+pub mod Threads
 pub mod Turns

@@ -4,6 +4,7 @@ ghost use Rattle.pit_script.specs.Jobs.{Job};
 ghost use Rattle.pit_share.specs.Opening.{AreSeats};
 ghost use Rattle.pit_share.specs.declared.blank.TheConstants.{PLANNERS_MAX};
 ghost use Rattle.pit_run.specs.Reports.{PlannerRan, AllRan};
+ghost use Rattle.pit_run.specs.Inside.Threads.{IsReady};
 
 use crate::planner_run::{PlannerRun, run_planner};
 use crate::shared::Shared;
@@ -213,22 +214,14 @@ pub(crate) fn run_scoped<
     logs: Vec<PlannerLog<S, A>, A>,
     runs: Vec<PlannerRun<A>, A>,
 ) -> (Vec<PlannerLog<S, A>, A>, Vec<PlannerRun<A>, A>)
-    requires seats { AreSeats (length seats.items) seats.items }
-    requires each { length shared.now.scripts ≡ length seats.items }
-    requires planners { length seats.items ≤ PLANNERS_MAX }
-    requires none { (logs.items ≡ []) × (runs.items ≡ []) }
-    requires room { (length seats.items ≤ vec_capacity logs) × (length seats.items ≤ vec_capacity runs) }
+    requires { IsReady shared.now.scripts seats.items logs.items runs.items (vec_capacity logs) (vec_capacity runs) }
     ensures { AllRan S.instance S.max_entries shared.now.retries S.opening 1 shared.now.scripts result.0.items result.1.items }
 {
     thread::scope(
         thread::scope_env(),
         shared.rt,
         |scope| -> (Vec<PlannerLog<S, A>, A>, Vec<PlannerRun<A>, A>)
-            requires seats { AreSeats (length seats.items) seats.items }
-            requires each { length shared.now.scripts ≡ length seats.items }
-            requires planners { length seats.items ≤ PLANNERS_MAX }
-            requires none { (logs.items ≡ []) × (runs.items ≡ []) }
-            requires room { (length seats.items ≤ vec_capacity logs) × (length seats.items ≤ vec_capacity runs) }
+            requires { IsReady shared.now.scripts seats.items logs.items runs.items (vec_capacity logs) (vec_capacity runs) }
             ensures { AllRan S.instance S.max_entries shared.entry.now.retries S.opening 1 shared.entry.now.scripts result.0.items result.1.items }
         { run_in(scope, shared, seats, logs, runs) },
     )
@@ -250,11 +243,7 @@ fn run_in<
     logs: Vec<PlannerLog<S, A>, A>,
     runs: Vec<PlannerRun<A>, A>,
 ) -> (Vec<PlannerLog<S, A>, A>, Vec<PlannerRun<A>, A>)
-    requires seats { AreSeats (length seats.items) seats.items }
-    requires each { length shared.now.scripts ≡ length seats.items }
-    requires planners { length seats.items ≤ PLANNERS_MAX }
-    requires none { (logs.items ≡ []) × (runs.items ≡ []) }
-    requires room { (length seats.items ≤ vec_capacity logs) × (length seats.items ≤ vec_capacity runs) }
+    requires { IsReady shared.now.scripts seats.items logs.items runs.items (vec_capacity logs) (vec_capacity runs) }
     ensures { AllRan S.instance S.max_entries shared.now.retries S.opening 1 shared.now.scripts result.0.items result.1.items }
 {
     let mut seats = seats;

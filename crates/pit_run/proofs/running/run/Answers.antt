@@ -1,7 +1,8 @@
-use Rattle.std.proofs.Common.{◌≡◌, List, map, length, rules, sym, ◌∙◌, subst}
+use Rattle.std.proofs.Common.{◌≡◌, ℕ, List, map, length, rules, arith, sym, ap, ◌∙◌, subst}
 use Rattle.std.proofs.lemmas.List.{length-map}
 use Rattle.pit_script.specs.Jobs.{Job}
 use Rattle.pit_share.specs.Planners.{PlannerState}
+use Rattle.pit_share.specs.Opening.{AreSeats}
 use Rattle.pit_share.specs.Closing.{IsClosed, IsCloseError}
 use Rattle.pit_run.specs.Reports.{AllRan, IsUnclosed}
 use Rattle.pit_run.specs.Inside.Shared.{SharedState}
@@ -18,7 +19,7 @@ returns-in-Ok-close-clause-ok g c =
     let runs = c.run_scoped-logs.result.1.items in
     let ran : AllRan pit most c.args.retries opening 1 scripts logs runs = subst (λ (s : SharedState). AllRan pit most s.retries opening 1 s.scripts logs runs) c.new-shared.ensures c.run_scoped-logs.ensures in
     let many : length scripts ≡ g.S.Session.planners = length-map c.args.scripts.now _ ∙ c.requires.each in
-    let closed : IsClosed pit opening most g.S.Session.planners logs c.in-Ok-close.closed = search rules in
+    let closed : IsClosed pit opening most g.S.Session.planners logs c.in-Ok-close.closed = c.in-Ok-close.ensures.ok in
     let each : IsClosed pit opening most (length scripts) logs c.in-Ok-close.closed = subst (λ n. IsClosed pit opening most n logs c.in-Ok-close.closed) (sym many) closed in
     record { logs = logs; closed = each; did = did pit most c.args.retries opening c.in-Ok-close.closed.history scripts logs runs ran each.logged each.seen }
 
@@ -38,3 +39,20 @@ returns-in-Err-clause-err g c =
       refused = subst (λ n. IsCloseError pit opening most n logs c.in-Err.cause) (sym many) refused;
     } in
     subst (λ (ls : List PlannerState). IsUnclosed pit opening most c.args.retries scripts ls c.in-Err.cause) (sym (λ i. (c.in-Err.ensures.logs i).items)) unclosed
+
+pub run_scoped-logs-requires-after_bounds : goal.run_scoped-logs-requires-after_bounds
+run_scoped-logs-requires-after_bounds g c κs within =
+    let seats : List ℕ = c.args.seats.items in
+    let many : length seats ≡ g.S.Session.planners = c.requires.seats.many in
+    let scripts : length c.new-shared.result.scripts ≡ length c.args.scripts.now = ap (λ (s : SharedState). length s.scripts) c.new-shared.ensures ∙ length-map c.args.scripts.now _ in
+    let long : c.len.result ≡ length seats = search rules in
+    let long-2 : c.len-2.result ≡ length seats = search rules in
+    record {
+      numbered = subst (λ (n : ℕ). AreSeats n seats) (sym many) c.requires.seats;
+      each = scripts ∙ c.requires.each ∙ sym many;
+      planners = omega (arith, many, c.requires.planners);
+      no_log = c.in-Ok.ensures.items;
+      no_run = c.in-Ok-with_capacity.ensures.items;
+      room_for_logs = omega (arith, c.in-Ok.ensures.capacity, long);
+      room_for_runs = omega (arith, c.in-Ok-with_capacity.ensures.capacity, long-2);
+    }

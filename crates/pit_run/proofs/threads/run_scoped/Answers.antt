@@ -4,23 +4,10 @@ use Rattle.pit_run.proofs.threads.run_scoped.Goals as goal
 
 pub scoped-requires : goal.scoped-requires
 scoped-requires g c =
-    let asked = c.requires in
     let b = c.type_bounds in
     record {
       at = λ a. (
-        asked.seats,
-        (
-          asked.each,
-          (
-            asked.planners,
-            (
-              asked.none,
-              (
-                asked.room,
-                (search (rules, sendable), search (rules, sendable), b.send-A, search (rules, sendable), search (rules, sendable), b.sync-A, search (rules, sendable), search (rules, sendable), b.frees-A-Allocator),
-              ),
-            ),
-          ),
-        ),
+        c.requires,
+        (search (rules, sendable), search (rules, sendable), b.send-A, search (rules, sendable), search (rules, sendable), b.sync-A, search (rules, sendable), search (rules, sendable), b.frees-A-Allocator),
       );
     }
