@@ -1,0 +1,5 @@
+"""Each view of the small pit."""
+from case import Case
+
+FILES = {}
+CASES = []
