@@ -45,25 +45,27 @@ test:
 	rt ci | scripts/progress.sh
 	cp $(PROVED) pit.new
 	mv pit.new pit
-	@echo 'shell tests, 1 of 10: files, streams and words'
+	@echo 'shell tests, 1 of 11: files, streams and words'
 	tests/cli.sh ./pit
-	@echo 'shell tests, 2 of 10: no memory'
+	@echo 'shell tests, 2 of 11: worked examples'
+	tests/worked.py ./pit
+	@echo 'shell tests, 3 of 11: no memory'
 	tests/no_memory.sh ./pit $(EXAMPLE)
-	@echo 'shell tests, 3 of 10: plans and replays'
+	@echo 'shell tests, 4 of 11: plans and replays'
 	tests/replay.sh ./pit
-	@echo 'shell tests, 4 of 10: the file of a history'
+	@echo 'shell tests, 5 of 11: the file of a history'
 	tests/history_file.sh ./pit
-	@echo 'shell tests, 5 of 10: histories that are carried on'
+	@echo 'shell tests, 6 of 11: histories that are carried on'
 	tests/carry_on.sh ./pit
-	@echo 'shell tests, 6 of 10: edits that are merged'
+	@echo 'shell tests, 7 of 11: edits that are merged'
 	tests/merge.py ./pit
-	@echo 'shell tests, 7 of 10: plain lines, and the same in other forms'
+	@echo 'shell tests, 8 of 11: plain lines, and the same in other forms'
 	tests/plain.py ./pit
-	@echo 'shell tests, 8 of 10: programs that have to be refused'
+	@echo 'shell tests, 9 of 11: programs that have to be refused'
 	tests/misuse.sh
-	@echo 'shell tests, 9 of 10: the page'
+	@echo 'shell tests, 10 of 11: the page'
 	tests/page.sh ./pit
-	@echo 'shell tests, 10 of 10: installing'
+	@echo 'shell tests, 11 of 11: installing'
 	tests/install.sh
 
 pit.1: pit scripts/help.py

@@ -20,11 +20,16 @@ if [ $# -eq 0 ]; then
     lanes=$(nproc)
     [ "$free" -lt "$lanes" ] && lanes=$((free > 0 ? free : 1))
     export RT_JOBS=1
-    for part in plants edits tests; do
-        for folder in crates/*/; do
-            echo "$part $(basename "$folder")"
+    {
+        for part in plants edits; do
+            for folder in crates/*/; do
+                echo "$part $(basename "$folder")"
+            done
         done
-    done | xargs -P "$lanes" -L 1 bash -c 'said=$(audit/run.sh "$@" 2>&1); status=$?; echo "$said"; exit $status' audit && echo 'all of it fine'
+        for folder in audit/tests/*/; do
+            echo "tests $(basename "$folder")"
+        done
+    } | xargs -P "$lanes" -L 1 bash -c 'said=$(audit/run.sh "$@" 2>&1); status=$?; echo "$said"; exit $status' audit && echo 'all of it fine'
     exit
 fi
 
@@ -85,19 +90,33 @@ plants() {
     } | sort | diff - "$found" || fail "plants of $1: < is listed and was not found, > was found and is not listed"
 }
 
-# tests CRATE: the test files of audit/tests/CRATE pass beside those of the crate.
+# own CRATE: lays a crate that has its tests here alone, with the line of crates.txt that it needs, into the copy.
+own() {
+    local file
+    cat "$top/audit/tests/$1/needs.txt" >>"$tree/crates.txt"
+    while read -r file; do
+        install -D -m 644 "$top/audit/tests/$1/$file" "$tree/crates/$1/${file%.txt}"
+    done < <(cd "$top/audit/tests/$1" && find . -mindepth 2 -name '*.txt')
+}
+
+# tests CRATE: the test files of audit/tests/CRATE pass, beside those of the crate where it stands in the gate.
 tests() {
     local from=$top/audit/tests/$1 file
     [ -d "$from" ] || return
-    mkdir -p "$tree/crates/$1/src/tests"
-    for file in "$from"/*.rt.txt; do
-        cp "$file" "$tree/crates/$1/src/tests/$(basename "$file" .txt)"
-        echo "mod $(basename "$file" .rt.txt);" >>"$tree/crates/$1/src/tests.rt"
-    done
+    if [ -f "$from/needs.txt" ]; then
+        own "$1"
+    else
+        for file in "$from"/*.rt.txt; do
+            cp "$file" "$tree/crates/$1/src/tests/$(basename "$file" .txt)"
+            echo "mod $(basename "$file" .rt.txt);" >>"$tree/crates/$1/src/tests.rt"
+        done
+    fi
     (cd "$tree/crates/$1" && rt test ${RT_JOBS:+--jobs "$RT_JOBS"}) || fail "tests of $1"
 }
 
-for folder in crates/*/; do
+folders=(crates/*/)
+[ "$part" = tests ] && folders=(audit/tests/*/)
+for folder in "${folders[@]}"; do
     crate=$(basename "$folder")
     is_wanted "$crate" || continue
     echo "== $part of $crate"
