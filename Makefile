@@ -4,7 +4,7 @@
 # make test           the whole gate: every proof, test, must-fail edit and stored run that no earlier run kept; then the shell tests. Leaves ./pit
 # make install        puts the program, pit-page, the manual page and the completions for bash under PREFIX (/usr/local), itself below DESTDIR
 # make uninstall      removes what make install put there
-# make audit          what the gate leaves out: pages in a browser; on a copy of the tree further edits, planted bodies, further tests; a soak; 200 drawn days. Takes hours
+# make audit          what the gate leaves out: pages in a browser; further edits, planted bodies and further tests on copies of the tree; a soak; 200 drawn days. Takes hours
 # make clean          removes what was built
 .PHONY: demo check test install uninstall audit clean
 .DELETE_ON_ERROR:
@@ -45,27 +45,29 @@ test:
 	rt ci | scripts/progress.sh
 	cp $(PROVED) pit.new
 	mv pit.new pit
-	@echo 'shell tests, 1 of 11: files, streams and words'
+	@echo 'shell tests, 1 of 12: files, streams and words'
 	tests/cli.sh ./pit
-	@echo 'shell tests, 2 of 11: worked examples'
+	@echo 'shell tests, 2 of 12: worked examples'
 	tests/worked.py ./pit
-	@echo 'shell tests, 3 of 11: no memory'
+	@echo 'shell tests, 3 of 12: full files and slow pipes'
+	tests/devices.py ./pit $(EXAMPLE)
+	@echo 'shell tests, 4 of 12: no memory'
 	tests/no_memory.sh ./pit $(EXAMPLE)
-	@echo 'shell tests, 4 of 11: plans and replays'
+	@echo 'shell tests, 5 of 12: plans and replays'
 	tests/replay.sh ./pit
-	@echo 'shell tests, 5 of 11: the file of a history'
+	@echo 'shell tests, 6 of 12: the file of a history'
 	tests/history_file.sh ./pit
-	@echo 'shell tests, 6 of 11: histories that are carried on'
+	@echo 'shell tests, 7 of 12: histories that are carried on'
 	tests/carry_on.sh ./pit
-	@echo 'shell tests, 7 of 11: edits that are merged'
+	@echo 'shell tests, 8 of 12: edits that are merged'
 	tests/merge.py ./pit
-	@echo 'shell tests, 8 of 11: plain lines, and the same in other forms'
+	@echo 'shell tests, 9 of 12: plain lines, and the same in other forms'
 	tests/plain.py ./pit
-	@echo 'shell tests, 9 of 11: programs that have to be refused'
+	@echo 'shell tests, 10 of 12: programs that have to be refused'
 	tests/misuse.sh
-	@echo 'shell tests, 10 of 11: the page'
+	@echo 'shell tests, 11 of 12: the page'
 	tests/page.sh ./pit
-	@echo 'shell tests, 11 of 11: installing'
+	@echo 'shell tests, 12 of 12: installing'
 	tests/install.sh
 
 pit.1: pit scripts/help.py

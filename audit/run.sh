@@ -22,8 +22,8 @@ if [ $# -eq 0 ]; then
     export RT_JOBS=1
     {
         for part in plants edits; do
-            for folder in crates/*/; do
-                echo "$part $(basename "$folder")"
+            for folder in crates/*/src; do
+                echo "$part $(basename "${folder%/src}")"
             done
         done
         for folder in audit/tests/*/; do
@@ -114,15 +114,18 @@ tests() {
     (cd "$tree/crates/$1" && rt test ${RT_JOBS:+--jobs "$RT_JOBS"}) || fail "tests of $1"
 }
 
-folders=(crates/*/)
-[ "$part" = tests ] && folders=(audit/tests/*/)
+folders=(crates/*/src)
+[ "$part" = tests ] && folders=(audit/tests/*)
+tried=0
 for folder in "${folders[@]}"; do
-    crate=$(basename "$folder")
+    crate=$(basename "${folder%/src}")
     is_wanted "$crate" || continue
+    tried=$((tried + 1))
     echo "== $part of $crate"
     take "$crate"
     "$part" "$crate"
 done
+[ "$tried" -ne 0 ] || fail "no crate of that name has $part"
 if [ "$failures" -ne 0 ]; then
     echo "$failures failed"
     exit 1

@@ -53,8 +53,11 @@ int pthread_create(pthread_t *thread, const pthread_attr_t *how, void *(*does)(v
 TEXT
 ${CC:-cc} -shared -fPIC -o refuse.so refuse.c -ldl || exit 2
 
+# The pit of the runs.
+of=("$data/tiny.cpit" "$data/tiny.prec")
+
 # is_told WORD..: where the words have a history to keep, what was kept is legal.
-is_told() { [[ " $* " != *' kept '* ]] || "$pit" replay "$data/tiny.cpit" "$data/tiny.prec" kept >/dev/null; }
+is_told() { [[ " $* " != *' kept '* ]] || "$pit" replay "${of[@]}" kept >/dev/null; }
 
 # What the file of a history holds before a run.
 echo before >old
@@ -168,6 +171,35 @@ printf '0 0 0 2\n1 0 0 1\n2 0 0 0\n3 1 0 2\n' >blocks
 each 'info' info "$data/tiny.cpit" "$data/tiny.prec" --blocks blocks
 each 'show, a solution' show "$data/tiny.cpit" "$data/tiny.sol"
 each 'show, a history up to a commit' show "$data/tiny.cpit" history --at 1
+# A pit of 100 blocks in four rows, each row in a period: what is kept of it grows past its first room. A job writes 10 blocks, another 50.
+awk 'BEGIN {
+    print "TYPE: CPIT\nNBLOCKS: 100\nNPERIODS: 4\nNRESOURCE_SIDE_CONSTRAINTS: 2\nDISCOUNT_RATE: 0.1\nOBJECTIVE_FUNCTION:" >"rows.cpit"
+    for (b = 0; b < 100; b++) print b, b % 7 - 1.5 >"rows.cpit"
+    print "RESOURCE_CONSTRAINT_COEFFICIENTS:" >"rows.cpit"
+    for (b = 0; b < 100; b++) for (r = 0; r < 2; r++) print b, r, r + 1 >"rows.cpit"
+    print "RESOURCE_CONSTRAINT_LIMITS:" >"rows.cpit"
+    for (t = 0; t < 4; t++) for (r = 0; r < 2; r++) print r, t, "L", 25 * (r + 1) >"rows.cpit"
+    for (b = 25; b < 100; b++) print b, 1, b - 25 >"rows.prec"
+    for (b = 0; b < 100; b++) print b, b % 25, 0, int(b / 25) >"rows.blocks"
+    for (b = 0; b < 100; b++) print b, int(b / 25) >"rows.sol"
+    for (b = 0; b < 100; b++) print b, 3 - int(b / 25) >"turned.sol"
+    for (b = 0; b < 40; b++) print b, int(b / 25) >"front.sol"
+    print "begin" >"rows.job"
+    for (b = 40; b < 50; b++) print "read " b - 25 "\nput", b, 1 >"rows.job"
+    print "commit\nbegin" >"rows.job"
+    for (b = 50; b < 100; b++) print "put", b, int(b / 25) >"rows.job"
+    for (t = 0; t < 4; t++) for (r = 0; r < 2; r++) print "revise", r, t, 60 >"rows.job"
+    print "commit" >"rows.job"
+}'
+of=(rows.cpit rows.prec)
+each 'rows, check --all' check --all "${of[@]}" turned.sol
+each 'rows, table' table rows.cpit rows.sol
+each 'rows, info' info "${of[@]}" --blocks rows.blocks
+each 'rows, plan' plan --start front.sol --history kept "${of[@]}" --blocks rows.blocks rows.job
+cp whole.kept rows.history
+each 'rows, log' log --writes "${of[@]}" rows.history
+each 'rows, replay' replay "${of[@]}" rows.history
+each 'rows, merge' merge "${of[@]}" front.sol rows.sol
 threads 4
 each 'help' --help
 each 'help on value' value --help

@@ -13,7 +13,9 @@ class Case:
     status: int = 0
     #: Files beside those of the theme, or in place of them.
     files: dict = dataclasses.field(default_factory=dict)
-    #: What files hold when it has ended. None: there is no such file.
+    #: What else files hold when it has ended, and which are then gone (None). All others are as they were, and no other is there.
     left: dict = dataclasses.field(default_factory=dict)
     #: Whether standard error is a terminal. What comes there is compared without the carriage returns that a terminal adds.
     terminal: bool = False
+    #: The path of a device that is its output; what it takes isn't compared.
+    into: str = ""
