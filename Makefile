@@ -4,7 +4,7 @@
 # make test           the whole gate: every proof, test, must-fail edit and stored run that no earlier run kept; then the shell tests. Leaves ./pit
 # make install        puts the program, pit-page, the manual page and the completions for bash under PREFIX (/usr/local), itself below DESTDIR
 # make uninstall      removes what make install put there
-# make audit          what the gate leaves out: pages in a browser; further edits, planted bodies and further tests on copies of the tree; a soak; 200 drawn days. Takes hours
+# make audit          what the gate leaves out: pages in a browser; on a copy of the tree further edits, planted bodies and tests; a soak; drawn days. Takes hours
 # make clean          removes what was built
 .PHONY: demo check test install uninstall audit clean
 .DELETE_ON_ERROR:
