@@ -3,7 +3,8 @@ import hashlib
 import json
 
 from case import Case
-from texts import FILES as PIT, cuts, prints, refuses
+from texts import FILES as PIT, prints, refuses
+from texts_cut import cuts
 
 FILES = {**PIT, "script": b""}
 CASES = []
@@ -237,10 +238,10 @@ for depth in 1, 100, 127, 128, 200, 10_000:
 add("brackets side by side", REPLAY, refuses("history line 1: not format 1 or 2"), history=f"[{nested(126)},{nested(126)}]")
 
 
-# A history that is cut behind each byte. Each line ends with the last bracket.
+# A history that is cut behind each byte. Each line ends with the last bracket. Its format alone, and all of it, were read above.
 LINES = REVISING.encode().splitlines(keepends=True)
 LOGS = [NO_LOG, f"{FIRST_LOG}legal 1 1\nvalue 10.500000000000000000\n", f"{FIRST_LOG}{RAISED_LOG}legal 2 2\nvalue 15.500000000000000000\n", REVISING_LOG]
 PIECES = [(b"", refuses("history line 1: not format 1 or 2"))]
 for at, (line, log) in enumerate(zip(LINES, LOGS), 1):
     PIECES += [(line[:-2], refuses(f"history line {at}: not json")), (line[-2:], prints(log))]
-cuts("a history", LOG, "history", REVISING.encode(), PIECES, add)
+cuts("a history", LOG, "history", REVISING.encode(), PIECES, add, [b'{"format":2}', REVISING.encode()])

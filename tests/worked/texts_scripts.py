@@ -1,6 +1,9 @@
 """Scripts: the jobs that are read of them, and their faults."""
 from case import Case
-from texts import FILES as PIT, HEADER, LONG, LONG_NUMBER, PLACES, cuts, prints, refuses
+from texts import FILES as PIT, HEADER, PLACES, prints, refuses
+from texts_cut import cuts
+from texts_long import LONG
+from texts_numbers import LONG_NUMBER
 
 #: The small pit with nothing set but its places: blocks 0 and 3 are at height 2, block 1 at 1 and block 2 at 0.
 FILES = {"model": HEADER, "none": b"", "blocks": PLACES}
@@ -209,9 +212,11 @@ def add_small(about, words, want, **files):
     add(about, words, want, model=PIT["model"], prec=PIT["prec"], **files)
 
 
+# Both begin so.
+BEGUN = [b"begin\n"[:end] for end in range(7)]
 CUTTING = "plan --in-turn --blocks blocks model prec script"
 cuts("a script that reads", CUTTING, "script", b"begin\nread 0\ncommit\r\nbegin\nput 1 1\nabort\n", READING, add_small)
-cuts("a script that puts", CUTTING, "script", b"begin\nput 0 0\nput 1 0\ncommit\nbegin\nput 3 0\ncommit\nbegin\nput 3 1\ncommit\n", PUTTING, add_small)
+cuts("a script that puts", CUTTING, "script", b"begin\nput 0 0\nput 1 0\ncommit\nbegin\nput 3 0\ncommit\nbegin\nput 3 1\ncommit\n", PUTTING, add_small, BEGUN)
 
 # A long script. Its blocks have each a height of its own, falling.
 LOWERED = "".join(f"{b} 0 0 -{b}\n" for b in range(1000))

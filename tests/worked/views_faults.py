@@ -1,9 +1,9 @@
 """The faults of each view: their lines and statuses, and histories of which one thing is changed, or that are cut."""
 from case import Case
 from views import (
-    FILES, LOADING, LOADING_CHECKED, LOADING_FINE, LOADING_LEGAL, LOADING_SHOWN, LOADING_TABLES, MEETING, MEETING_LEGAL, MEETING_LOGS, REVISING, SOLUTION,
-    TINY_MODEL, TINY_UNLIMITED, case, changed, fault,
+    FILES, LOADING, LOADING_CHECKED, LOADING_FINE, LOADING_TABLES, MEETING, REVISING, SOLUTION, TINY_MODEL, TINY_UNLIMITED, case, changed, fault,
 )
+from views_histories import LOADING_LEGAL, LOADING_SHOWN, MEETING_LEGAL, MEETING_LOGS
 
 #: Each command, those that read precedences, and what reads a schedule behind a model.
 COMMANDS = ["value", "check", "check --all", "table", "diff", "info --blocks last", "show --at 9", "log --writes", "replay"]
@@ -246,15 +246,16 @@ def cut(command, history, name, fine, fronts, end):
 
 
 #: A command, a history, which input that is, how many entries it has at least where all is fine, what is written of its first entries, by how many
-#: of them there are, and the step between bytes. Nothing differs between a part and itself.
+#: of them there are, and the bytes that it is cut behind. Nothing differs between a part and itself. Where both histories begin
+#: alike, they are replayed once.
 CUTS = [
-    ("check --all", LOADING, b"schedule", 3, LOADING_CHECKED, 5),
-    ("table", LOADING, b"schedule", 0, LOADING_TABLES, 5),
-    ("diff", LOADING, b"old", 0, [b"", b"", b"", b""], 5),
-    ("show", LOADING, b"schedule", 0, LOADING_SHOWN, 1),
-    ("log --writes", MEETING, b"history", 0, MEETING_LOGS, 5),
-    ("replay", MEETING, b"history", 0, MEETING_LEGAL, 1),
-    ("replay", LOADING, b"history", 0, LOADING_LEGAL, 5),
+    ("check --all", LOADING, b"schedule", 3, LOADING_CHECKED, ends(LOADING, 5)),
+    ("table", LOADING, b"schedule", 0, LOADING_TABLES, ends(LOADING, 5)),
+    ("diff", LOADING, b"old", 0, [b"", b"", b"", b""], ends(LOADING, 5)),
+    ("show", LOADING, b"schedule", 0, LOADING_SHOWN, ends(LOADING, 1)),
+    ("log --writes", MEETING, b"history", 0, MEETING_LOGS, ends(MEETING, 5)),
+    ("replay", MEETING, b"history", 0, MEETING_LEGAL, ends(MEETING, 1)),
+    ("replay", LOADING, b"history", 0, LOADING_LEGAL, [end for end in ends(LOADING, 5) if not MEETING.startswith(LOADING[:end])]),
 ]
 
 CASES = [
@@ -264,5 +265,5 @@ CASES = [
     *faults("limits that nothing meets", ["log --writes", "replay"], LIMITS, model=UNMET),
     *OTHERS,
     *CHANGED,
-    *(cut(*row, end) for *row, step in CUTS for end in ends(row[1], step)),
+    *(cut(*row, end) for *row, cuts in CUTS for end in cuts),
 ]
