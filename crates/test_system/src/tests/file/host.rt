@@ -59,7 +59,10 @@ fn makes(rt: HostRuntime) {
 // The same where a program that was ended left a file of another mode.
 #[test]
 fn makes_again(rt: HostRuntime) {
-    let (name, new_name) = ("test_system_makes_again/h", "test_system_makes_again/h.pit-new");
+    let (name, new_name) = (
+        "test_system_makes_again/h",
+        "test_system_makes_again/h.pit-new",
+    );
     assert!(rt; emptied(&rt, "test_system_makes_again"));
     assert!(rt; put(&rt, "test_system_makes_again/other", b"", 0));
     assert!(rt; put(&rt, new_name, OLD, 0o600));
@@ -97,7 +100,10 @@ fn is_handed_on(first: &mut File<'_>, second: &mut File<'_>) -> bool {
 
 #[test]
 fn lets_one_in(rt: HostRuntime) {
-    let (name, new_name) = ("test_system_lets_one_in/h", "test_system_lets_one_in/h.pit-new");
+    let (name, new_name) = (
+        "test_system_lets_one_in/h",
+        "test_system_lets_one_in/h.pit-new",
+    );
     assert!(rt; emptied(&rt, "test_system_lets_one_in"));
     assert!(rt; put(&rt, name, OLD, 0o644));
     assert!(rt; is_one_let_in(&rt, name, new_name));
