@@ -22,12 +22,12 @@ if [ $# -eq 0 ]; then
     export RT_JOBS=1
     {
         for part in plants edits; do
-            for folder in crates/*/src; do
-                echo "$part $(basename "${folder%/src}")"
+            for crate in crates/*/src audit/tests/pit_sample/src; do
+                echo "$part $(basename "${crate%/src}")"
             done
         done
-        for folder in audit/tests/*/; do
-            echo "tests $(basename "$folder")"
+        for crate in audit/tests/test_*; do
+            echo "tests $(basename "$crate")"
         done
     } | xargs -P "$lanes" -L 1 bash -c 'said=$(audit/run.sh "$@" 2>&1); status=$?; echo "$said"; exit $status' audit && echo 'all of it fine'
     exit
@@ -90,36 +90,25 @@ plants() {
     } | sort | diff - "$found" || fail "plants of $1: < is listed and was not found, > was found and is not listed"
 }
 
-# own CRATE: lays a crate that has its tests here alone, with the line of crates.txt that it needs, into the copy.
-own() {
-    local file
-    cat "$top/audit/tests/$1/needs.txt" >>"$tree/crates.txt"
-    while read -r file; do
-        install -D -m 644 "$top/audit/tests/$1/$file" "$tree/crates/$1/${file%.txt}"
-    done < <(cd "$top/audit/tests/$1" && find . -mindepth 2 -name '*.txt')
-}
-
-# tests CRATE: the test files of audit/tests/CRATE pass, beside those of the crate where it stands in the gate.
+# tests CRATE: the crate passes its tests.
 tests() {
-    local from=$top/audit/tests/$1 file
-    [ -d "$from" ] || return
-    if [ -f "$from/needs.txt" ]; then
-        own "$1"
-    else
-        for file in "$from"/*.rt.txt; do
-            cp "$file" "$tree/crates/$1/src/tests/$(basename "$file" .txt)"
-            echo "mod $(basename "$file" .rt.txt);" >>"$tree/crates/$1/src/tests.rt"
-        done
-    fi
     (cd "$tree/crates/$1" && rt test ${RT_JOBS:+--jobs "$RT_JOBS"}) || fail "tests of $1"
 }
 
-folders=(crates/*/src)
-[ "$part" = tests ] && folders=(audit/tests/*)
+# The crates that stand here alone are laid into the copy, each with the line of crates.txt that it needs: of samples first, which the others use.
+for folder in audit/tests/pit_sample audit/tests/test_*; do
+    crate=$(basename "$folder")
+    cat "$folder/needs.txt" >>"$tree/crates.txt"
+    (cd "$folder" && find . -mindepth 2 -name '*.txt') | while read -r file; do
+        install -D -m 644 "$folder/$file" "$tree/crates/$crate/${file%.txt}"
+    done
+done
+
 tried=0
-for folder in "${folders[@]}"; do
+for folder in "$tree"/crates/*/src; do
     crate=$(basename "${folder%/src}")
     is_wanted "$crate" || continue
+    [ "$part" != tests ] || [[ $crate == test_* && $crate != test_surface ]] || continue
     tried=$((tried + 1))
     echo "== $part of $crate"
     take "$crate"
