@@ -1104,6 +1104,29 @@ compare 'no memory for a script' 3 '' 'pit: no memory'
 status=$?
 compare 'no memory for a history' 3 '' 'pit: no memory'
 
+# What a text announces takes no memory before it has come: room for profits and limits only where a header is whole.
+header=$'TYPE: CPIT\nNBLOCKS: 4194304\nNPERIODS: 1000\nNRESOURCE_SIDE_CONSTRAINTS: 64\n'
+printf '%sOBJECTIVE_FUNCTION:\n' "$header" >announced
+(
+    ulimit -v 16000
+    exec "$pit" value announced solution
+) >out 2>err
+status=$?
+compare 'no memory for a header that is refused' 2 '' 'pit: model line 5: missing DISCOUNT_RATE'
+printf '%sDISCOUNT_RATE: 0.1\nOBJECTIVE_FUNCTION:\nx\n' "$header" >announced
+(
+    ulimit -v 60000
+    exec "$pit" value announced solution
+) >out 2>err
+status=$?
+compare 'no memory for coefficients behind a header' 2 '' 'pit: model line 7: field count'
+printf '0 4294967295 1\n' >announced
+(
+    ulimit -v 16000
+    exec "$pit" check model announced solution
+) >out 2>err
+status=$?
+compare 'no memory for predecessors that are announced' 2 '' 'pit: precedence line 1: predecessor count'
 
 # Too little memory for the threads of 64 planners: the report says who wasn't started, the others do their scripts, and the solution is printed.
 printf 'begin\nput 3 1\ncommit\n' >late

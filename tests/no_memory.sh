@@ -62,6 +62,9 @@ is_told() { [[ " $* " != *' kept '* ]] || "$pit" replay "${of[@]}" kept >/dev/nu
 # What the file of a history holds before a run.
 echo before >old
 
+# How many requests are refused at most, more than any run below makes.
+most=300
+
 # each NAME WORD..: runs the program with the words, once for each request.
 each() {
     local name=$1 refused=0 before=0 number status whole
@@ -70,7 +73,7 @@ each() {
     "$pit" "$@" >whole.out 2>whole.err
     whole=$?
     cp kept whole.kept
-    for number in {1..300}; do
+    for number in $(seq "$most"); do
         cp old kept
         REFUSED_REQUEST=$number LD_PRELOAD=./refuse.so "$pit" "$@" >out 2>err
         status=$?
@@ -90,7 +93,7 @@ each() {
     done
     # In the last run nothing is left to refuse.
     if [ "$refused" -eq 0 ] || [ "$refused" -ne "$before" ]; then
-        echo "FAIL  $name: $refused of 300 runs had no memory: none, or the last one too"
+        echo "FAIL  $name: $refused of $most runs had no memory: none, or the last one too"
         failures=$((failures + 1))
     else
         echo "ok    $name: $refused requests refused"
@@ -192,6 +195,7 @@ awk 'BEGIN {
     print "commit" >"rows.job"
 }'
 of=(rows.cpit rows.prec)
+most=400
 each 'rows, check --all' check --all "${of[@]}" turned.sol
 each 'rows, table' table rows.cpit rows.sol
 each 'rows, info' info "${of[@]}" --blocks rows.blocks
@@ -200,6 +204,7 @@ cp whole.kept rows.history
 each 'rows, log' log --writes "${of[@]}" rows.history
 each 'rows, replay' replay "${of[@]}" rows.history
 each 'rows, merge' merge "${of[@]}" front.sol rows.sol
+most=300
 threads 4
 each 'help' --help
 each 'help on value' value --help
