@@ -15,17 +15,17 @@ run_on() {
 # script.
 declare -A seconds memory
 best() {
-    local key=$1 most=$2 status=0 begun ended m s
+    local key=$1 most=$2 status=0 begun ended m s user system
     shift 2
     begun=$EPOCHREALTIME
-    /usr/bin/time -f '%M' -o "$work/measured" "$@" >"$work/out" 2>"$work/err" || status=$?
+    /usr/bin/time -f '%M %U %S' -o "$work/measured" "$@" >"$work/out" 2>"$work/err" || status=$?
     ended=$EPOCHREALTIME
     if [ "$status" -gt "$most" ]; then
         echo "$key: status $status" >&2
         tail -2 "$work/err" >&2
         exit 1
     fi
-    m=$(tail -1 "$work/measured")
+    read -r m user system < <(tail -1 "$work/measured")
     s=$(awk "BEGIN { print $ended - $begun }")
     if awk "BEGIN { exit !($s < ${seconds[$key]:-999999}) }"; then seconds[$key]=$s; fi
     if [ "$m" -lt "${memory[$key]:-999999999}" ]; then memory[$key]=$m; fi
@@ -57,9 +57,9 @@ script() {
 # middle: the third of five numbers.
 middle() { sort -g | sed -n 3p; }
 
-# turn KEY BASE PROGRAM WORD..: one run, whose seconds and memory go to the file KEY of work, with those of the last run of BASE and the bytes that were
-# written. A status above 1 ends the script.
-declare -A last
+# turn KEY BASE PROGRAM WORD..: one run, whose seconds and memory go to the file KEY of work, with those of the last run of BASE, the bytes that were
+# written, and the seconds of processor time of both. A status above 1 ends the script.
+declare -A last processor
 turn() {
     local key=$1 base=$2
     shift 2
@@ -67,7 +67,8 @@ turn() {
     memory=()
     best "$key" 1 "$@"
     last[$key]="${seconds[$key]} ${memory[$key]}"
-    echo "${last[$key]} ${last[$base]} $(wc -c <"$work/out")" >>"$work/$key"
+    processor[$key]=$(tail -1 "$work/measured" | awk '{ print $2 + $3 }')
+    echo "${last[$key]} ${last[$base]} $(wc -c <"$work/out") ${processor[$key]} ${processor[$base]}" >>"$work/$key"
 }
 
 # middle_of KEY EXPRESSION: the middle of what an expression of awk gives for each line of the file KEY.

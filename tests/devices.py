@@ -14,16 +14,14 @@ import sys
 import tempfile
 import threading
 
+sys.dont_write_bytecode = True
+sys.path.insert(0, os.path.join(os.path.dirname(os.path.abspath(__file__)), "worked"))
+from tiny import LOADING  # noqa: E402
+
 if len(sys.argv) != 3:
     sys.exit(__doc__)
 PIT, FOLDER = (os.path.abspath(word) for word in sys.argv[1:3])
 MODEL, PRECEDENCES, SOLUTION = (os.path.join(FOLDER, f"tiny.{kind}") for kind in ("cpit", "prec", "sol"))
-#: A history, whose lines each view tells.
-HISTORY = """{"format":1}
-{"act":"commit","job":1,"planner":1,"reads":[],"reply":{"committed":1},"start":0,"writes":[[0,0],[1,0]]}
-{"act":"commit","job":2,"planner":1,"reads":[],"reply":{"over":[0,0,"5000000","4000000"]},"start":1,"writes":[[3,0]]}
-{"act":"commit","job":3,"planner":1,"reads":[],"reply":{"committed":2},"start":1,"writes":[[3,1]]}
-"""
 
 
 def full(room):
@@ -73,7 +71,7 @@ def main():
     with tempfile.TemporaryDirectory() as work:
         os.chdir(work)
         with open("history", "w") as file:
-            file.write(HISTORY)
+            file.write(LOADING)
         commands = [
             ["value", MODEL, SOLUTION], ["check", MODEL, PRECEDENCES, SOLUTION], ["check", "--all", MODEL, PRECEDENCES, "history"], ["table", MODEL, "history"],
             ["diff", MODEL, SOLUTION, "history"], ["info", MODEL, PRECEDENCES], ["show", MODEL, "history"], ["log", "--writes", MODEL, PRECEDENCES, "history"],

@@ -67,7 +67,7 @@ most=300
 
 # each NAME WORD..: runs the program with the words, once for each request.
 each() {
-    local name=$1 refused=0 before=0 quiet=0 number status whole
+    local name=$1 refused=0 before=0 number status whole
     shift
     cp old kept
     "$pit" "$@" >whole.out 2>whole.err
@@ -90,9 +90,6 @@ each() {
             echo "FAIL  $name: request $number refused: status $status"
             failures=$((failures + 1))
         fi
-        # Behind so many runs to which nothing was refused there are no further requests.
-        [ "$refused" = "$before" ] && quiet=$((quiet + 1)) || quiet=0
-        [ "$quiet" -lt 20 ] || break
     done
     # In the last run nothing is left to refuse.
     if [ "$refused" -eq 0 ] || [ "$refused" -ne "$before" ]; then

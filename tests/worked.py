@@ -18,6 +18,8 @@ import threading
 sys.dont_write_bytecode = True
 HERE = os.path.dirname(os.path.abspath(__file__))
 THEMES = os.path.join(HERE, "worked")
+#: What themes are made of.
+NO_THEMES = ["case", "tiny"]
 #: A run takes some milliseconds, and the longest of a text of 12 MB less than a second. Seconds.
 LONGEST = 60
 #: How much of a wanted or a found text is shown, in characters.
@@ -79,7 +81,7 @@ def wrongs(program, case, files):
 
 
 def main():
-    known = sorted(name[:-3] for name in os.listdir(THEMES) if name.endswith(".py") and name != "case.py")
+    known = sorted(name[:-3] for name in os.listdir(THEMES) if name.endswith(".py") and name[:-3] not in NO_THEMES)
     names = sys.argv[2:] or known
     if len(sys.argv) < 2 or not os.access(sys.argv[1], os.X_OK) or not set(names) <= set(known):
         sys.exit(f"usage: {sys.argv[0]} PIT [THEME..]      of the themes {' '.join(known)}")

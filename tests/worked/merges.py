@@ -3,41 +3,11 @@ import hashlib
 import json
 
 from case import Case
+from tiny import EMPTY, LOADING, MODEL, PRECEDENCES
 
-MODEL = """NAME: Tiny
-TYPE: CPIT
-NBLOCKS: 4
-NPERIODS: 2
-NRESOURCE_SIDE_CONSTRAINTS: 1
-DISCOUNT_RATE: 0.1
-OBJECTIVE_FUNCTION:
-0 -10
-1 20.5
-2 30
-3 5
-RESOURCE_CONSTRAINT_COEFFICIENTS:
-0 0 2
-1 0 2
-2 0 3
-3 0 1
-RESOURCE_CONSTRAINT_LIMITS:
-0 0 L 4
-0 1 I 1 4
-EOF
-"""
-FILES = {"model": MODEL.encode(), "precedence": b"0 0\n1 1 0\n2 2 0 1\n3 0\n"}
+FILES = {"model": MODEL.encode(), "precedence": PRECEDENCES.encode()}
 
-#: The history of no entry.
-EMPTY = '{"format":1}\n'
-#: Blocks 0 and 1 in period 0.
-FRONT = """{"format":1}
-{"act":"commit","job":1,"planner":1,"reads":[],"reply":{"committed":1},"start":0,"writes":[[0,0],[1,0]]}
-"""
-#: Then block 3 there too, which is too much; and block 3 in period 1.
-TOO_MUCH = '{"act":"commit","job":2,"planner":1,"reads":[],"reply":{"over":[0,0,"5000000","4000000"]},"start":1,"writes":[[3,0]]}\n'
-THIRD = '{"act":"commit","job":3,"planner":1,"reads":[],"reply":{"committed":2},"start":1,"writes":[[3,1]]}\n'
-LOADING = FRONT + TOO_MUCH + THIRD
-#: The same with another number of the last commit.
+#: LOADING with another number of the last commit.
 TURNED = LOADING.replace('"committed":2', '"committed":3')
 
 #: What `show` writes first of LOADING after none, one and both of its commits. The sums are those of `sha256sum`.

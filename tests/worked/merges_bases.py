@@ -3,25 +3,12 @@ import re
 
 from case import Case
 from merges import (
-    EMPTY, FILES, FIRST, FRONT, HELD, LOADING, MARK_0, MARK_1, MARK_2, MISSING, MIXED, NOTHING, PLAIN, SECOND, SHORT, THIRD, ZERO, commit, history, merged,
-    refused, schedule,
+    FILES, FIRST, HELD, MARK_0, MARK_1, MARK_2, MISSING, MIXED, NOTHING, PLAIN, SECOND, SHORT, ZERO, commit, history, merged, refused, schedule,
 )
+from tiny import EMPTY, FRONT, LOADING, MEETING, REVISING, THIRD
 
 #: LOADING without what was refused.
 UNREFUSED = FRONT + THIRD
-#: The first entry of LOADING; then the limit is raised for block 3, and can't be lowered again.
-REVISING = """{"format":2}
-{"act":"commit","job":1,"planner":1,"reads":[],"reply":{"committed":1},"revises":[],"start":0,"writes":[[0,0],[1,0]]}
-{"act":"commit","job":2,"planner":1,"reads":[],"reply":{"committed":2},"revises":[[0,0,"5000000"]],"start":1,"writes":[[3,0]]}
-{"act":"commit","job":3,"planner":1,"reads":[],"reply":{"over":[0,0,"5000000","4000000"]},"revises":[[0,0,"4000000"]],"start":2,"writes":[]}
-"""
-#: Block 3 is put in and taken out again. It leaves no block.
-MEETING = """{"format":1}
-{"act":"commit","job":0,"planner":0,"reads":[],"reply":{"committed":1},"start":0,"writes":[[3,1]]}
-{"act":"commit","job":1,"planner":2,"reads":[],"reply":{"committed":2},"start":1,"writes":[[3,null]]}
-{"act":"commit","job":1,"planner":1,"reads":[[3,1]],"reply":{"moved":[3,2]},"start":1,"writes":[[3,0]]}
-{"act":"withdraw","job":1,"planner":1,"reads":[[3,null]],"reply":"withdrawn","start":2,"writes":[]}
-"""
 #: An edit behind the first line of no commit, and the sum of the first one behind another word.
 ZEROTH, SPELT = f"{MARK_0}\n3 1\n", MARK_1.replace("sum", "Sum")
 

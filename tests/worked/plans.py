@@ -1,27 +1,7 @@
 """Scripts of planners, and what they leave."""
+import tiny
 from case import Case
-
-TINY_MODEL = """\
-NAME: Tiny
-TYPE: CPIT
-NBLOCKS: 4
-NPERIODS: 2
-NRESOURCE_SIDE_CONSTRAINTS: 1
-DISCOUNT_RATE: 0.1
-OBJECTIVE_FUNCTION:
-0 -10
-1 20.5
-2 30
-3 5
-RESOURCE_CONSTRAINT_COEFFICIENTS:
-0 0 2
-1 0 2
-2 0 3
-3 0 1
-RESOURCE_CONSTRAINT_LIMITS:
-0 0 L 4
-0 1 I 1 4
-"""
+from tiny import EMPTY, LOADING, PRECEDENCES, REVISING, UNENDED
 
 # Thirteen blocks, fifteen periods and eight resources, so that no two numbers of a line need be the same.
 WIDE_MODEL = """\
@@ -52,28 +32,12 @@ RESOURCE_CONSTRAINT_LIMITS:
 """
 
 FILES = {
-    "tiny.cpit": TINY_MODEL.encode(),
-    "tiny.prec": b"0 0\n1 1 0\n2 2 0 1\n3 0\n",
-    "tiny.blocks": b"0 0 0 2\n1 0 0 1\n2 0 0 0\n3 1 0 2\n",
+    "tiny.cpit": UNENDED.encode(),
+    "tiny.prec": PRECEDENCES.encode(),
+    "tiny.blocks": tiny.PLACES.encode(),
     "wide.cpit": WIDE_MODEL.encode(),
     "wide.prec": b"12 1 8\n",
 }
-
-# A block that is too much for its period is mined in the next.
-LOADING = """\
-{"format":1}
-{"act":"commit","job":1,"planner":1,"reads":[],"reply":{"committed":1},"start":0,"writes":[[0,0],[1,0]]}
-{"act":"commit","job":2,"planner":1,"reads":[],"reply":{"over":[0,0,"5000000","4000000"]},"start":1,"writes":[[3,0]]}
-{"act":"commit","job":3,"planner":1,"reads":[],"reply":{"committed":2},"start":1,"writes":[[3,1]]}
-"""
-
-# A limit is raised, so that a block fits in, and can't be lowered again.
-REVISING = """\
-{"format":2}
-{"act":"commit","job":1,"planner":1,"reads":[],"reply":{"committed":1},"revises":[],"start":0,"writes":[[0,0],[1,0]]}
-{"act":"commit","job":2,"planner":1,"reads":[],"reply":{"committed":2},"revises":[[0,0,"5000000"]],"start":1,"writes":[[3,0]]}
-{"act":"commit","job":3,"planner":1,"reads":[],"reply":{"over":[0,0,"5000000","4000000"]},"revises":[[0,0,"4000000"]],"start":2,"writes":[]}
-"""
 
 # Block 3 has period 1, as a start.
 BLOCK_3 = """\
@@ -86,9 +50,6 @@ NOTHING = "value 0.000000000000000000\nshort 0 1 0.000000 1.000000\n"
 
 # Where a history's file isn't there yet.
 NEW = object()
-
-# The history where no job is done.
-NO_ENTRY = '{"format":1}\n'
 
 
 def jobs(*each):
@@ -142,8 +103,8 @@ value 15.045454545455000000
 ALONE = [
     *plan("three jobs, of which the second is too heavy", THREE, THREE_LEFT, THREE_TOLD, kept=LOADING),
     *plan("the same without a history", THREE, THREE_LEFT, THREE_TOLD),
-    *plan("no byte", "", "", NOTHING, 1, kept=NO_ENTRY),
-    *plan("no jobs", "\n", "", NOTHING, 1, kept=NO_ENTRY),
+    *plan("no byte", "", "", NOTHING, 1, kept=EMPTY),
+    *plan("no jobs", "\n", "", NOTHING, 1, kept=EMPTY),
     *plan(
         "a limit is revised", jobs("put 0 0, put 1 0", "put 3 0, revise 0 0 5", "revise 0 0 4"), "0 0\n1 0\n3 0\n", """\
 planner 1 job 1 committed 1 tries 1
@@ -187,7 +148,7 @@ value 4.545454545455000000
 {"act":"withdraw","job":2,"planner":1,"reads":[[3,1]],"reply":"withdrawn","start":1,"writes":[]}
 """),
     *plan("a start is an entry", "", "3 1\n", "value 4.545454545455000000\n", start="3 1\n", kept=BLOCK_3),
-    *plan("an empty start is none", "", "", NOTHING, 1, start="", kept=NO_ENTRY),
+    *plan("an empty start is none", "", "", NOTHING, 1, start="", kept=EMPTY),
     *plan(
         "loads and limits of either sign", jobs(
             "revise 3 14 -0.5", "put 0 14, revise 3 14 -0.5", "put 1 14, revise 3 14 -12.000002", "put 2 14, revise 3 14 -2.000006",
@@ -240,7 +201,7 @@ short 0 1 0.000000 1.000000
 """),
     *in_turn(
         "in turn: empty scripts before and behind", ["", ONE_JOB, ONE_JOB, ""], "",
-        "planner 2 job 1 committed 1 tries 1\nplanner 3 job 1 committed 2 tries 1\n" + NOTHING, 1, kept=NO_ENTRY + """\
+        "planner 2 job 1 committed 1 tries 1\nplanner 3 job 1 committed 2 tries 1\n" + NOTHING, 1, kept=EMPTY + """\
 {"act":"commit","job":1,"planner":2,"reads":[],"reply":{"committed":1},"start":0,"writes":[[0,null]]}
 {"act":"commit","job":1,"planner":3,"reads":[],"reply":{"committed":2},"start":1,"writes":[[0,null]]}
 """),
@@ -261,7 +222,7 @@ value 4.545454545455000000
 """),
     *in_turn(
         "in turn: the most planners", [ONE_JOB] * MOST, "", lines("planner {number} job 1 committed {number} tries 1", MOST) + NOTHING, 1,
-        kept=NO_ENTRY + lines(
+        kept=EMPTY + lines(
             '{{"act":"commit","job":1,"planner":{number},"reads":[],"reply":{{"committed":{number}}},"start":{before},"writes":[[0,null]]}}', MOST,
         ),
     ),
@@ -332,7 +293,7 @@ TOO_MANY = [ONE_JOB] * (MOST + 1)
 
 def behind(model, line):
     """The text of a model with one more limit."""
-    return {f"{model}.cpit": {"tiny": TINY_MODEL, "wide": WIDE_MODEL}[model] + line + "\n"}
+    return {f"{model}.cpit": {"tiny": UNENDED, "wide": WIDE_MODEL}[model] + line + "\n"}
 
 
 BAD_MODEL = {"tiny.cpit": BAD, "tiny.prec": BAD, "tiny.blocks": BAD}

@@ -1,9 +1,9 @@
 """Histories that a plan goes on from, that are legal over one pit alone, and that runs have kept."""
 from case import Case
-from plans import LOADING, REVISING
 from plans_histories import (
     AFTER_THREE, FILES, Left, THREE_BLOCKS, ask, audits, by_script, commit, committed, history_of, legal, log_of, moved, story, views, withdraw,
 )
+from tiny import LOADING, MEETING, REVISING
 
 SWAP = commit(2, [(3, 1)], [(2, 1), (3, None)], committed(3))
 AFTER_SWAP = Left(3, (0, 0, 1, None), (1, 1, 3, 3), (4_000_000, 3_000_000), value="37.772727272730000000")
@@ -55,14 +55,6 @@ period,blocks,value,cumulative,load_0,lower_0,upper_0,room_0,load_1,lower_1,uppe
     *wrong("no resource 1", NO_RESOURCE),
 ]
 
-# A planner's block is taken out again by another, so that what was read is refused, and then withdrawn. No block is mined at its end.
-MEETING = """\
-{"format":1}
-{"act":"commit","job":0,"planner":0,"reads":[],"reply":{"committed":1},"start":0,"writes":[[3,1]]}
-{"act":"commit","job":1,"planner":2,"reads":[],"reply":{"committed":2},"start":1,"writes":[[3,null]]}
-{"act":"commit","job":1,"planner":1,"reads":[[3,1]],"reply":{"moved":[3,2]},"start":1,"writes":[[3,0]]}
-{"act":"withdraw","job":1,"planner":1,"reads":[[3,null]],"reply":"withdrawn","start":2,"writes":[]}
-"""
 MEETING_LOG = """\
 entry 1 planner 0 job 0 start 0 reads 0 writes 1 revises 0 cause - committed 1
 write 3 - 1

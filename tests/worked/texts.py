@@ -1,21 +1,11 @@
 """Texts of a pit and of a schedule: what is read of them, and their faults."""
+import tiny
 from case import Case
 
-HEADER = b"""NAME: Tiny
-TYPE: CPIT
-NBLOCKS: 4
-NPERIODS: 2
-NRESOURCE_SIDE_CONSTRAINTS: 1
-DISCOUNT_RATE: 0.1
-"""
-OBJECTIVE = b"OBJECTIVE_FUNCTION:\n0 -10\n1 20.5\n2 30\n3 5\n"
-COEFFICIENTS = b"RESOURCE_CONSTRAINT_COEFFICIENTS:\n0 0 2\n1 0 2\n2 0 3\n3 0 1\n"
-LIMITS = b"RESOURCE_CONSTRAINT_LIMITS:\n0 0 L 4\n0 1 I 1 4\n"
-#: The small pit. Block 1 comes after block 0, and block 2 after both.
-MODEL = HEADER + OBJECTIVE + COEFFICIENTS + LIMITS + b"EOF\n"
-PRECEDENCES = b"0 0\n1 1 0\n2 2 0 1\n3 0\n"
-PLACES = b"0 0 0 2\n1 0 0 1\n2 0 0 0\n3 1 0 2\n"
-SOLUTION = b"0 0\n1 0\n2 1\n"
+HEADER, OBJECTIVE, COEFFICIENTS, LIMITS, MODEL, PRECEDENCES, PLACES, SOLUTION = (
+    text.encode()
+    for text in (tiny.HEADER, tiny.OBJECTIVE, tiny.COEFFICIENTS, tiny.LIMITS, tiny.MODEL, tiny.PRECEDENCES, tiny.PLACES, tiny.SOLUTION)
+)
 #: One of whole numbers is a million millionths.
 ONE = 10**6
 #: The profit and the coefficient of each of its blocks, in millionths.

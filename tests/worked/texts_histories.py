@@ -5,6 +5,7 @@ import json
 from case import Case
 from texts import FILES as PIT, prints, refuses
 from texts_cut import cuts
+from tiny import LOADING, MEETING, REVISING
 
 FILES = {**PIT, "script": b""}
 CASES = []
@@ -20,13 +21,6 @@ def add(about, words, want, left=None, **files):
     CASES.append(Case(about, words.split(), files=held, left={"history": left.encode()} if left else {}, **want))
 
 
-# A planner's block is taken out again by another, so that what was read is refused, and then withdrawn.
-MEETING = """{"format":1}
-{"act":"commit","job":0,"planner":0,"reads":[],"reply":{"committed":1},"start":0,"writes":[[3,1]]}
-{"act":"commit","job":1,"planner":2,"reads":[],"reply":{"committed":2},"start":1,"writes":[[3,null]]}
-{"act":"commit","job":1,"planner":1,"reads":[[3,1]],"reply":{"moved":[3,2]},"start":1,"writes":[[3,0]]}
-{"act":"withdraw","job":1,"planner":1,"reads":[[3,null]],"reply":"withdrawn","start":2,"writes":[]}
-"""
 MEETING_LOG = f"""entry 1 planner 0 job 0 start 0 reads 0 writes 1 revises 0 cause - committed 1
 write 3 - 1
 entry 2 planner 2 job 1 start 1 reads 0 writes 1 revises 0 cause - committed 2
@@ -35,24 +29,12 @@ entry 3 planner 1 job 1 start 1 reads 1 writes 1 revises 0 cause 2 refused moved
 entry 4 planner 1 job 1 start 2 reads 1 writes 0 revises 0 cause - withdrawn
 legal 4 2
 {ZERO}"""
-# A block that is too much for its period is mined in the next, where it is worth 5 * 0.909090909091. The others are worth -10 + 20.5.
-LOADING = """{"format":1}
-{"act":"commit","job":1,"planner":1,"reads":[],"reply":{"committed":1},"start":0,"writes":[[0,0],[1,0]]}
-{"act":"commit","job":2,"planner":1,"reads":[],"reply":{"over":[0,0,"5000000","4000000"]},"start":1,"writes":[[3,0]]}
-{"act":"commit","job":3,"planner":1,"reads":[],"reply":{"committed":2},"start":1,"writes":[[3,1]]}
-"""
 FIRST_LOG = "entry 1 planner 1 job 1 start 0 reads 0 writes 2 revises 0 cause - committed 1\nwrite 0 - 0\nwrite 1 - 0\n"
 LOADING_LOG = f"""{FIRST_LOG}entry 2 planner 1 job 2 start 1 reads 0 writes 1 revises 0 cause - refused over 0 0 5.000000 4.000000
 entry 3 planner 1 job 3 start 1 reads 0 writes 1 revises 0 cause - committed 2
 write 3 - 1
 legal 3 2
 value 15.045454545455000000
-"""
-# A limit is raised, so that a block fits in, and can't be lowered again.
-REVISING = """{"format":2}
-{"act":"commit","job":1,"planner":1,"reads":[],"reply":{"committed":1},"revises":[],"start":0,"writes":[[0,0],[1,0]]}
-{"act":"commit","job":2,"planner":1,"reads":[],"reply":{"committed":2},"revises":[[0,0,"5000000"]],"start":1,"writes":[[3,0]]}
-{"act":"commit","job":3,"planner":1,"reads":[],"reply":{"over":[0,0,"5000000","4000000"]},"revises":[[0,0,"4000000"]],"start":2,"writes":[]}
 """
 RAISED_LOG = "entry 2 planner 1 job 2 start 1 reads 0 writes 1 revises 1 cause - committed 2\nwrite 3 - 0\nrevise 0 0 4.000000 5.000000\n"
 LOWERED_LOG = "entry 3 planner 1 job 3 start 2 reads 0 writes 0 revises 1 cause - refused over 0 0 5.000000 4.000000\n"

@@ -1,65 +1,16 @@
 """What `value`, `check` and `table` write of schedules, and the small pit that all views are shown of."""
+import tiny
 from case import Case
 
-#: The small pit: four blocks, two periods, one resource and a rate of 0.1. At most 4 may be loaded in a period, and at least 1 in period 1.
-TINY_MODEL = b"""\
-NAME: Tiny
-TYPE: CPIT
-NBLOCKS: 4
-NPERIODS: 2
-NRESOURCE_SIDE_CONSTRAINTS: 1
-DISCOUNT_RATE: 0.1
-OBJECTIVE_FUNCTION:
-0 -10
-1 20.5
-2 30
-3 5
-RESOURCE_CONSTRAINT_COEFFICIENTS:
-0 0 2
-1 0 2
-2 0 3
-3 0 1
-RESOURCE_CONSTRAINT_LIMITS:
-0 0 L 4
-0 1 I 1 4
-EOF
-"""
+TINY_MODEL, TINY_PRECEDENCE, SOLUTION, LOADING, REVISING, MEETING = (
+    text.encode() for text in (tiny.MODEL, tiny.PRECEDENCES, tiny.SOLUTION, tiny.LOADING, tiny.REVISING, tiny.MEETING)
+)
 
-#: The same up to its limits.
+#: The model up to its limits.
 TINY_UNLIMITED = TINY_MODEL[: TINY_MODEL.index(b"0 0 L 4")]
-
-#: Block 1 comes after block 0, and block 2 after both.
-TINY_PRECEDENCE = b"0 0\n1 1 0\n2 2 0 1\n3 0\n"
-
-SOLUTION = b"0 0\n1 0\n2 1\n"
 
 #: Blocks that are mined before those they come after.
 TURNED = b"0 1\n1 0\n2 0\n3 0\n"
-
-#: A planner's block is taken out again by another, so that what was read is refused, and then withdrawn. No block is mined at its end.
-MEETING = b"""\
-{"format":1}
-{"act":"commit","job":0,"planner":0,"reads":[],"reply":{"committed":1},"start":0,"writes":[[3,1]]}
-{"act":"commit","job":1,"planner":2,"reads":[],"reply":{"committed":2},"start":1,"writes":[[3,null]]}
-{"act":"commit","job":1,"planner":1,"reads":[[3,1]],"reply":{"moved":[3,2]},"start":1,"writes":[[3,0]]}
-{"act":"withdraw","job":1,"planner":1,"reads":[[3,null]],"reply":"withdrawn","start":2,"writes":[]}
-"""
-
-#: A block that is too much for its period is mined in the next. It leaves blocks 0 and 1 in period 0, and block 3 in period 1.
-LOADING = b"""\
-{"format":1}
-{"act":"commit","job":1,"planner":1,"reads":[],"reply":{"committed":1},"start":0,"writes":[[0,0],[1,0]]}
-{"act":"commit","job":2,"planner":1,"reads":[],"reply":{"over":[0,0,"5000000","4000000"]},"start":1,"writes":[[3,0]]}
-{"act":"commit","job":3,"planner":1,"reads":[],"reply":{"committed":2},"start":1,"writes":[[3,1]]}
-"""
-
-#: A limit is raised, so that a block fits in, and can't be lowered again. It leaves blocks 0, 1 and 3 in period 0, where 5 may be loaded.
-REVISING = b"""\
-{"format":2}
-{"act":"commit","job":1,"planner":1,"reads":[],"reply":{"committed":1},"revises":[],"start":0,"writes":[[0,0],[1,0]]}
-{"act":"commit","job":2,"planner":1,"reads":[],"reply":{"committed":2},"revises":[[0,0,"5000000"]],"start":1,"writes":[[3,0]]}
-{"act":"commit","job":3,"planner":1,"reads":[],"reply":{"over":[0,0,"5000000","4000000"]},"revises":[[0,0,"4000000"]],"start":2,"writes":[]}
-"""
 
 #: What a case has where it says no other text. `last` is what a command reads last, and `old` what `diff` reads before it.
 FILES = {"model": TINY_MODEL, "prec": TINY_PRECEDENCE, "old": LOADING}

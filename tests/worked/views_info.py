@@ -1,8 +1,9 @@
 """What `info` writes of pits: their numbers, their places, and keys that aren't known."""
+import tiny
 from views import FILES, TINY_MODEL, TINY_PRECEDENCE, case, changed, fault
 
 #: Where the blocks lie: two of the four at one height.
-PLACES = b"0 0 0 2\n1 0 0 1\n2 0 0 0\n3 1 0 2\n"
+PLACES = tiny.PLACES.encode()
 
 TINY_COUNTS = b"blocks 4\nperiods 2\nresources 1\nrate 0.100000\nprofits 4\ncoefficients 4\nlower 1\nupper 2\n"
 
