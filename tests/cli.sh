@@ -186,6 +186,7 @@ pairs 3
 roots 2
 highest 2'
 check 'info' 0 "$COUNTS" '' info model precedence
+check 'info, from pipes' 0 "$COUNTS" '' info <(cat model) <(cat precedence)
 check 'info, with places' 0 "$COUNTS
 places 4
 benches 3" '' info --blocks blocks model precedence
@@ -238,6 +239,7 @@ check 'show, a number that is too large' 2 '' "$SOME" show model revised --at 42
 check 'show, no number' 2 '' "$SOME" show model revised --at -1
 check 'show, an entry of another pit' 2 '' 'pit: schedule: illegal 1' show model foreign --at 7
 check 'show, no schedule' 3 '' 'pit: cannot read schedule' show refused missing
+check 'show, a folder' 3 '' 'pit: cannot read schedule' show model folder
 "$pit" show model revised 2>/dev/null | "$pit" diff model - revised >out 2>err
 status=$?
 compare 'a path is a path' 3 '' 'pit: cannot read old'
@@ -250,7 +252,22 @@ check 'replay, after the model was changed' 1 'illegal 1' '' replay changed prec
 check 'check --all, after the model was changed' 1 'value 60.500000000000000000
 short 0 1 0.000000 1.000000
 broken 0 over 0 short 1' '' check --all changed precedence revised
-for command in 'table model' 'diff model solution' 'info model' 'show model'; do
+check 'table, after the model was changed' 0 'period,blocks,value,cumulative,load_0,lower_0,upper_0,room_0
+0,3,60.500000000000000000,60.500000000000000000,5.000000,,5.000000,0.000000
+1,0,0.000000000000000000,60.500000000000000000,0.000000,1.000000,4.000000,4.000000' '' table changed revised
+check 'diff, after the model was changed' 1 'block 2 1 -
+block 3 - 0
+moves 1 - 1
+moves - 0 1
+limit 0 0 3.000000 5.000000
+load 0 0 4.000000 5.000000
+load 0 1 3.000000 0.000000
+value 37.772727272730000000 60.500000000000000000' '' diff changed solution revised
+check 'show, after the model was changed' 0 "% commits 2 sum $SUM_OF_REVISED
+0 0
+1 0
+3 0" '' show changed revised
+for command in 'check --all model precedence' 'table model' 'diff model solution' 'info model' 'show model'; do
     last=revised
     [ "$command" != 'info model' ] || last=precedence
     "$pit" $command $last 2>err >/dev/full
@@ -842,6 +859,11 @@ status=0
 : >err
 compare 'which makes no file' 0 '' ''
 check 'plan, a history to carry on, a start and one that is written' 2 '' "$SOME" plan --history fresh --start missing --continue fresh missing missing missing
+check 'merge, a history to carry on and one that is written' 2 '' "$SOME" merge missing missing --history fresh --continue fresh missing
+status=0
+[ ! -e fresh ] || status=left
+: >err
+compare 'which makes no file either' 0 '' ''
 check 'plan, a start and a history that is written' 3 '' 'pit: cannot read model' plan --history fresh --start missing missing missing missing
 check 'plan, its flags are known' 3 '' 'pit: cannot read model' plan --in-turn --strict missing missing missing
 check 'plan, a flag that is given twice' 2 '' "$SOME" plan --strict --strict model precedence script
