@@ -22,7 +22,7 @@ pub fn read_blocks<A: Allocator + Copy + Drop>(
 {
     let mut lines = Lines::new(text);
     while let Some(line) = lines.next() {
-        if let Err(cause) = read_line(&mut builder, line.fields) {
+        if let Err(cause) = judge_line(&mut builder, line.fields) {
             return Err(TextError {
                 line: line.number,
                 cause,
@@ -32,7 +32,7 @@ pub fn read_blocks<A: Allocator + Copy + Drop>(
     Ok(builder)
 }
 
-fn read_line<A: Allocator + Copy + Drop>(
+fn judge_line<A: Allocator + Copy + Drop>(
     builder: &mut Builder<A>,
     fields: Fields<'_>,
 ) -> Result<(), Cause>

@@ -50,7 +50,7 @@ pub fn read_model<A: Allocator + Copy + Drop>(
         });
     };
     while let Some((line, said)) = next_said(&mut lines, draft.section()) {
-        if let Err(cause) = read_line(&mut draft, &mut builder, line.fields, said) {
+        if let Err(cause) = judge_line(&mut draft, &mut builder, line.fields, said) {
             return Err(TextError {
                 line: line.number,
                 cause,
@@ -108,7 +108,7 @@ fn read_header_line(draft: &mut Draft, mut fields: Fields<'_>) -> Result<(), Cau
 }
 
 /// A line behind the first section line, of which it may be known what it says.
-fn read_line<A: Allocator + Copy + Drop>(
+fn judge_line<A: Allocator + Copy + Drop>(
     draft: &mut Draft,
     builder: &mut Builder<A>,
     fields: Fields<'_>,

@@ -27,7 +27,7 @@ pub fn read_precedence<A: Allocator + Copy + Drop, B: Allocator + Copy + Drop>(
     let mut listed = Vec::new(alloc);
     let mut lines = Lines::new(text);
     while let Some((line, known)) = lines.next_listed(&mut listed) {
-        if let Err(cause) = read_line(&mut builder, &mut listed, line.fields, known) {
+        if let Err(cause) = judge_line(&mut builder, &mut listed, line.fields, known) {
             return Err(TextError {
                 line: line.number,
                 cause,
@@ -39,7 +39,7 @@ pub fn read_precedence<A: Allocator + Copy + Drop, B: Allocator + Copy + Drop>(
 
 /// Adds a line. `known` has its block where the line was plain, and its predecessors are then in the list; or that there was no memory for these. Where
 /// there is none, the line is judged without a list.
-fn read_line<A: Allocator + Copy + Drop, B: Allocator + Drop>(
+fn judge_line<A: Allocator + Copy + Drop, B: Allocator + Drop>(
     builder: &mut Builder<A>,
     listed: &mut Vec<u32, B>,
     fields: Fields<'_>,

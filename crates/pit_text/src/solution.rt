@@ -70,7 +70,7 @@ fn read_slots<A: Allocator + Drop>(
     let mut slots = Vec::new(alloc);
     let mut lines = Lines::new(text);
     while let Some((line, pair)) = lines.next_pair() {
-        if let Err(cause) = read_line(&mut slots, line.fields, pair, blocks, periods) {
+        if let Err(cause) = judge_line(&mut slots, line.fields, pair, blocks, periods) {
             return Err(TextError {
                 line: line.number,
                 cause,
@@ -81,7 +81,7 @@ fn read_slots<A: Allocator + Drop>(
 }
 
 /// A line, of which a pair of whole numbers may be known.
-fn read_line<A: Allocator + Drop>(
+fn judge_line<A: Allocator + Drop>(
     slots: &mut Vec<Option<u32>, A>,
     fields: Fields<'_>,
     pair: Option<(u32, u32)>,

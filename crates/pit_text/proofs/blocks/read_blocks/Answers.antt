@@ -16,7 +16,7 @@ loop-line-init g c = ([], record { done = []; cut = sym c.new-lines.ensures.line
 pub loop-line-preserved : goal.loop-line-preserved
 loop-line-preserved g c =
     let was = c.loop-line.invariant in
-    let read = c.in_default-read_line.ensures in
+    let read = c.in_default-judge_line.ensures in
     let given : Pit = c.args.builder in (
       _,
       read_more (block_line given) (cut_of c.args.text.now) (lines_left c.loop-line.lines) (lines_left c.next.new.self) (cut_seen c.in-Some.line) was.0 read.0 was.1 c.in-Some.ensures.steps.0

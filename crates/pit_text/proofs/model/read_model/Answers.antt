@@ -21,7 +21,7 @@ loop-line-init g c =
 pub loop-line-preserved : goal.loop-line-preserved
 loop-line-preserved g c =
     let was = c.loop-line.invariant.facts in
-    let read = c.in_default-read_line.ensures was.0 was.2 in
+    let read = c.in_default-judge_line.ensures was.0 was.2 in
     record {
       begun = λ none. absurd (read.3 none);
       facts = (_, read_more model_line (cut_of c.args.text.now) (lines_left c.loop-line.lines) (lines_left c.next_said.new.lines) (cut_seen c.in-Some.line) was.0 read.0 was.1 c.in-Some.ensures.steps.0 read.1, read.2);

@@ -19,7 +19,7 @@ loop-line-init g c = record {
 pub loop-line-preserved : goal.loop-line-preserved
 loop-line-preserved g c =
     let was = c.loop-line.invariant.facts in
-    let read = c.in_default-read_line.ensures was.0 was.2 in
+    let read = c.in_default-judge_line.ensures was.0 was.2 in
     record {
       end = c.in-Some.ensures.steps.1 ∙ c.loop-line.invariant.end;
       facts = (

@@ -11,7 +11,7 @@ use Rattle.pit_text.specs.declared.model.section_fact.SectionFact.{SectionFact}
 use Rattle.pit_text.proofs.Standing.{some_of}
 use Rattle.pit_text.proofs.ModelLines.{line_section_fact, match_map}
 use Rattle.pit_text.proofs.Bodies.{body-section_fact}
-use Rattle.pit_text.proofs.model.read_line.Goals as goal
+use Rattle.pit_text.proofs.model.judge_line.Goals as goal
 
 pub returns-in-Some : goal.returns-in-Some
 returns-in-Some g c = λ facts is.

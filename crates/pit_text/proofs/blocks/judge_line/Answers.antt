@@ -6,7 +6,7 @@ use Rattle.pit_model.specs.Refusals.{place_refusal}
 use Rattle.pit_text.specs.Left.{fields_left}
 use Rattle.pit_text.specs.Blocks.{place_line}
 use Rattle.pit_text.proofs.Dues.{due-ok, line_stands, line_due}
-use Rattle.pit_text.proofs.blocks.read_line.Goals as goal
+use Rattle.pit_text.proofs.blocks.judge_line.Goals as goal
 
 pub returns : goal.returns
 returns g c =

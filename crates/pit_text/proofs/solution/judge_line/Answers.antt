@@ -3,7 +3,7 @@ use Rattle.pit_text.specs.Left.{fields_left}
 use Rattle.pit_text.specs.Solution.{period_in}
 use Rattle.pit_text.specs.Inside.Solution.{AreSlots}
 use Rattle.pit_text.proofs.Standing.{some_of, slots_made, slots_more, slots_same, slot_is, is_none, line_none, line_new, line_again, line_bad}
-use Rattle.pit_text.proofs.solution.read_line.Goals as goal
+use Rattle.pit_text.proofs.solution.judge_line.Goals as goal
 
 pub returns-in-Ok-None : goal.returns-in-Ok-None
 returns-in-Ok-None g c = λ facts are. (
