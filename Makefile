@@ -90,7 +90,7 @@ uninstall:
 audit: pit
 	audit/run.sh
 	audit/soak.py ./pit
-	tests/replay.sh ./pit 200 200
+	tests/replay.sh ./pit 266 200
 
 clean:
 	rm -rf pit pit.new pit.1 pit.bash demo crates/*/out
