@@ -1,8 +1,8 @@
 #!/usr/bin/env bash
-# The file of a history that a built `pit` writes. Each call by which it opens, locks, writes, syncs, renames or removes that file or the new one beside
-# it is refused in turn, and the program is killed before each in turn: the file then holds the old history or the whole new one, and the next run
-# succeeds. Two programs that write one history, files that can't be locked, somebody else's files, links, permissions, and what stands at the new
-# file's name.
+# The file of a history that a built `pit` writes, in place of the old one or to carry that on. Each call by which it opens, locks, writes, syncs, renames
+# or removes that file or the new one beside it is refused in turn, and the program is killed before each in turn: the file then holds the old history or
+# the whole new one, and the next run succeeds. Two programs that write one history, files that can't be locked, somebody else's files, links,
+# permissions, and what stands at the new file's name.
 # usage: tests/history_file.sh PIT      PIT is the path of the program. Wants a C compiler and python3.
 set -u
 
@@ -33,9 +33,18 @@ says() {
 cp "$tiny.cpit" model
 cp "$tiny.prec" precedence
 printf 'begin\nput 3 1\ncommit\n' >script
-cat >old <<'TEXT'
-{"format":1}
-TEXT
+# runs COUNT: the history of so many runs, each of which carries on the one before.
+runs() {
+    local run
+    echo '{"format":1}'
+    for ((run = 1; run <= $1; run++)); do
+        echo "{\"act\":\"commit\",\"job\":1,\"planner\":1,\"reads\":[],\"reply\":{\"committed\":$run},\"start\":$((run - 1)),\"writes\":[[3,1]]}"
+    done
+}
+runs 0 >old
+runs 1 >new
+runs 2 >second
+runs 3 >third
 
 # A call that is for the history: its path begins with `kept`, or its descriptor is none of the standard streams. FAULT_AT counts such calls
 # from 1. That call is refused, or, with FAULT_KILLS set, the program is killed before it. LOCK_ERROR is what each locking is refused by.
@@ -95,57 +104,69 @@ ssize_t write(int fd, const void *bytes, size_t size) {
 TEXT
 ${CC:-cc} -shared -fPIC -o fault.so fault.c -ldl || exit 2
 
-plan() { "$pit" plan --history "${1:-kept}" model precedence script >out 2>err </dev/null; }
+# plan [FILE [WAY]]: a run that replaces the history in the file, or carries it on.
+plan() { "$pit" plan "${2:---history}" "${1:-kept}" model precedence script >out 2>err </dev/null; }
 is_file() { cmp -s "$1" "$2"; }
-holds_either() { is_file kept old || is_file kept new; }
 is_told() { [ "$(tail -n 1 err)" = "$1" ]; }
 
-plan new || [ $? = 1 ]
-says 'a history is made' test -s new
-says 'no new file is left' test ! -e new.pit-new
+plan made || [ $? = 1 ]
+says 'a history is made' is_file made new
+says 'no new file is left' test ! -e made.pit-new
 
-# begin: the old history, alone.
-begin() { rm -rf kept kept.pit-new; cp old kept; chmod 640 kept; }
+# begin [OLD]: the old history, alone.
+begin() { rm -rf kept kept.pit-new; cp "${1:-old}" kept; chmod 640 kept; }
 
-refused=0
-left=0
-for number in {1..60}; do
-    begin
-    FAULT_AT=$number LD_PRELOAD=./fault.so plan
-    status=$?
-    if [ "$status" = 3 ] && is_file kept old && is_told 'pit: cannot write'; then
-        refused=$((refused + 1))
-        [ ! -e kept.pit-new ] || left=$((left + 1))
-    elif [ "$status" = 3 ] || ! is_file kept new || [ -e kept.pit-new ]; then
-        echo "FAIL  call $number refused: status $status"
-        failures=$((failures + 1))
-    fi
-    plan
-    if ! is_file kept new || [ -e kept.pit-new ]; then
-        echo "FAIL  the run after call $number was refused"
-        failures=$((failures + 1))
-    fi
-done
-says "each of some calls is refused, $refused in all" test "$refused" -gt 8
-says 'a new file is left only where it could not be locked' test "$left" = 1
-
-killed=0
-for number in {1..60}; do
-    begin
-    FAULT_KILLS=1 FAULT_AT=$number LD_PRELOAD=./fault.so plan
-    status=$?
-    [ "$status" = 137 ] && killed=$((killed + 1))
-    if ! holds_either || [ "$(stat -c %a kept)" != 640 ]; then
-        echo "FAIL  killed before call $number: status $status"
-        failures=$((failures + 1))
-    fi
-    plan
-    if ! is_file kept new || [ -e kept.pit-new ] || [ "$(stat -c %a kept)" != 640 ]; then
-        echo "FAIL  the run after it was killed before call $number"
-        failures=$((failures + 1))
-    fi
-done 2>/dev/null
-says "it is killed before each of some calls, $killed in all" test "$killed" -gt 8
+# tells_fault WAY: the fault is told, and where the history is carried on nothing else is printed.
+tells_fault() {
+    [ "$1" = --history ] || { [ ! -s out ] && [ "$(wc -l <err)" = 1 ]; } || return
+    is_told 'pit: cannot write' || { [ "$1" = --continue ] && is_told 'pit: cannot read history'; }
+}
+# goes_on: the next run leaves what is due behind what it found.
+goes_on() {
+    local due=$next
+    ! is_file kept "$old" || due=$new
+    plan kept "$way"
+    is_file kept "$due" && [ ! -e kept.pit-new ] && [ "$(stat -c %a kept)" = 640 ]
+}
+# faults WAY OLD NEW NEXT: where a run finds OLD it leaves NEW, and the next one NEXT. Each of its calls is refused, and it is killed before each.
+faults() {
+    local way=$1 old=$2 new=$3 next=$4 number status refused=0 left=0 killed=0
+    for number in {1..60}; do
+        begin "$old"
+        FAULT_AT=$number LD_PRELOAD=./fault.so plan kept "$way"
+        status=$?
+        if [ "$status" = 3 ] && is_file kept "$old" && tells_fault "$way"; then
+            refused=$((refused + 1))
+            [ ! -e kept.pit-new ] || left=$((left + 1))
+        elif [ "$status" -gt 1 ] || ! is_file kept "$new" || [ -e kept.pit-new ]; then
+            echo "FAIL  $way, call $number refused: status $status"
+            failures=$((failures + 1))
+        fi
+        if ! goes_on; then
+            echo "FAIL  $way, the run after call $number was refused"
+            failures=$((failures + 1))
+        fi
+    done
+    says "$way, each of some calls is refused, $refused in all" test "$refused" -gt 8
+    says 'a new file is left only where it could not be locked' test "$left" = 1
+    for number in {1..60}; do
+        begin "$old"
+        FAULT_KILLS=1 FAULT_AT=$number LD_PRELOAD=./fault.so plan kept "$way"
+        status=$?
+        [ "$status" = 137 ] && killed=$((killed + 1))
+        if ! is_file kept "$old" && ! is_file kept "$new" || [ "$(stat -c %a kept)" != 640 ]; then
+            echo "FAIL  $way, killed before call $number: status $status"
+            failures=$((failures + 1))
+        fi
+        if ! goes_on; then
+            echo "FAIL  $way, the run after it was killed before call $number"
+            failures=$((failures + 1))
+        fi
+    done 2>/dev/null
+    says "$way, it is killed before each of some calls, $killed in all" test "$killed" -gt 8
+}
+faults --history old new new
+faults --continue new second third
 
 # A program that was ended leaves its new file, with whatever it holds and may be.
 begin
