@@ -379,19 +379,20 @@ check 'the solution is a folder' 3 '' 'pit: cannot read solution' value model fo
 check 'both are folders' 3 '' 'pit: cannot read model' value folder folder
 check 'a path through a file' 3 '' 'pit: cannot read model' value model/x solution
 check 'a path that is too long' 3 '' 'pit: cannot read model' value "$(printf 'x%.0s' {1..5000})" solution
+# The program as somebody who may not read and write every file: whoever runs this, or else somebody else.
 cp model secret
 chmod 000 secret
+somebody=("$pit")
 if [ -r secret ]; then
     chmod 755 . && chmod 644 model solution && cp "$pit" here && chmod 755 here
-    if setpriv --reuid=65534 --clear-groups ./here value model solution >out 2>err; then
-        setpriv --reuid=65534 --clear-groups ./here value secret solution >out 2>err
-        status=$?
-        compare 'no permission to read the model' 3 '' 'pit: cannot read model'
-    else
-        echo 'skip  no permission to read the model: whoever runs this may read every file'
-    fi
+    somebody=(setpriv --reuid=65534 --clear-groups ./here)
+fi
+if "${somebody[@]}" value model solution >out 2>err; then
+    "${somebody[@]}" value secret solution >out 2>err
+    status=$?
+    compare 'no permission to read the model' 3 '' 'pit: cannot read model'
 else
-    check 'no permission to read the model' 3 '' 'pit: cannot read model' value secret solution
+    echo 'skip  no permission to read the model: whoever runs this may read every file'
 fi
 
 # Histories. That of a plan is written behind its report.
@@ -619,6 +620,11 @@ status=$?
 : >out
 compare 'plan, a history is carried on to a full output' 3 '' 'pit: cannot write'
 kept 'it is written before that' carried "$CARRIED"
+"$pit" plan --continue first_written model precedence script 2>err >/dev/full
+status=$?
+: >out
+compare 'plan, a history begins, to a full output' 3 '' 'pit: cannot write'
+kept 'the whole of it is written before that' first_written "$HISTORY"
 "$pit" plan --continue first_of_all model precedence script 2>/dev/full >out
 status=$?
 : >err
@@ -723,21 +729,28 @@ mkdir closed
 cp kept closed/kept
 chmod 777 closed/kept
 chmod 555 closed
-if [ -x here ] && setpriv --reuid=65534 --clear-groups ./here value model solution >out 2>err; then
+if "${somebody[@]}" value model solution >out 2>err; then
     chmod 644 precedence script
-    setpriv --reuid=65534 --clear-groups ./here plan --history closed/kept model precedence script >out 2>err
+    "${somebody[@]}" plan --history closed/kept model precedence script >out 2>err
     status=$?
     compare 'plan, a folder that may not be written' 3 '' 'pit: cannot write'
-    setpriv --reuid=65534 --clear-groups ./here plan --continue closed/kept model precedence script >out 2>err
+    "${somebody[@]}" plan --continue closed/kept model precedence script >out 2>err
     status=$?
     compare 'plan, the same of what is carried on' 3 '' 'pit: cannot write'
     kept 'and stays' closed/kept "$HISTORY"
     chmod 777 closed
     chmod 444 closed/kept
-    setpriv --reuid=65534 --clear-groups ./here plan --history closed/kept model precedence script >out 2>err
+    "${somebody[@]}" plan --history closed/kept model precedence script >out 2>err
     status=$?
     compare 'plan, a history that may not be written' 3 '' 'pit: cannot write'
     absent 'and no new file is left' closed/kept.pit-new
+    chmod 222 closed/kept
+    "${somebody[@]}" plan --continue closed/kept model precedence script >out 2>err
+    status=$?
+    compare 'plan, what is carried on may be written and not read' 3 '' 'pit: cannot read history'
+    chmod 644 closed/kept
+    kept 'it stays, too' closed/kept "$HISTORY"
+    absent 'and no new file beside it' closed/kept.pit-new
 else
     echo 'skip  no permission to write: whoever runs this may write every file'
 fi
