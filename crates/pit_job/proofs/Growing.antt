@@ -4,6 +4,7 @@ use mathlib.Core.List.{IsPrefix}
 use Rattle.pit_model.specs.Pit.{Pit}
 use Rattle.pit_desk.specs.History.{Answered}
 use Rattle.pit_script.specs.Jobs.{Job}
+use Rattle.pit_script.specs.declared.step.Step.{Step}
 use Rattle.pit_job.specs.declared.outcome.Outcome.{Outcome}
 use Rattle.pit_job.specs.declared.outcome.RunEnd.{RunEnd}
 use Rattle.pit_job.specs.Outcomes.{IsMovedTry, Repeats}
@@ -20,6 +21,7 @@ try-from pit task n less old new es block version begins tried = record {
   after = let after = tried.after in omega (arith, commits-fewer less old begins);
   sees = prefix-trans less old new begins tried.sees;
   moved = tried.moved;
+  read = tried.read;
   made = tried.made;
 }
 
@@ -77,6 +79,7 @@ try-on pit task n old new more es block version on tried = record {
   after = tried.after;
   sees = prefix-trans old new more tried.sees on;
   moved = moved-on new more tried.start block version on tried.moved;
+  read = tried.read;
   made = tried.made;
 }
 
@@ -117,18 +120,18 @@ ran-on pit task retries n old new more es o on (inr g) = inr (record {
   answer = g.answer;
 })
 
-before-on : (max_entries n : ℕ) (seen more : List Answered) (ended : RunEnd) → IsPrefix seen more → EndedBefore max_entries seen n ended → EndedBefore max_entries more n ended
-before-on max_entries n seen more end.Whole on stop = absurd stop
-before-on max_entries n seen more (end.Full job) on (is, full) = (is, omega (arith, full, ap length on.1, length-append seen on.0))
-before-on max_entries n seen more (end.NoMemory job) on stop = stop
-before-on max_entries n seen more (end.NoEntry job) on stop = stop
-before-on max_entries n seen more end.NoThread on stop = absurd stop
+before-on : (max_entries n : ℕ) (steps : List Step) (seen more : List Answered) (ended : RunEnd) → IsPrefix seen more → EndedBefore max_entries steps seen n ended → EndedBefore max_entries steps more n ended
+before-on max_entries n steps seen more end.Whole on stop = absurd stop
+before-on max_entries n steps seen more (end.Full job) on (is, full) = (is, omega (arith, full, ap length on.1, length-append seen on.0))
+before-on max_entries n steps seen more (end.NoMemory job) on stop = stop
+before-on max_entries n steps seen more (end.NoEntry job) on stop = stop
+before-on max_entries n steps seen more end.NoThread on stop = absurd stop
 
 pub all-on : (pit : Pit) (max_entries retries n : ℕ) (old new more : List Answered) (jobs : List Job) (es : List Answered) (os : List Outcome) (ended : RunEnd) → IsPrefix new more
     → RanFrom pit max_entries retries old new n jobs es os ended → RanFrom pit max_entries retries old more n jobs es os ended
 all-on pit max_entries retries n old new more [] es [] ended on (none, whole, sees) = (none, whole, prefix-trans old new more sees on)
 all-on pit max_entries retries n old new more [] es (o ∷ os) ended on ran = absurd ran
-all-on pit max_entries retries n old new more (task ∷ rest) es [] ended on (stop, left) = (before-on max_entries n new more ended on stop, left-on pit task retries n old new more es on left)
+all-on pit max_entries retries n old new more (task ∷ rest) es [] ended on (stop, left) = (before-on max_entries n task.steps new more ended on stop, left-on pit task retries n old new more es on left)
 all-on pit max_entries retries n old new more (task ∷ rest) es (o ∷ os) ended on (mid, mine, later, cut, ran, ahead) =
     (mid, mine, later, cut, ran, all-on pit max_entries retries (n + 1) mid new more rest later os ended on ahead)
 

@@ -1,6 +1,7 @@
 pub mod Agreeing
 pub mod Seeing
 pub mod Growing
+pub mod Noting
 pub mod Stepping
 pub mod Meeting
 pub mod Trying

@@ -37,6 +37,16 @@ look-meets pit old new b r block version less is known unknown = by (known_of ol
           },
         )
 
+-- what a read that was refused tells
+pub look-tells : (pit : Pit) (old new : TransactionState) (b : ℕ) (r : Result (Option ℕ) ReadStop) (s : ReadStop) → b < pit.blocks → r ≡ Err s
+    → ((p : Option ℕ) → b < pit.blocks → known_of old.work b ≡ Some p → (r ≡ Ok p) × (new ≡ old)) → (b < pit.blocks → known_of old.work b ≡ None → IsLookedUp old b r new)
+    → IsLookedUp old b (Err s) new
+look-tells pit old new b r s less is known unknown = by (known_of old.work b) refl
+  where
+    by : (o : Option (Option ℕ)) → known_of old.work b ≡ o → IsLookedUp old b (Err s) new
+    by (Some p) e = let first = (known p less e).0 in absurd (cc (first, is))
+    by None e = subst (λ (q : Result (Option ℕ) ReadStop). IsLookedUp old b q new) is (unknown less e)
+
 -- a stop that is handed on
 pub stop-handed : {X : Type 0} (result : Result X StepStop) (s : StepStop) (Is : StepStop → Type 0) → IsErr result → IsErrAnd result (λ (e : StepStop). e ≡ s) → Is s → IfErr result Is
 stop-handed (Ok x) s Is err same is = absurd (false≢true err)
@@ -46,7 +56,7 @@ stop-handed (Err e) s Is err same is = subst Is (sym same) is
 pub never-meets : (IsOne : ℕ → Type 0) (start other : ℕ) (seen more : List Answered) (s : StepStop) → Meets (λ block. ⊥) start seen s → Meets IsOne other more s
 never-meets IsOne start other seen more (stop.Moved block version) meets = absurd meets.0
 never-meets IsOne start other seen more stop.NoMemory meets = tt
-never-meets IsOne start other seen more stop.NoEntry meets = tt
+never-meets IsOne start other seen more stop.NoEntry meets = absurd meets.1
 
 pub never-stops : {X : Type 0} (IsOne : ℕ → Type 0) (start other : ℕ) (seen more : List Answered) (r : Result X StepStop) → IfErr r (Meets (λ block. ⊥) start seen) → IfErr r (Meets IsOne other more)
 never-stops IsOne start other seen more (Ok x) meets = tt
@@ -65,4 +75,4 @@ steps-meet xs i d start other seen (stop.Moved block version) less same meets = 
   subst (λ (n : ℕ). IsMovedBlock seen n block version) same meets.1,
 )
 steps-meet xs i d start other seen stop.NoMemory less same meets = tt
-steps-meet xs i d start other seen stop.NoEntry less same meets = tt
+steps-meet xs i d start other seen stop.NoEntry less same meets = (meets.0, record { reader = get_or xs i d; among = Contains-get_or xs i d less; reads = meets.1 })

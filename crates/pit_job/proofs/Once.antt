@@ -22,7 +22,7 @@ try-items : (pit : Pit) (task : Job) (n : ℕ) (old new es : List Answered) (blo
 try-items pit task n old new es block version tried =
     elim tried.made [
       | inl one ↦ subst (All (λ e. IsItem pit task n e)) (sym one.1) (All-cons (λ e. IsItem pit task n e) one.0 [] one.2.item (All-nil (λ e. IsItem pit task n e)))
-      | inr none ↦ subst (All (λ e. IsItem pit task n e)) (sym none.0) (All-nil (λ e. IsItem pit task n e))
+      | inr none ↦ subst (All (λ e. IsItem pit task n e)) (sym none) (All-nil (λ e. IsItem pit task n e))
     ]
 
 repeats-items : (pit : Pit) (task : Job) (n k : ℕ) (old new es : List Answered) → Repeats pit task n k old new es → All (λ e. IsItem pit task n e) es
@@ -42,10 +42,10 @@ ran-items pit task retries n old new es o (inr g) =
     (try-items pit task n g.mid new g.last g.block g.version g.moved))
 
 own-now : (pit : Pit) (n : ℕ) (task : Job) (jobs : List Job) (e : Answered) → IsItem pit task n e → HasOwnEffect pit n (task ∷ jobs) e
-own-now pit n task jobs e item = record { place = 0; task = task; number = item.job ∙ sym (add-zero n); at = refl; effect = item.effect }
+own-now pit n task jobs e item = record { place = 0; task = task; number = item.job ∙ sym (add-zero n); at = refl; call = item.call }
 
 own-later : (pit : Pit) (n : ℕ) (task : Job) (jobs : List Job) (e : Answered) → HasOwnEffect pit (n + 1) jobs e → HasOwnEffect pit n (task ∷ jobs) e
-own-later pit n task jobs e own = let i = own.number in record { place = suc own.place; task = own.task; number = omega arith; at = own.at; effect = own.effect }
+own-later pit n task jobs e own = let i = own.number in record { place = suc own.place; task = own.task; number = omega arith; at = own.at; call = own.call }
 
 -- each entry has the effect of its own job
 pub own-effects : (pit : Pit) (max_entries retries n : ℕ) (old new : List Answered) (jobs : List Job) (es : List Answered) (os : List Outcome) (ended : RunEnd) → RanFrom pit max_entries retries old new n jobs es os ended
@@ -101,11 +101,11 @@ each-job pit max_entries retries n old new (x ∷ xs) es (p ∷ ps) ended (mid, 
     let there : Ran pit task retries (n + suc j) old new (of_job (n + suc j) later) o = subst (λ (m : ℕ). Ran pit task retries m old new (of_job m later) o) number rest in
     subst (λ (xs : List Answered). Ran pit task retries (n + suc j) old new xs o) (sym same) there
 
-ends-after-none : (max_entries : ℕ) (seen : List Answered) (n : ℕ) (task : Job) (rest : List Job) (ended : RunEnd) → EndedBefore max_entries seen n ended → EndsAfter n (task ∷ rest) [] ended
+ends-after-none : (max_entries : ℕ) (seen : List Answered) (n : ℕ) (task : Job) (rest : List Job) (ended : RunEnd) → EndedBefore max_entries task.steps seen n ended → EndsAfter n (task ∷ rest) [] ended
 ends-after-none max_entries seen n task rest end.Whole stop = absurd stop
 ends-after-none max_entries seen n task rest (end.Full job) stop = (stop.0 ∙ sym (add-zero n), omega arith)
 ends-after-none max_entries seen n task rest (end.NoMemory job) stop = (stop ∙ sym (add-zero n), omega arith)
-ends-after-none max_entries seen n task rest (end.NoEntry job) stop = (stop ∙ sym (add-zero n), omega arith)
+ends-after-none max_entries seen n task rest (end.NoEntry job) stop = (stop.0 ∙ sym (add-zero n), omega arith)
 ends-after-none max_entries seen n task rest end.NoThread stop = absurd stop
 
 ends-more : (n : ℕ) (task : Job) (rest : List Job) (o : Outcome) (os : List Outcome) (ended : RunEnd) → EndsAfter (n + 1) rest os ended → EndsAfter n (task ∷ rest) (o ∷ os) ended
@@ -120,7 +120,7 @@ pub ends-full : (pit : Pit) (max_entries retries n : ℕ) (old new : List Answer
     → (job : ℕ) → ended ≡ end.Full job → max_entries ≤ length new
 ends-full pit max_entries retries n old new [] es [] ended (none, whole, sees) job is = absurd (cc (whole, is))
 ends-full pit max_entries retries n old new [] es (o ∷ os) ended ran job is = absurd ran
-ends-full pit max_entries retries n old new (task ∷ rest) es [] ended (stop, left) job is = (subst (EndedBefore max_entries new n) is stop).1
+ends-full pit max_entries retries n old new (task ∷ rest) es [] ended (stop, left) job is = (subst (EndedBefore max_entries task.steps new n) is stop).1
 ends-full pit max_entries retries n old new (task ∷ rest) es (o ∷ os) ended (mid, mine, later, cut, ran, more) job is =
     ends-full pit max_entries retries (n + 1) mid new rest later os ended more job is
 

@@ -1,5 +1,6 @@
 -- What a planner has seen only grows.
 use Rattle.std.proofs.Common.{◌≡◌, ℕ, ◌<◌, ◌≤◌, nat_lt, true, List, [], ◌∷◌, ◌++◌, length, Option, Some, refl, sym, ap, subst, ◌∙◌, arith, append-nil, append_assoc, length-append}
+use Rattle.std.specs.Prelude.{Contains}
 use mathlib.Core.List.{IsPrefix}
 use Rattle.pit_model.specs.Pit.{Pit}
 use Rattle.pit_plan.specs.Schedule.{Commit, last_number}
@@ -51,7 +52,15 @@ least-past commits start block reads least =
     let found = least.passes in
     subst (λ (b : ℕ). start < last_number commits b) found.block_is (past-start commits start found.pair.0 found.passes)
 
--- a reply Moved names such a block
+-- a reply Moved names a block that the call read
+pub answered-noted : (pit : Pit) (call : Call) (answer : EntryReply) (old seen : List Answered) (block version : ℕ) → IsAnswered pit call answer old seen
+    → answer ≡ reply.Refused (refusal.Moved block version) → (read : ℕ × Option ℕ) × Contains call.reads read × (read.0 ≡ block)
+answered-noted pit call answer old seen block version is moved =
+    let due = subst (λ (r : EntryReply). IsReply pit (commits_of is.before) call r) moved is.due in
+    let found = due.1.1.passes in
+    (found.pair, found.among, found.block_is)
+
+-- and one that moved
 pub answered-moved : (pit : Pit) (call : Call) (answer : EntryReply) (old seen : List Answered) (block version : ℕ) → IsAnswered pit call answer old seen
     → answer ≡ reply.Refused (refusal.Moved block version) → IsMovedBlock seen call.start block version
 answered-moved pit call answer old seen block version is moved =

@@ -15,12 +15,14 @@ use Rattle.pit_share.specs.declared.error.ReadStop.{ReadStop}
 use Rattle.pit_script.specs.Benches.{bench_of}
 use Rattle.pit_script.specs.declared.step.Step.{Step}
 use Rattle.pit_script.specs.declared.step.Step.TheVariants as step
-use Rattle.pit_job.specs.Effect.{Agrees, Known, Effect, changes, read_in, seen, looked, moved_by, put_at, with_written, with_revised, with_bench, step_after, next, steps_after}
+use Rattle.pit_job.specs.Effect.{Agrees, Known, Effect, changes, read_in, seen, looked, moved_by, put_at, with_written, with_revised, with_bench, step_after, next, steps_after, up_to, changes_after}
 use Rattle.pit_job.specs.Shifts.{shifted}
 use Rattle.pit_job.specs.declared.doing.StepStop.{StepStop}
 use Rattle.pit_job.specs.declared.doing.StepStop.TheVariants as stop
 use Rattle.pit_job.proofs.Agreeing.{seen-agrees}
+use Rattle.pit_job.specs.Outcomes.{IsReadBy, IsRead}
 use Rattle.pit_job.specs.Inside.Doing.{own_of, Same, LooksUp, Puts, DoesStep, DoesSteps}
+use Rattle.pit_job.proofs.Noting.{notes-none, notes-one, notes-map, notes-trans, read-first, read-later}
 use Rattle.pit_job.proofs.Seeing.{sees-same, sees-trans}
 
 -- ---- reads
@@ -66,6 +68,7 @@ looks-known old new b period same known = record {
   same = subst (λ (t : TransactionState). Same old t) (sym same) (same-refl old);
   own = ap (λ (t : TransactionState). own_of t.work) same;
   known = ap (λ (t : TransactionState). known_of t.work b) same ∙ known;
+  noted = notes-none (λ c. c ≡ b) old.work.reads new.work.reads (ap (λ (t : TransactionState). t.work.reads) same);
 }
 
 unwritten : (o p : Option (Option ℕ)) → (if is_some o then o else p) ≡ None → o ≡ None
@@ -97,6 +100,7 @@ looks-noted old new b period sees unknown noted = record {
       ∙ ap (λ (o : Option (Option ℕ)). if is_some o then o else read_in (old.work.reads ++ (b, period) ∷ []) b) (unwritten (at_key nat_eq old.work.writes b) (read_in old.work.reads b) unknown)
       ∙ read-rest old.work.reads ((b, period) ∷ []) b (unread-before (at_key nat_eq old.work.writes b) (read_in old.work.reads b) unknown)
       ∙ same-key b period;
+  noted = notes-one b period old.work.reads new.work.reads (ap (λ (w : Sets). w.reads) noted.work);
 }
 
 -- ---- steps
@@ -110,37 +114,45 @@ pub read-does : (pit : Pit) (old new : TransactionState) (b : ℕ) (p : Option �
 read-does pit old new b p is = record {
   same = is.same;
   does = λ known agrees. ap (looked (own_of old.work)) (look-seen old new b p is known agrees) ∙ ap changes (sym is.own);
+  noted = is.noted;
+  stays = λ no. absurd (cc no);
 }
 
 -- a step that reads nothing
-pub own-does : (pit : Pit) (old new : TransactionState) (s : Step) (own : Commit) → Same old new → ((known : Known) → step_after pit known (own_of old.work) s ≡ changes own) → own_of new.work ≡ own
-    → DoesStep pit old s true new
-own-does pit old new s own same stated is = record {
+pub own-does : (pit : Pit) (old new : TransactionState) (s : Step) (own : Commit) → Same old new → new.work.reads ≡ old.work.reads
+    → ((known : Known) → step_after pit known (own_of old.work) s ≡ changes own) → own_of new.work ≡ own → DoesStep pit old s true new
+own-does pit old new s own same reads stated is = record {
   same = same;
   does = λ known agrees. stated known ∙ ap changes (sym is);
+  noted = notes-none (λ c. IsReadBy c s) old.work.reads new.work.reads reads;
+  stays = λ no. absurd (cc no);
 }
 
 pub put-does : (pit : Pit) (old new : TransactionState) (b t : ℕ) (goes : Bool) → Puts old b (Some t) goes new → DoesStep pit old (step.Put b t) goes new
 put-does pit old new b t goes puts =
     subst (λ (o : Bool). DoesStep pit old (step.Put b t) o new) (sym puts.done)
-    (own-does pit old new (step.Put b t) (with_written (own_of old.work) b (Some t)) puts.same (λ known. refl) puts.own)
+    (own-does pit old new (step.Put b t) (with_written (own_of old.work) b (Some t)) puts.same puts.reads (λ known. refl) puts.own)
 
 pub clear-does : (pit : Pit) (old new : TransactionState) (b : ℕ) (goes : Bool) → Puts old b None goes new → DoesStep pit old (step.Clear b) goes new
 clear-does pit old new b goes puts =
     subst (λ (o : Bool). DoesStep pit old (step.Clear b) o new) (sym puts.done)
-    (own-does pit old new (step.Clear b) (with_written (own_of old.work) b None) puts.same (λ known. refl) puts.own)
+    (own-does pit old new (step.Clear b) (with_written (own_of old.work) b None) puts.same puts.reads (λ known. refl) puts.own)
 
-pub revise-does : (pit : Pit) (old new : TransactionState) (r t : ℕ) (upper : Option ℤ) → Same old new → own_of new.work ≡ with_revised (own_of old.work) r t upper → DoesStep pit old (step.Revise r t upper) true new
-revise-does pit old new r t upper same is = own-does pit old new (step.Revise r t upper) (with_revised (own_of old.work) r t upper) same (λ known. refl) is
+pub revise-does : (pit : Pit) (old new : TransactionState) (r t : ℕ) (upper : Option ℤ) → Same old new → new.work.reads ≡ old.work.reads → own_of new.work ≡ with_revised (own_of old.work) r t upper
+    → DoesStep pit old (step.Revise r t upper) true new
+revise-does pit old new r t upper same reads is = own-does pit old new (step.Revise r t upper) (with_revised (own_of old.work) r t upper) same reads (λ known. refl) is
 
-pub bench-does : (pit : Pit) (old new : TransactionState) (height : ℤ) (t : ℕ) → Same old new → own_of new.work ≡ with_bench (own_of old.work) (bench_of pit height) t → DoesStep pit old (step.Bench height t) true new
-bench-does pit old new height t same is = own-does pit old new (step.Bench height t) (with_bench (own_of old.work) (bench_of pit height) t) same (λ known. refl) is
+pub bench-does : (pit : Pit) (old new : TransactionState) (height : ℤ) (t : ℕ) → Same old new → new.work.reads ≡ old.work.reads → own_of new.work ≡ with_bench (own_of old.work) (bench_of pit height) t
+    → DoesStep pit old (step.Bench height t) true new
+bench-does pit old new height t same reads is = own-does pit old new (step.Bench height t) (with_bench (own_of old.work) (bench_of pit height) t) same reads (λ known. refl) is
 
 -- a block without a period can't be shifted
 pub shift-none : (pit : Pit) (old new : TransactionState) (b by : ℕ) (is_back : Bool) → LooksUp old b None new → DoesStep pit old (step.Shift b is_back by) false new
 shift-none pit old new b by is_back is = record {
   same = is.same;
   does = λ known agrees. ap (moved_by pit.periods (own_of old.work) b is_back by) (look-seen old new b None is known agrees);
+  noted = is.noted;
+  stays = λ no. is.own;
 }
 
 -- nor can one that would leave the periods
@@ -148,6 +160,8 @@ pub shift-out : (pit : Pit) (old new : TransactionState) (b by t : ℕ) (is_back
 shift-out pit old new b by t is_back is out = record {
   same = is.same;
   does = λ known agrees. ap (moved_by pit.periods (own_of old.work) b is_back by) (look-seen old new b (Some t) is known agrees) ∙ ap (put_at (own_of old.work) b) out;
+  noted = is.noted;
+  stays = λ no. is.own;
 }
 
 pub shift-does : (pit : Pit) (old mid new : TransactionState) (b by t u : ℕ) (is_back goes : Bool) → LooksUp old b (Some t) mid → shifted pit.periods is_back by t ≡ Some u → Puts mid b (Some u) goes new
@@ -159,6 +173,8 @@ shift-does pit old mid new b by t u is_back goes is in_range puts = subst (λ (o
       ∙ ap (put_at (own_of old.work) b) in_range
       ∙ ap (λ (own : Commit). changes (with_written own b (Some u))) (sym is.own)
       ∙ ap changes (sym puts.own);
+  noted = notes-trans (λ c. c ≡ b) old.work.reads mid.work.reads new.work.reads is.noted (notes-none (λ c. c ≡ b) mid.work.reads new.work.reads puts.reads);
+  stays = λ no. absurd (cc no);
 }
 
 -- the same of what a call tells that only writes
@@ -182,7 +198,7 @@ shifted-as pit other is_back by t r period same is told = rw (sym same) (sym is 
 
 -- no step does nothing
 pub steps-none : (pit : Pit) (t : TransactionState) → DoesSteps pit t [] true t
-steps-none pit t = record { same = same-refl t; does = λ known agrees. refl }
+steps-none pit t = record { same = same-refl t; does = λ known agrees. refl; own = λ known agrees. refl; noted = notes-none (IsRead []) t.work.reads t.work.reads refl }
 
 -- a step and then the rest
 pub steps-more : (pit : Pit) (old mid new : TransactionState) (s : Step) (ss : List Step) (goes : Bool) → DoesStep pit old s true mid → DoesSteps pit mid ss goes new → DoesSteps pit old (s ∷ ss) goes new
@@ -191,6 +207,12 @@ steps-more pit old mid new s ss goes first rest = record {
   does = λ known agrees.
       ap (λ (e : Effect). next e (λ after. steps_after pit known after ss)) (first.does known (Agrees-trans (read_in mid.work.reads) (read_in new.work.reads) known rest.same.reads agrees))
       ∙ rest.does known agrees;
+  own = λ known agrees.
+      ap (λ (e : Effect). up_to (own_of old.work) e (λ after. changes_after pit known after ss)) (first.does known (Agrees-trans (read_in mid.work.reads) (read_in new.work.reads) known rest.same.reads agrees))
+      ∙ rest.own known agrees;
+  noted = notes-trans (IsRead (s ∷ ss)) old.work.reads mid.work.reads new.work.reads
+      (notes-map (λ b. IsReadBy b s) (IsRead (s ∷ ss)) (read-first s ss) old.work.reads mid.work.reads first.noted)
+      (notes-map (IsRead ss) (IsRead (s ∷ ss)) (read-later s ss) mid.work.reads new.work.reads rest.noted);
 }
 
 -- a step that fails ends them
@@ -198,6 +220,8 @@ pub steps-fail : (pit : Pit) (old new : TransactionState) (s : Step) (ss : List 
 steps-fail pit old new s ss first = record {
   same = first.same;
   does = λ known agrees. ap (λ (e : Effect). next e (λ after. steps_after pit known after ss)) (first.does known agrees);
+  own = λ known agrees. ap (λ (e : Effect). up_to (own_of old.work) e (λ after. changes_after pit known after ss)) (first.does known agrees) ∙ sym (first.stays refl);
+  noted = notes-map (λ b. IsReadBy b s) (IsRead (s ∷ ss)) (read-first s ss) old.work.reads new.work.reads first.noted;
 }
 
 drop-here : {X : Type 0} (xs : List X) (i : ℕ) (d : X) → i < length xs → drop i xs ≡ get_or xs i d ∷ drop (i + 1) xs
@@ -233,6 +257,7 @@ write-puts old new b period (Ok x) r done stopped planner work = subst (λ (s : 
   done = refl;
   same = writes-same old new (with_write nat_eq old.work.writes b period) planner work;
   own = ap (λ (w : Sets). own_of w) work;
+  reads = ap (λ (w : Sets). w.reads) work;
 }
 write-puts old new b period (Err e) r done stopped planner work = subst (λ (s : Result Bool StepStop). IfOk s (λ goes. Puts old b period goes new)) (sym stopped) tt
 
@@ -245,7 +270,7 @@ revise-told pit old new r t upper (Ok x) answer done stopped planner work = subs
       job = ap (λ (w : Sets). w.job) work;
       start = ap (λ (w : Sets). w.start) work;
       reads = subst (λ (w : Sets). Agrees (read_in old.work.reads) (read_in w.reads)) (sym work) (Agrees-refl (read_in old.work.reads));
-    }) (ap (λ (w : Sets). own_of w) work))
+    }) (ap (λ (w : Sets). w.reads) work) (ap (λ (w : Sets). own_of w) work))
 revise-told pit old new r t upper (Err e) answer done stopped planner work =
     subst (λ (s : Result Bool StepStop). IfOk s (λ goes. DoesStep pit old (step.Revise r t upper) goes new)) (sym stopped) tt
 
@@ -267,15 +292,17 @@ looks-up pit old new b r period less is sees known unknown = by (known_of old.wo
 pub record IsBenchTo (old : TransactionState) (blocks left : List ℕ) (t : ℕ) (now : TransactionState) : Type 0 where
   pub same : Same old now
   pub own : with_bench (own_of now.work) left t ≡ with_bench (own_of old.work) blocks t
+  pub reads : now.work.reads ≡ old.work.reads
 
 pub bench-begins : (t : TransactionState) (blocks left : List ℕ) (period : ℕ) → left ≡ blocks → IsBenchTo t blocks left period t
-bench-begins t blocks left period same = record { same = same-refl t; own = ap (λ (bs : List ℕ). with_bench (own_of t.work) bs period) same }
+bench-begins t blocks left period same = record { same = same-refl t; own = ap (λ (bs : List ℕ). with_bench (own_of t.work) bs period) same; reads = refl }
 
 pub bench-more : (old now after : TransactionState) (blocks left more : List ℕ) (b t : ℕ) (goes : Bool) → left ≡ b ∷ more → IsBenchTo old blocks left t now → Puts now b (Some t) goes after
     → IsBenchTo old blocks more t after
 bench-more old now after blocks left more b t goes next so_far puts = record {
   same = same-trans old now after so_far.same puts.same;
   own = ap (λ (own : Commit). with_bench own more t) puts.own ∙ sym (ap (λ (bs : List ℕ). with_bench (own_of now.work) bs t) next) ∙ so_far.own;
+  reads = puts.reads ∙ so_far.reads;
 }
 
 -- the block at i
@@ -289,7 +316,7 @@ bench-next old now after placed i t d goes less so_far puts =
 bench-ends : (pit : Pit) (old new : TransactionState) (height : ℤ) (blocks left : List ℕ) (t : ℕ) → left ≡ [] → blocks ≡ bench_of pit height → IsBenchTo old blocks left t new
     → DoesStep pit old (step.Bench height t) true new
 bench-ends pit old new height blocks left t none is so_far =
-    bench-does pit old new height t so_far.same
+    bench-does pit old new height t so_far.same so_far.reads
     (sym (ap (λ (bs : List ℕ). with_bench (own_of new.work) bs t) none) ∙ so_far.own ∙ ap (λ (bs : List ℕ). with_bench (own_of old.work) bs t) is)
 
 -- all its blocks

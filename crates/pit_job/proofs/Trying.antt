@@ -1,5 +1,7 @@
 -- What a try adds to a log.
-use Rattle.std.proofs.Common.{◌≡◌, ℕ, ◌≤◌, true, false, List, [], ◌∷◌, ◌++◌, length, refl, sym, ap, subst, ◌∙◌, arith, append-nil, inl, inr, Bool}
+use Rattle.std.proofs.Common.{◌≡◌, ℕ, ◌≤◌, true, false, List, [], ◌∷◌, ◌++◌, length, Option, refl, sym, ap, subst, ◌∙◌, arith, append-nil, inl, inr, Bool}
+use Rattle.std.proofs.lemmas.List.Elements.{All-contains}
+use Rattle.std.specs.Prelude.{All}
 use mathlib.Core.List.{IsPrefix}
 use Rattle.pit_model.specs.Pit.{Pit}
 use Rattle.pit_plan.specs.Schedule.{Commit}
@@ -14,13 +16,14 @@ use Rattle.pit_desk.specs.declared.reply.EntryReply.TheVariants as reply
 use Rattle.pit_desk.specs.declared.reply.Reply.{Reply}
 use Rattle.pit_desk.specs.declared.reply.Reply.TheVariants as answered
 use Rattle.pit_script.specs.Jobs.{Job}
+use Rattle.pit_script.specs.declared.step.Step.{Step}
 use Rattle.pit_script.specs.declared.step.JobEnd.{JobEnd}
 use Rattle.pit_script.specs.declared.step.JobEnd.TheVariants as ending
 use Rattle.pit_desk.specs.declared.error.Stop.{Stop}
 use Rattle.pit_desk.specs.declared.error.Stop.TheVariants as desk_stop
 use Rattle.pit_share.specs.Endings.{IsAnswered, IsEnded, IsStopped}
 use Rattle.pit_share.specs.Planners.{PlannerState, TransactionState, Begins, SeesOn}
-use Rattle.pit_job.specs.Effect.{nothing, no_change, read_in, effect, ended, steps_after, HasEffect}
+use Rattle.pit_job.specs.Effect.{nothing, no_change, read_in, effect, ended, steps_after, changes_after, HasEffect}
 use Rattle.pit_job.specs.declared.doing.StepStop.TheVariants as met
 use Rattle.pit_job.specs.declared.doing.StepStop.{StepStop}
 use Rattle.pit_job.specs.declared.outcome.JobStop.{JobStop}
@@ -28,34 +31,58 @@ use Rattle.pit_job.specs.declared.outcome.JobStop.TheVariants as job_stop
 use Rattle.pit_job.specs.declared.outcome.Tried.{Tried}
 use Rattle.pit_job.specs.declared.outcome.Tried.TheVariants as tried
 use Rattle.pit_job.specs.Inside.Doing.{own_of, Same, DoesSteps, Meets, IsFresh, come_to}
-use Rattle.pit_job.specs.Outcomes.{IsRead, Grows}
+use Rattle.pit_job.specs.Outcomes.{IsRead, IsCallOf, Grows}
 use Rattle.pit_job.specs.Inside.Outcomes.{Tries, EndsBy, IsStop, stop_of, tried_at, tried_of}
-use Rattle.pit_job.proofs.Seeing.{prefix-trans, sees-same, answered-moved}
+use Rattle.pit_job.proofs.Seeing.{prefix-trans, sees-same, answered-moved, answered-noted}
 use Rattle.pit_job.proofs.Growing.{try-from}
 
--- an ending is a try's, where the call has the job's effect, and began after what had been seen
+-- what stopped the ending of a transaction stopped the try
+try-stop : (max_entries : ℕ) (steps : List Step) (seen : List Answered) (why : JobStop) → IsStop max_entries [] seen why → IsStop max_entries steps seen why
+try-stop max_entries steps seen job_stop.Full is = is
+try-stop max_entries steps seen job_stop.NoMemory is = tt
+try-stop max_entries steps seen job_stop.NoEntry is = let none = is.1.among.1 in absurd (omega arith)
+
+-- an ending is a try's, where the call is the job's, and began after what had been seen
 pub tries-of : (pit : Pit) (max_entries : ℕ) (task : Job) (n : ℕ) (how : Act) (w : Sets) (old new : PlannerState) (es : List Answered) (t : Tried) → w.job ≡ n → length (commits_of old.seen) ≤ w.start
-    → HasEffect pit task (work_call w how) → Grows old es new → EndsBy max_entries how w new.seen es t → Tries pit max_entries task n old.seen new.seen es t
-tries-of pit max_entries task n how w old new es (tried.Moved block version) same after has grows (is, moved) = record {
+    → IsCallOf pit task (work_call w how) → Grows old es new → EndsBy max_entries how w new.seen es t → Tries pit max_entries task n old.seen new.seen es t
+tries-of pit max_entries task n how w old new es (tried.Moved block version) same after has grows (is, moved, noted) = record {
   start = w.start;
   after = after;
   sees = grows.seen;
   moved = moved;
+  read = subst (IsRead task.steps) noted.2 (All-contains (λ (read : ℕ × Option ℕ). IsRead task.steps read.0) w.reads noted.0 has.reads noted.1);
   made = inl (
     record { call = work_call w how; reply = reply.Refused (refusal.Moved block version) },
     is,
-    record { item = record { job = same; effect = has }; begun = refl; answer = refl },
+    record { item = record { job = same; call = has }; begun = refl; answer = refl },
   );
 }
 tries-of pit max_entries task n how w old new es (tried.Answered answer) same after has grows (is, other) =
-    (record { call = work_call w how; reply = answer }, is, record { job = same; effect = has }, refl, other)
-tries-of pit max_entries task n how w old new es (tried.Stopped why) same after has grows is = is
+    (record { call = work_call w how; reply = answer }, is, record { job = same; call = has }, refl, other)
+tries-of pit max_entries task n how w old new es (tried.Stopped why) same after has grows (is, stop) = (is, try-stop max_entries task.steps new.seen why stop)
 
 -- what all steps come to, over the reads that were made
 steps-come : (pit : Pit) (task : Job) (n : ℕ) (old new : TransactionState) (goes : Bool) → IsFresh n old → DoesSteps pit old task.steps goes new
     → steps_after pit (read_in new.work.reads) no_change task.steps ≡ come_to goes (own_of new.work)
 steps-come pit task n old new goes fresh does =
     subst (λ (own : Commit). steps_after pit (read_in new.work.reads) own task.steps ≡ come_to goes (own_of new.work)) fresh.own (does.does (read_in new.work.reads) (λ b v is. is))
+
+-- what they have changed, and what they noted
+steps-changed : (pit : Pit) (task : Job) (n : ℕ) (old new : TransactionState) (goes : Bool) → IsFresh n old → DoesSteps pit old task.steps goes new
+    → own_of new.work ≡ changes_after pit (read_in new.work.reads) no_change task.steps
+steps-changed pit task n old new goes fresh does =
+    sym (subst (λ (own : Commit). changes_after pit (read_in new.work.reads) own task.steps ≡ own_of new.work) fresh.own (does.own (read_in new.work.reads) (λ b v is. is)))
+
+steps-noted : (pit : Pit) (task : Job) (n : ℕ) (old new : TransactionState) (goes : Bool) → IsFresh n old → DoesSteps pit old task.steps goes new
+    → All (λ (read : ℕ × Option ℕ). IsRead task.steps read.0) new.work.reads
+steps-noted pit task n old new goes fresh does =
+    subst (All (λ (read : ℕ × Option ℕ). IsRead task.steps read.0)) (sym (does.noted.grown ∙ ap (λ (xs : List (ℕ × Option ℕ)). xs ++ does.noted.more) fresh.reads)) does.noted.each
+
+-- so the call is the job's, where it has the job's effect
+call-of : (pit : Pit) (task : Job) (n : ℕ) (old new : TransactionState) (goes : Bool) (how : Act) → IsFresh n old → DoesSteps pit old task.steps goes new → HasEffect pit task (work_call new.work how)
+    → IsCallOf pit task (work_call new.work how)
+call-of pit task n old new goes how fresh does has =
+    record { effect = has; changes = steps-changed pit task n old new goes fresh does; reads = steps-noted pit task n old new goes fresh does }
 
 -- a commit after all steps
 commit-has : (pit : Pit) (task : Job) (n : ℕ) (old new : TransactionState) → IsFresh n old → task.end ≡ ending.Commit → DoesSteps pit old task.steps true new → HasEffect pit task (work_call new.work act.Commit)
@@ -81,8 +108,11 @@ pub commit-ends : (pit : Pit) (max_entries : ℕ) (w : Sets) (old seen es : List
     → es ≡ record { call = work_call w act.Commit; reply = entry_reply r } ∷ [] → EndsBy max_entries act.Commit w seen es (tried_of r)
 commit-ends pit max_entries w old seen es (answered.Committed number) answer is = (is, refl)
 commit-ends pit max_entries w old seen es (answered.Refused (refusal.Ahead start commits)) answer is = (is, refl)
-commit-ends pit max_entries w old seen es (answered.Refused (refusal.Moved block version)) answer is =
-    (is, answered-moved pit (work_call w act.Commit) (reply.Refused (refusal.Moved block version)) old seen block version answer refl)
+commit-ends pit max_entries w old seen es (answered.Refused (refusal.Moved block version)) answer is = (
+  is,
+  answered-moved pit (work_call w act.Commit) (reply.Refused (refusal.Moved block version)) old seen block version answer refl,
+  answered-noted pit (work_call w act.Commit) (reply.Refused (refusal.Moved block version)) old seen block version answer refl,
+)
 commit-ends pit max_entries w old seen es (answered.Refused (refusal.Misread block)) answer is = (is, refl)
 commit-ends pit max_entries w old seen es (answered.Refused (refusal.Precedence block before)) answer is = (is, refl)
 commit-ends pit max_entries w old seen es (answered.Refused (refusal.Over resource period load limit)) answer is = (is, refl)
@@ -105,7 +135,7 @@ tries-from pit max_entries task n less old new es (tried.Answered answer) begins
 tries-from pit max_entries task n less old new es (tried.Stopped why) begins tries = tries
 
 ends-tries : (pit : Pit) (max_entries : ℕ) (task : Job) (n : ℕ) (old new : TransactionState) (how : Act) (p : PlannerState) (t : Tried) → IsFresh n old → Same old new
-    → HasEffect pit task (work_call new.work how) → ((es : List Answered) × Grows new.planner es p × EndsBy max_entries how new.work p.seen es t)
+    → IsCallOf pit task (work_call new.work how) → ((es : List Answered) × Grows new.planner es p × EndsBy max_entries how new.work p.seen es t)
     → (es : List Answered) × Grows old.planner es p × Tries pit max_entries task n old.planner.seen p.seen es t
 ends-tries pit max_entries task n old new how p t fresh same has (es, grows, ends) =
     let grew = grows-on old.planner new.planner p es same.sees grows in
@@ -122,14 +152,14 @@ pub committed-tries : (pit : Pit) (max_entries : ℕ) (task other : Job) (n : �
     → (es : List Answered) × Grows old.planner es p × Tries pit max_entries other n old.planner.seen p.seen es t
 committed-tries pit max_entries task other n old new goes p t named how fresh is does ends =
     let all = subst (λ (b : Bool). DoesSteps pit old task.steps b new) is does in
-    tries-same pit max_entries task other n old.planner p t named (ends-tries pit max_entries task n old new act.Commit p t fresh all.same (commit-has pit task n old new fresh how all) ends)
+    tries-same pit max_entries task other n old.planner p t named (ends-tries pit max_entries task n old new act.Commit p t fresh all.same (call-of pit task n old new true act.Commit fresh all (commit-has pit task n old new fresh how all)) ends)
 
 pub aborted-tries : (pit : Pit) (max_entries : ℕ) (task other : Job) (n : ℕ) (old new : TransactionState) (goes : Bool) (p : PlannerState) (t : Tried) → other ≡ task → task.end ≡ ending.Abort → IsFresh n old
     → goes ≡ true → DoesSteps pit old task.steps goes new → ((es : List Answered) × Grows new.planner es p × EndsBy max_entries act.Withdraw new.work p.seen es t)
     → (es : List Answered) × Grows old.planner es p × Tries pit max_entries other n old.planner.seen p.seen es t
 aborted-tries pit max_entries task other n old new goes p t named how fresh is does ends =
     let all = subst (λ (b : Bool). DoesSteps pit old task.steps b new) is does in
-    tries-same pit max_entries task other n old.planner p t named (ends-tries pit max_entries task n old new act.Withdraw p t fresh all.same (abort-has pit task n old new fresh how all) ends)
+    tries-same pit max_entries task other n old.planner p t named (ends-tries pit max_entries task n old new act.Withdraw p t fresh all.same (call-of pit task n old new true act.Withdraw fresh all (abort-has pit task n old new fresh how all)) ends)
 
 -- and where a shift failed
 pub failed-tries : (pit : Pit) (max_entries : ℕ) (task other : Job) (n : ℕ) (old new : TransactionState) (goes : Bool) (p : PlannerState) (t : Tried) → other ≡ task → IsFresh n old
@@ -137,7 +167,7 @@ pub failed-tries : (pit : Pit) (max_entries : ℕ) (task other : Job) (n : ℕ) 
     → (es : List Answered) × Grows old.planner es p × Tries pit max_entries other n old.planner.seen p.seen es t
 failed-tries pit max_entries task other n old new goes p t named fresh is does ends =
     let some = subst (λ (b : Bool). DoesSteps pit old task.steps b new) is does in
-    tries-same pit max_entries task other n old.planner p t named (ends-tries pit max_entries task n old new act.Withdraw p t fresh some.same (failed-has pit task n old new fresh some) ends)
+    tries-same pit max_entries task other n old.planner p t named (ends-tries pit max_entries task n old new act.Withdraw p t fresh some.same (call-of pit task n old new false act.Withdraw fresh some (failed-has pit task n old new fresh some)) ends)
 
 pub grows-none : (old new : PlannerState) → SeesOn old new → Grows old [] new
 grows-none old new sees = record { number = sees.number; items = sees.items ∙ sym (append-nil old.items); seen = sees.seen }
@@ -149,14 +179,14 @@ moved-tries : (pit : Pit) (max_entries : ℕ) (task : Job) (n : ℕ) (old : Tran
 moved-tries pit max_entries task n old p block version fresh sees meets = (
   [],
   grows-none old.planner p sees,
-  record { start = old.work.start; after = fresh.after; sees = sees.seen; moved = meets.1; made = inr (refl, meets.0) },
+  record { start = old.work.start; after = fresh.after; sees = sees.seen; moved = meets.1; read = meets.0; made = inr refl },
 )
 
 pub ended-grows : (pit : Pit) (old new : PlannerState) (call : Call) (reply : EntryReply) → IsEnded pit old call reply new → Grows old (record { call = call; reply = reply } ∷ []) new
 ended-grows pit old new call reply ended = record { number = ended.number; items = ended.items; seen = ended.seen }
 
 -- a try that stops adds nothing
-pub stopped-tries : (pit : Pit) (max_entries : ℕ) (task : Job) (n : ℕ) (old p : PlannerState) (why : JobStop) → SeesOn old p → IsStop max_entries p.seen why
+pub stopped-tries : (pit : Pit) (max_entries : ℕ) (task : Job) (n : ℕ) (old p : PlannerState) (why : JobStop) → SeesOn old p → IsStop max_entries task.steps p.seen why
     → (es : List Answered) × Grows old es p × Tries pit max_entries task n old.seen p.seen es (tried.Stopped why)
 stopped-tries pit max_entries task n old p why sees stop = ([], grows-none old p sees, (refl, stop))
 
@@ -165,7 +195,7 @@ met-tries : (pit : Pit) (max_entries : ℕ) (task : Job) (n : ℕ) (old : Transa
     → Meets (IsRead task.steps) old.work.start p.seen s → (es : List Answered) × Grows old.planner es p × Tries pit max_entries task n old.planner.seen p.seen es (tried_at s)
 met-tries pit max_entries task n old p (met.Moved block version) fresh sees meets = moved-tries pit max_entries task n old p block version fresh sees meets
 met-tries pit max_entries task n old p met.NoMemory fresh sees meets = stopped-tries pit max_entries task n old.planner p job_stop.NoMemory sees tt
-met-tries pit max_entries task n old p met.NoEntry fresh sees meets = stopped-tries pit max_entries task n old.planner p job_stop.NoEntry sees tt
+met-tries pit max_entries task n old p met.NoEntry fresh sees meets = stopped-tries pit max_entries task n old.planner p job_stop.NoEntry sees meets
 
 pub abandoned-tries : (pit : Pit) (max_entries : ℕ) (task other : Job) (n : ℕ) (old mid : TransactionState) (p : PlannerState) (s : StepStop) (t : Tried) → other ≡ task → IsFresh n old
     → SeesOn old.planner mid.planner → Meets (IsRead task.steps) old.work.start mid.planner.seen s → p ≡ mid.planner → t ≡ tried_at s
@@ -181,7 +211,7 @@ stopped-sees : (max_entries : ℕ) (old later : TransactionState) (s : Stop) →
 stopped-sees max_entries old later desk_stop.Full stopped = stopped.1
 stopped-sees max_entries old later desk_stop.NoMemory stopped = sees-same old.planner later.planner (ap (λ (t : TransactionState). t.planner) stopped)
 
-stopped-is : (max_entries : ℕ) (old later : TransactionState) (s : Stop) → IsStopped max_entries old s later → IsStop max_entries later.planner.seen (stop_of s)
+stopped-is : (max_entries : ℕ) (old later : TransactionState) (s : Stop) → IsStopped max_entries old s later → IsStop max_entries [] later.planner.seen (stop_of s)
 stopped-is max_entries old later desk_stop.Full stopped = stopped.2
 stopped-is max_entries old later desk_stop.NoMemory stopped = tt
 
@@ -190,8 +220,8 @@ pub stopped-ends : (max_entries : ℕ) (how : Act) (old later : TransactionState
     → (es : List Answered) × Grows old.planner es p × EndsBy max_entries how old.work p.seen es (tried.Stopped why)
 stopped-ends max_entries how old later p s why stopped same is =
     let sees = subst (SeesOn old.planner) (sym same) (stopped-sees max_entries old later s stopped) in
-    let here = subst (λ (q : PlannerState). IsStop max_entries q.seen (stop_of s)) (sym same) (stopped-is max_entries old later s stopped) in
-    ([], grows-none old.planner p sees, (refl, subst (IsStop max_entries p.seen) (sym is) here))
+    let here = subst (λ (q : PlannerState). IsStop max_entries [] q.seen (stop_of s)) (sym same) (stopped-is max_entries old later s stopped) in
+    ([], grows-none old.planner p sees, (refl, subst (IsStop max_entries [] p.seen) (sym is) here))
 
 -- a withdrawal that was answered
 pub withdrawn-ends : (pit : Pit) (max_entries : ℕ) (w : Sets) (old p : PlannerState) → IsEnded pit old (work_call w act.Withdraw) reply.Withdrawn p
@@ -219,4 +249,5 @@ fresh-of pit old n t begins = record {
   job = ap (λ (w : Sets). w.job) begins.work;
   after = let is = ap (λ (w : Sets). w.start) begins.work in omega arith;
   own = ap (λ (w : Sets). own_of w) begins.work;
+  reads = ap (λ (w : Sets). w.reads) begins.work;
 }

@@ -81,6 +81,17 @@ abbrev pub steps_after : Pit → Known → Commit → List Step → Effect
 steps_after pit known own [] = changes own
 steps_after pit known own (s ∷ steps) = next (step_after pit known own s) (λ after. steps_after pit known after steps)
 
+-- where a step ends what comes next, the changes so far; else what comes of its own
+abbrev pub up_to : Commit → Effect → (Commit → Commit) → Commit
+up_to own (changes after) more = more after
+up_to own unread more = own
+up_to own nothing more = own
+
+-- what steps in order have changed, up to one that reads what isn't known, or fails
+abbrev pub changes_after : Pit → Known → Commit → List Step → Commit
+changes_after pit known own [] = own
+changes_after pit known own (s ∷ steps) = up_to own (step_after pit known own s) (λ after. changes_after pit known after steps)
+
 -- a job that gives up does nothing, where its steps read what is known
 abbrev pub ended : JobEnd → Effect → Effect
 ended ending.Commit e = e
@@ -110,3 +121,7 @@ IsEffectOf act.Withdraw own e = e ≡ nothing
 -- the changes of a commit are the job's effect over the call's reads, and where the call withdraws, that effect is nothing
 abbrev pub HasEffect : Pit → Job → Call → Type 0
 HasEffect pit job call = IsEffectOf call.act (commit_of call) (effect pit job (read_in call.reads))
+
+-- its changes are those of the job's steps over its reads, also where it withdraws
+abbrev pub HasChanges : Pit → Job → Call → Type 0
+HasChanges pit job call = commit_of call ≡ changes_after pit (read_in call.reads) no_change job.steps

@@ -4,7 +4,8 @@ use Rattle.pit_model.specs.Pit.{Pit}
 use Rattle.pit_plan.specs.Schedule.{Commit, write_of}
 use Rattle.pit_desk.specs.History.{Answered, commit_of, commits_of}
 use Rattle.pit_script.specs.Jobs.{Job}
-use Rattle.pit_job.specs.Effect.{HasEffect, effect, changes, whole}
+use Rattle.pit_job.specs.Effect.{effect, changes, whole}
+use Rattle.pit_job.specs.Outcomes.{IsCallOf}
 use Rattle.pit_job.specs.declared.outcome.Outcome.{Outcome}
 use Rattle.pit_job.specs.declared.outcome.RunEnd.{RunEnd}
 use Rattle.pit_job.specs.declared.outcome.RunEnd.TheVariants as end
@@ -13,13 +14,13 @@ use Rattle.pit_job.specs.declared.outcome.RunEnd.TheVariants as end
 abbrev pub of_job : ℕ → List Answered → List Answered
 of_job n es = filter (λ e. e.call.job == n) es
 
--- its job is one of these, the first of which has the number n, and has its effect
+-- its job is one of these, the first of which has the number n, and its call is that job's
 pub record HasOwnEffect (pit : Pit) (n : ℕ) (jobs : List Job) (e : Answered) : Type 0 where
   pub place : ℕ
   pub task : Job
   pub number : e.call.job ≡ n + place
   pub at : slice_get jobs place ≡ Some task
-  pub effect : HasEffect pit task e.call
+  pub call : IsCallOf pit task e.call
 
 -- Whole has an outcome for every job, and an end that names a job has one for each job before it
 abbrev pub EndsAfter : ℕ → List Job → List Outcome → RunEnd → Type 0

@@ -1,9 +1,9 @@
 -- What becomes of jobs.
-use Rattle.std.specs.Prelude.{◌≡◌, ℕ, zero, suc, ◌<◌, ◌≤◌, ◌⊎◌, Bool, true, false, List, [], ◌∷◌, ◌++◌, length, Contains}
+use Rattle.std.specs.Prelude.{◌≡◌, ℕ, zero, suc, ◌<◌, ◌≤◌, ◌⊎◌, Bool, true, false, List, [], ◌∷◌, ◌++◌, length, All, Contains}
 use mathlib.Core.List.{IsPrefix}
 use Rattle.pit_model.specs.Pit.{Pit}
 use Rattle.pit_plan.specs.Schedule.{last_number}
-use Rattle.pit_desk.specs.History.{Answered, commits_of}
+use Rattle.pit_desk.specs.History.{Answered, Call, commits_of}
 use Rattle.pit_desk.specs.declared.reply.Refusal.{Refusal}
 use Rattle.pit_desk.specs.declared.reply.Refusal.TheVariants as refusal
 use Rattle.pit_desk.specs.declared.reply.EntryReply.{EntryReply}
@@ -12,7 +12,7 @@ use Rattle.pit_share.specs.Planners.{PlannerState}
 use Rattle.pit_script.specs.Jobs.{Job}
 use Rattle.pit_script.specs.declared.step.Step.{Step}
 use Rattle.pit_script.specs.declared.step.Step.TheVariants as step
-use Rattle.pit_job.specs.Effect.{HasEffect}
+use Rattle.pit_job.specs.Effect.{HasEffect, HasChanges}
 
 -- a block that the call read was moved
 abbrev pub is_moved_refusal : Refusal → Bool
@@ -27,19 +27,7 @@ is_moved_reply (reply.Committed number) = false
 is_moved_reply (reply.Refused why) = is_moved_refusal why
 is_moved_reply reply.Withdrawn = false
 
--- an entry of a job
-pub record IsItem (pit : Pit) (task : Job) (n : ℕ) (e : Answered) : Type 0 where
-  pub job : e.call.job ≡ n
-  pub effect : HasEffect pit task e.call
-
--- ---- tries that end by Moved
-
--- of the commits of some prefix of what was seen, the last one that names the block has this number, which is past the start
-pub record IsMovedBlock (seen : List Answered) (start block version : ℕ) : Type 0 where
-  pub front : List Answered
-  pub begins : IsPrefix front seen
-  pub last : version ≡ last_number (commits_of front) block
-  pub past : start < version
+-- ---- entries of a job
 
 -- the step reads the block
 abbrev pub IsReadBy : ℕ → Step → Type 0
@@ -56,20 +44,41 @@ pub record IsRead (steps : List Step) (block : ℕ) : Type 0 where
   pub among : Contains steps reader
   pub reads : IsReadBy block reader
 
+-- it has the job's effect over its reads, and the changes of the job's steps; and each block that it noted, a step reads
+pub record IsCallOf (pit : Pit) (task : Job) (call : Call) : Type 0 where
+  pub effect : HasEffect pit task call
+  pub changes : HasChanges pit task call
+  pub reads : All (λ read. IsRead task.steps read.0) call.reads
+
+-- an entry of a job
+pub record IsItem (pit : Pit) (task : Job) (n : ℕ) (e : Answered) : Type 0 where
+  pub job : e.call.job ≡ n
+  pub call : IsCallOf pit task e.call
+
+-- ---- tries that end by Moved
+
+-- of the commits of some prefix of what was seen, the last one that names the block has this number, which is past the start
+pub record IsMovedBlock (seen : List Answered) (start block version : ℕ) : Type 0 where
+  pub front : List Answered
+  pub begins : IsPrefix front seen
+  pub last : version ≡ last_number (commits_of front) block
+  pub past : start < version
+
 -- an entry of a job that began after so many commits, and was refused as moved
 pub record IsMovedItem (pit : Pit) (task : Job) (n start block version : ℕ) (e : Answered) : Type 0 where
   pub item : IsItem pit task n e
   pub begun : e.call.start ≡ start
   pub answer : e.reply ≡ reply.Refused (refusal.Moved block version)
 
--- A try that ended by Moved: it made one entry, which was refused so; or none, where a step read the block. The commit of this number has then been
+-- A try that ended by Moved, of a block that a step reads: it made one entry, which was refused so, or none. The commit of this number has then been
 -- seen, and is past the start of the try, which began after no fewer commits than had been seen before.
 pub record IsMovedTry (pit : Pit) (task : Job) (n : ℕ) (old new es : List Answered) (block version : ℕ) : Type 0 where
   pub start : ℕ
   pub after : length (commits_of old) ≤ start
   pub sees : IsPrefix old new
   pub moved : IsMovedBlock new start block version
-  pub made : ((e : Answered) × (es ≡ e ∷ []) × IsMovedItem pit task n start block version e) ⊎ ((es ≡ []) × IsRead task.steps block)
+  pub read : IsRead task.steps block
+  pub made : ((e : Answered) × (es ≡ e ∷ []) × IsMovedItem pit task n start block version e) ⊎ (es ≡ [])
 
 -- so many tries of a job, one after another, that ended by Moved, with their entries
 abbrev pub Repeats : Pit → Job → ℕ → ℕ → List Answered → List Answered → List Answered → Type 0

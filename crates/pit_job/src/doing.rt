@@ -4,7 +4,7 @@ ghost use Rattle.pit_script.specs.Ranges.{IsStepIn};
 ghost use Rattle.pit_share.specs.Planners.{SeesOn};
 ghost use Rattle.pit_job.specs.Outcomes.{IsReadBy, IsRead};
 ghost use Rattle.pit_job.specs.Shifts.{shifted as shifted_of};
-ghost use Rattle.pit_job.specs.Inside.Doing.{LooksUp, Puts, DoesStep, DoesSteps, Meets};
+ghost use Rattle.pit_job.specs.Inside.Doing.{LooksUp, Puts, DoesStep, DoesSteps, Meets, IsUnseen};
 
 use crate::shift::shifted;
 use pit_board::Session;
@@ -157,6 +157,7 @@ fn look<'a, S: Session, R: Wait + Drop, A: Allocator + Copy + Drop>(
     requires { b < S.instance.blocks }
     ensures ok { IfOk result (λ period. LooksUp t.old b period t.new) }
     ensures err { IfErr result (Meets (λ block. block ≡ b) t.old.work.start t.new.planner.seen) }
+    ensures unseen { IfErr result (λ stop. IsUnseen t.old b stop t.new) }
     ensures sees { SeesOn t.old.planner t.new.planner }
 {
     match t.read(b) {

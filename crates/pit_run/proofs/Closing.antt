@@ -114,7 +114,7 @@ one-by-one pit opening max_entries retries scripts desk runs report = record {
           number = has.number;
           at = has.at;
           wrote = committed-effect pit desk.history (value_of pit (held_period (commits_of desk.history))) (of-one-thread pit opening max_entries retries scripts desk runs report)
-              (length opening + i) number e has.task at is has.effect;
+              (length opening + i) number e has.task at is has.call.effect;
         };
       };
 }

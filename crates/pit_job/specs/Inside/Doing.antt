@@ -1,13 +1,13 @@
 -- What a step of a job does to a transaction.
-use Rattle.std.specs.Prelude.{◌≡◌, ℕ, ◌≤◌, Bool, true, false, List, [], length, Option, Some, ⊤}
+use Rattle.std.specs.Prelude.{◌≡◌, ℕ, ◌≤◌, Bool, true, false, List, [], ◌++◌, length, Option, Some, ⊤, All}
 use Rattle.pit_model.specs.Pit.{Pit}
-use Rattle.pit_plan.specs.Schedule.{Commit}
+use Rattle.pit_plan.specs.Schedule.{Commit, last_number}
 use Rattle.pit_tx.specs.Sets.{Sets, known_of}
 use Rattle.pit_desk.specs.History.{Answered, commits_of}
 use Rattle.pit_script.specs.declared.step.Step.{Step}
 use Rattle.pit_share.specs.Planners.{TransactionState, SeesOn}
-use Rattle.pit_job.specs.Effect.{Agrees, Known, Effect, changes, nothing, read_in, with_written, step_after, steps_after}
-use Rattle.pit_job.specs.Outcomes.{IsMovedBlock}
+use Rattle.pit_job.specs.Effect.{Agrees, Known, Effect, changes, nothing, read_in, with_written, step_after, steps_after, changes_after}
+use Rattle.pit_job.specs.Outcomes.{IsMovedBlock, IsReadBy, IsRead}
 use Rattle.pit_job.specs.declared.doing.StepStop.{StepStop}
 use Rattle.pit_job.specs.declared.doing.StepStop.TheVariants as stop
 
@@ -27,36 +27,55 @@ pub record Same (old new : TransactionState) : Type 0 where
   pub start : new.work.start ≡ old.work.start
   pub reads : Agrees (read_in old.work.reads) (read_in new.work.reads)
 
+-- what was noted since is of such blocks
+pub record NotesOnly (IsOne : ℕ → Type 0) (old new : List (ℕ × Option ℕ)) : Type 0 where
+  pub more : List (ℕ × Option ℕ)
+  pub grown : new ≡ old ++ more
+  pub each : All (λ read. IsOne read.0) more
+
 -- a block was looked up: it is then known, and nothing else changed
 pub record LooksUp (old : TransactionState) (b : ℕ) (period : Option ℕ) (new : TransactionState) : Type 0 where
   pub same : Same old new
   pub own : own_of new.work ≡ own_of old.work
   pub known : known_of new.work b ≡ Some period
+  pub noted : NotesOnly (λ block. block ≡ b) old.work.reads new.work.reads
 
--- over whatever holds the reads, the step does what was done
+-- over whatever holds the reads, the step does what was done; it notes what it reads, and changes nothing where it fails
 pub record DoesStep (pit : Pit) (old : TransactionState) (s : Step) (goes : Bool) (new : TransactionState) : Type 0 where
   pub same : Same old new
   pub does : (known : Known) → Agrees (read_in new.work.reads) known → step_after pit known (own_of old.work) s ≡ come_to goes (own_of new.work)
+  pub noted : NotesOnly (λ block. IsReadBy block s) old.work.reads new.work.reads
+  pub stays : goes ≡ false → own_of new.work ≡ own_of old.work
 
 -- and so for steps in order
 pub record DoesSteps (pit : Pit) (old : TransactionState) (ss : List Step) (goes : Bool) (new : TransactionState) : Type 0 where
   pub same : Same old new
   pub does : (known : Known) → Agrees (read_in new.work.reads) known → steps_after pit known (own_of old.work) ss ≡ come_to goes (own_of new.work)
+  pub own : (known : Known) → Agrees (read_in new.work.reads) known → changes_after pit known (own_of old.work) ss ≡ own_of new.work
+  pub noted : NotesOnly (IsRead ss) old.work.reads new.work.reads
 
--- where it is stopped as moved, the block is one of these, and has moved since the start
+-- where it is stopped as moved, the block is one of these, and has moved since the start; and where there is no entry, there is such a block
 abbrev pub Meets : (ℕ → Type 0) → ℕ → List Answered → StepStop → Type 0
 Meets IsOne start seen (stop.Moved block version) = IsOne block × IsMovedBlock seen start block version
 Meets IsOne start seen stop.NoMemory = ⊤
-Meets IsOne start seen stop.NoEntry = ⊤
+Meets IsOne start seen stop.NoEntry = (block : ℕ) × IsOne block
 
 -- a transaction that has begun for a job, no earlier than after the commits that its planner has seen, and done nothing
 pub record IsFresh (n : ℕ) (t : TransactionState) : Type 0 where
   pub job : t.work.job ≡ n
   pub after : length (commits_of t.planner.seen) ≤ t.work.start
   pub own : own_of t.work ≡ record { writes = []; revises = [] }
+  pub reads : t.work.reads ≡ []
 
 -- it is done, by one more write of the own ones
 pub record Puts (old : TransactionState) (b : ℕ) (period : Option ℕ) (goes : Bool) (new : TransactionState) : Type 0 where
   pub done : goes ≡ true
   pub same : Same old new
   pub own : own_of new.work ≡ with_written (own_of old.work) b period
+  pub reads : new.work.reads ≡ old.work.reads
+
+-- why a block was not looked up, as far as the transaction shows it: without an entry nothing has changed; out of memory the block hasn't moved
+abbrev pub IsUnseen : TransactionState → ℕ → StepStop → TransactionState → Type 0
+IsUnseen old b (stop.Moved block version) new = new.work ≡ old.work
+IsUnseen old b stop.NoMemory new = (last_number (commits_of new.planner.seen) b ≤ old.work.start) × (new.work ≡ old.work)
+IsUnseen old b stop.NoEntry new = new ≡ old

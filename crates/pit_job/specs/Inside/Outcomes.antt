@@ -1,5 +1,5 @@
 -- What a try comes to.
-use Rattle.std.specs.Prelude.{◌≡◌, ℕ, ◌≤◌, false, List, [], ◌∷◌, length, ⊤}
+use Rattle.std.specs.Prelude.{◌≡◌, ℕ, ◌≤◌, false, List, [], ◌∷◌, length, Option, Contains, ⊤}
 use Rattle.pit_model.specs.Pit.{Pit}
 use Rattle.pit_tx.specs.Sets.{Sets}
 use Rattle.pit_desk.specs.History.{Answered}
@@ -14,6 +14,7 @@ use Rattle.pit_desk.specs.declared.reply.Reply.TheVariants as answered
 use Rattle.pit_desk.specs.declared.reply.EntryReply.{EntryReply}
 use Rattle.pit_desk.specs.declared.reply.EntryReply.TheVariants as reply
 use Rattle.pit_script.specs.Jobs.{Job}
+use Rattle.pit_script.specs.declared.step.Step.{Step}
 use Rattle.pit_job.specs.declared.doing.StepStop.{StepStop}
 use Rattle.pit_job.specs.declared.doing.StepStop.TheVariants as met
 use Rattle.pit_job.specs.declared.outcome.JobStop.{JobStop}
@@ -22,7 +23,7 @@ use Rattle.pit_job.specs.declared.outcome.Tried.{Tried}
 use Rattle.pit_job.specs.declared.outcome.Tried.TheVariants as tried
 use Rattle.pit_job.specs.declared.outcome.Outcome.{Outcome}
 use Rattle.pit_job.specs.declared.outcome.Outcome.TheVariants as outcome
-use Rattle.pit_job.specs.Outcomes.{is_moved_reply, IsItem, IsMovedBlock, IsMovedTry}
+use Rattle.pit_job.specs.Outcomes.{is_moved_reply, IsItem, IsMovedBlock, IsMovedTry, IsRead}
 
 abbrev pub outcome_of : EntryReply → ℕ → Outcome
 outcome_of (reply.Committed number) tries = outcome.Committed number tries
@@ -40,26 +41,28 @@ tried_at (met.Moved block version) = tried.Moved block version
 tried_at met.NoMemory = tried.Stopped stop.NoMemory
 tried_at met.NoEntry = tried.Stopped stop.NoEntry
 
--- a try stopped, and where that is since the history is full, its planner has seen so many entries
-abbrev pub IsStop : ℕ → List Answered → JobStop → Type 0
-IsStop max_entries seen stop.Full = max_entries ≤ length seen
-IsStop max_entries seen stop.NoMemory = ⊤
-IsStop max_entries seen stop.NoEntry = ⊤
+-- A try of these steps stopped. Where that is since the history is full, its planner has seen so many entries; where there was no entry at the board,
+-- a step reads a block.
+abbrev pub IsStop : ℕ → List Step → List Answered → JobStop → Type 0
+IsStop max_entries steps seen stop.Full = max_entries ≤ length seen
+IsStop max_entries steps seen stop.NoMemory = ⊤
+IsStop max_entries steps seen stop.NoEntry = (block : ℕ) × IsRead steps block
 
 -- what one try adds to the log
 abbrev pub Tries : Pit → ℕ → Job → ℕ → List Answered → List Answered → List Answered → Tried → Type 0
 Tries pit max_entries task n old new es (tried.Moved block version) = IsMovedTry pit task n old new es block version
 Tries pit max_entries task n old new es (tried.Answered answer) =
     (e : Answered) × (es ≡ e ∷ []) × IsItem pit task n e × (e.reply ≡ answer) × (is_moved_reply answer ≡ false)
-Tries pit max_entries task n old new es (tried.Stopped why) = (es ≡ []) × IsStop max_entries new why
+Tries pit max_entries task n old new es (tried.Stopped why) = (es ≡ []) × IsStop max_entries task.steps new why
 
 -- what the ending of a transaction with this work adds to the log
 abbrev pub EndsBy : ℕ → Act → Sets → List Answered → List Answered → Tried → Type 0
 EndsBy max_entries ending work seen es (tried.Moved block version) =
     (es ≡ record { call = work_call work ending; reply = reply.Refused (refusal.Moved block version) } ∷ []) × IsMovedBlock seen work.start block version
+    × ((read : ℕ × Option ℕ) × Contains work.reads read × (read.0 ≡ block))
 EndsBy max_entries ending work seen es (tried.Answered answer) =
     (es ≡ record { call = work_call work ending; reply = answer } ∷ []) × (is_moved_reply answer ≡ false)
-EndsBy max_entries ending work seen es (tried.Stopped why) = (es ≡ []) × IsStop max_entries seen why
+EndsBy max_entries ending work seen es (tried.Stopped why) = (es ≡ []) × IsStop max_entries [] seen why
 
 abbrev pub tried_refused : Refusal → Tried
 tried_refused (refusal.Ahead start commits) = tried.Answered (reply.Refused (refusal.Ahead start commits))
