@@ -1,8 +1,9 @@
--- For the crates above: an edit was made from no more commits than there are.
+-- For the crates above: an edit was made from no more commits than there are, and no more are shown.
 use Rattle.std.proofs.Common.{◌≡◌, ℕ, ◌≤◌, Bool, true, false, List, ◌++◌, length, length-append, Option, Some, None, ap, arith}
 use Rattle.pit_desk.specs.History.{Answered, commits_of}
 use Rattle.pit_state.proofs.CallerLemmas.{commits_of-append}
 use Rattle.pit_base.specs.Bases.{IsHistoryBase, IsMarkedBase, IsPlainBase, IsBaseBy, IsSolutionBase}
+pub use Rattle.pit_base.proofs.Again.{shown-enough}
 
 front-few : (ours front rest : List Answered) → ours ≡ front ++ rest → length (commits_of front) ≤ length (commits_of ours)
 front-few ours front rest cut =

@@ -5,4 +5,11 @@ pub mod Bases
 pub mod Laid
 pub mod InRange
 pub mod Entries
+pub mod Lines
+pub mod Schedules
+pub mod LineRange
+pub mod SumDigits
+pub mod Comments
+pub mod Again
+pub mod ShownBases
 pub mod CallerLemmas

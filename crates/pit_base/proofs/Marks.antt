@@ -29,7 +29,7 @@ first-space n rest few =
     cond-true _ _ _ (lt-ltb _ _ within) ∙ ap Some len
 
 -- a number, and what stands behind it
-abbrev numbered : ℕ → List ℕ → List ℕ
+abbrev pub numbered : ℕ → List ℕ → List ℕ
 numbered n digits = decimal n ++ (codes " sum " ++ digits)
 
 module _ (line : List ℕ) (n : ℕ) (digits : List ℕ) (few : n ≤ COMMITS_MAX) (is : line ≡ numbered n digits) where

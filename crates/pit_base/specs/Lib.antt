@@ -1,4 +1,5 @@
 pub mod Marks
 pub mod Bases
 pub mod Held
+pub mod Again
 pub mod Inside
