@@ -3,3 +3,4 @@ pub mod Wanted
 pub mod Taken
 pub mod Runs
 pub mod OneMerge
+pub mod ShownEdits
