@@ -1,9 +1,11 @@
--- For the crates above: an edit was made from no more commits than there are, and no more are shown.
+-- For the crates above: an edit was made from no more commits than there are, and no more are shown; what it was made from is one, and so are the periods
+-- that commits leave.
 use Rattle.std.proofs.Common.{◌≡◌, ℕ, ◌≤◌, Bool, true, false, List, ◌++◌, length, length-append, Option, Some, None, ap, arith}
 use Rattle.pit_desk.specs.History.{Answered, commits_of}
 use Rattle.pit_state.proofs.CallerLemmas.{commits_of-append}
 use Rattle.pit_base.specs.Bases.{IsHistoryBase, IsMarkedBase, IsPlainBase, IsBaseBy, IsSolutionBase}
 pub use Rattle.pit_base.proofs.Again.{shown-enough}
+pub use Rattle.pit_base.proofs.OneBase.{one-history_base, history_base-apart, one-solution_base, solution_base-apart, one-solution_fault, one-left}
 
 front-few : (ours front rest : List Answered) → ours ≡ front ++ rest → length (commits_of front) ≤ length (commits_of ours)
 front-few ours front rest cut =

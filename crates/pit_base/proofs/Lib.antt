@@ -12,4 +12,5 @@ pub mod SumDigits
 pub mod Comments
 pub mod Again
 pub mod ShownBases
+pub mod OneBase
 pub mod CallerLemmas
