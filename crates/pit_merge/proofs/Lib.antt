@@ -4,3 +4,9 @@ pub mod Taken
 pub mod Runs
 pub mod OneMerge
 pub mod ShownEdits
+pub mod Readings
+pub mod Alike
+pub mod OneEdit
+pub mod OnePrepared
+pub mod Outcome
+pub mod Repeated

@@ -70,7 +70,7 @@ goes-through options number [] old new is = goes-itself old new is.0
 goes-through options number (edit ∷ edits) old new (between, taken, rest) =
     goes-both old between new (goes-taken options number taken.0 old between taken.2) (goes-through options (number + 1) edits between new rest)
 
-some-report : (is_new : Bool) (pit : Pit) (commits : List Commit) (lines : List ℕ) → 0 < length (new_line is_new ++ merge_report pit commits lines)
+pub some-report : (is_new : Bool) (pit : Pit) (commits : List Commit) (lines : List ℕ) → 0 < length (new_line is_new ++ merge_report pit commits lines)
 some-report is_new pit commits lines =
     let rest = codes "value " ++ (value_text (value_of pit (held_period commits)) ++ shorts_text (shortfalls_of pit (held_period commits))) in
     omega (arith, length-append lines rest, length-append (new_line is_new) (merge_report pit commits lines))
