@@ -13,6 +13,7 @@ ghost use Rattle.pit_run.specs.Inside.Turns.{IsTurn, IsTurnError};
 
 use crate::planner_run::{PlannerRun, run_planner};
 use crate::report::{InTurnError, Report};
+use crate::runner::Runner;
 use crate::threads::{push_log, push_run};
 use pit_board::Session;
 use pit_desk::Desk;
@@ -49,7 +50,14 @@ pub fn run_in_turn<R: Wait, A: Allocator + Copy + Drop, G: Gate>(
     let Ok(runs) = Vec::with_capacity(alloc, scripts.len()) else {
         return Err(InTurnError::NoMemory);
     };
-    turns(rt, alloc, desk, scripts, retries, gate, runs)
+    let runner = Runner {
+        rt,
+        alloc,
+        scripts,
+        retries,
+        gate,
+    };
+    turns(&runner, desk, runs)
 }
 
 /// Whether there may be a planner for each script.
@@ -61,33 +69,29 @@ fn is_planner_count<A: Allocator + Copy + Drop>(scripts: &[Script<A>]) -> bool
 
 /// The turns of all planners, where there is room for their runs.
 fn turns<R: Wait, A: Allocator + Copy + Drop, G: Gate>(
-    rt: &R,
-    alloc: A,
+    runner: &Runner<'_, R, A, G>,
     desk: Desk<A>,
-    scripts: &[Script<A>],
-    retries: u32,
-    gate: &G,
     runs: Vec<PlannerRun<A>, A>,
 ) -> Result<Report<A>, InTurnError>
-    requires pit { All (λ script. script.pit ≡ desk.plan.pit) scripts.now }
-    requires few { retries ≤ RETRIES_MAX }
-    requires count { IsPlannerCount (length scripts.now) }
+    requires pit { All (λ script. script.pit ≡ desk.plan.pit) runner.now.scripts }
+    requires count { IsPlannerCount (length runner.now.scripts) }
     requires none { runs.items ≡ [] }
-    requires room { length scripts.now ≤ vec_capacity runs }
-    ensures ok { IfOk result (λ report.
-        DidInTurn desk.plan.pit desk.history desk.max_entries retries (length scripts.now) (map (λ script. script.jobs) scripts.now) report.closed report.runs.items) }
-    ensures err { IfErr result (IsInTurnError desk.plan.pit desk.history desk.max_entries retries (map (λ script. script.jobs) scripts.now)) }
+    requires room { length runner.now.scripts ≤ vec_capacity runs }
+    ensures ok { let scripts = map (λ script. script.jobs) runner.now.scripts in IfOk result (λ report.
+        DidInTurn desk.plan.pit desk.history desk.max_entries runner.now.retries (length runner.now.scripts) scripts report.closed report.runs.items) }
+    ensures err { let scripts = map (λ script. script.jobs) runner.now.scripts in
+        IfErr result (IsInTurnError desk.plan.pit desk.history desk.max_entries runner.now.retries scripts) }
 {
     desk.shows_kept();
     let mut runs = runs;
-    let (first, run) = match turn(rt, alloc, desk, scripts, 0, retries, gate) {
+    let (first, run) = match turn(runner, desk, 0) {
         Ok(turn) => turn,
         Err(error) => return Err(error),
     };
     push_run(&mut runs, run);
     let mut closed = first;
-    for k in 1..scripts.len() {
-        let (next, run) = match turn(rt, alloc, closed.into_desk(), scripts, k, retries, gate) {
+    for k in 1..runner.planners() as usize {
+        let (next, run) = match turn(runner, closed.into_desk(), k) {
             Ok(turn) => turn,
             Err(error) => return Err(error),
         };
@@ -99,64 +103,44 @@ fn turns<R: Wait, A: Allocator + Copy + Drop, G: Gate>(
 
 /// The turn of planner `k + 1`, on a desk.
 fn turn<R: Wait, A: Allocator + Copy + Drop, G: Gate>(
-    rt: &R,
-    alloc: A,
+    runner: &Runner<'_, R, A, G>,
     desk: Desk<A>,
-    scripts: &[Script<A>],
     k: usize,
-    retries: u32,
-    gate: &G,
 ) -> Result<(Closed<A>, PlannerRun<A>), InTurnError>
-    requires pit { All (λ script. script.pit ≡ desk.plan.pit) scripts.now }
-    requires few { retries ≤ RETRIES_MAX }
-    requires count { length scripts.now ≤ PLANNERS_MAX }
-    requires place { k < length scripts.now }
-    ensures ok { let script = slice_index_or (map (λ script. script.jobs) scripts.now) k [] in
-        IfOk result (λ turn. IsTurn desk.plan.pit desk.history desk.max_entries (length scripts.now) retries (k + 1) script turn.0 turn.1) }
-    ensures err { let script = slice_index_or (map (λ script. script.jobs) scripts.now) k [] in
-        IfErr result (IsTurnError desk.plan.pit desk.history desk.max_entries (length scripts.now) retries (k + 1) script) }
+    requires pit { All (λ script. script.pit ≡ desk.plan.pit) runner.now.scripts }
+    requires place { k < length runner.now.scripts }
+    ensures ok { let script = slice_index_or (map (λ script. script.jobs) runner.now.scripts) k [] in IfOk result (λ turn.
+        IsTurn desk.plan.pit desk.history desk.max_entries (length runner.now.scripts) runner.now.retries (k + 1) script turn.0 turn.1) }
+    ensures err { let script = slice_index_or (map (λ script. script.jobs) runner.now.scripts) k [] in
+        IfErr result (IsTurnError desk.plan.pit desk.history desk.max_entries (length runner.now.scripts) runner.now.retries (k + 1) script) }
 {
-    let planners = scripts.len() as u32;
-    turn_in::<Brand, _, _, _, _>(
-        rt,
-        rt,
-        alloc,
-        desk,
-        planners,
-        Blank::new(),
-        &scripts[k],
-        k,
-        retries,
-        gate,
-    )
+    turn_in::<Brand, _, _, _, _>(runner.rt, runner, desk, Blank::new(), k)
 }
 
 /// The same under a session's name. `own` is the handle that the board's writer keeps.
 fn turn_in<S: Session, O: Wait + Drop, R: Wait, A: Allocator + Copy + Drop, G: Gate>(
     own: O,
-    rt: &R,
-    alloc: A,
+    runner: &Runner<'_, R, A, G>,
     desk: Desk<A>,
-    planners: u32,
     blank: Blank,
-    script: &Script<A>,
     k: usize,
-    retries: u32,
-    gate: &G,
 ) -> Result<(Closed<A>, PlannerRun<A>), InTurnError>
     requires pit { desk.plan.pit ≡ S.instance }
     requires history { desk.history ≡ S.opening }
     requires limit { desk.max_entries ≡ S.max_entries }
-    requires planners { planners ≡ S.planners }
+    requires planners { length runner.now.scripts ≡ S.planners }
     requires ledger { blank.ledger ≡ S.name }
     requires parts { S.parts ≡ PLANNERS_MAX }
     requires book { blank.book ≡ S.book }
-    requires script { script.now.pit ≡ S.instance }
-    requires few { retries ≤ RETRIES_MAX }
-    requires place { k < planners }
-    ensures ok { IfOk result (λ turn. IsTurn S.instance S.opening S.max_entries S.planners retries (k + 1) script.now.jobs turn.0 turn.1) }
-    ensures err { IfErr result (IsTurnError S.instance S.opening S.max_entries S.planners retries (k + 1) script.now.jobs) }
+    requires scripts { All (λ script. script.pit ≡ S.instance) runner.now.scripts }
+    requires place { k < length runner.now.scripts }
+    ensures ok { let script = slice_index_or (map (λ script. script.jobs) runner.now.scripts) k [] in
+        IfOk result (λ turn. IsTurn S.instance S.opening S.max_entries S.planners runner.now.retries (k + 1) script turn.0 turn.1) }
+    ensures err { let script = slice_index_or (map (λ script. script.jobs) runner.now.scripts) k [] in
+        IfErr result (IsTurnError S.instance S.opening S.max_entries S.planners runner.now.retries (k + 1) script) }
 {
+    let alloc = runner.alloc;
+    let planners = runner.planners();
     let (workspace, seats) = match Workspace::<S, O, A>::open(own, alloc, desk, planners, blank) {
         Ok(opened) => opened,
         Err((_desk, error)) => return Err(open_error(error)),
@@ -164,7 +148,7 @@ fn turn_in<S: Session, O: Wait + Drop, R: Wait, A: Allocator + Copy + Drop, G: G
     let Ok(logs) = Vec::with_capacity(alloc, seats.len()) else {
         return Err(InTurnError::NoMemory);
     };
-    let (logs, run) = take_turn(rt, alloc, &workspace, seats, logs, script, k, retries, gate);
+    let (logs, run) = take_turn(runner, &workspace, seats, logs, k);
     match workspace.close(logs) {
         Ok(closed) => Ok((closed, run)),
         Err((_workspace, _logs, cause)) => Err(InTurnError::NotClosed {
@@ -186,32 +170,29 @@ fn open_error(error: OpenError) -> InTurnError
     }
 }
 
-/// Has each planner but planner `k + 1` hand in an empty log; that one then does the script.
+/// Has each planner but planner `k + 1` hand in an empty log; that one then does its script.
 fn take_turn<S: Session, O: Wait + Drop, R: Wait, A: Allocator + Copy + Drop, G: Gate>(
-    rt: &R,
-    alloc: A,
+    runner: &Runner<'_, R, A, G>,
     workspace: &Workspace<S, O, A>,
     seats: Vec<Seat<S, A>, A>,
     logs: Vec<PlannerLog<S, A>, A>,
-    script: &Script<A>,
     k: usize,
-    retries: u32,
-    gate: &G,
 ) -> (Vec<PlannerLog<S, A>, A>, PlannerRun<A>)
-    requires pit { script.now.pit ≡ S.instance }
-    requires few { retries ≤ RETRIES_MAX }
+    requires scripts { All (λ script. script.pit ≡ S.instance) runner.now.scripts }
     requires seats { AreSeats (length seats.items) seats.items }
+    requires each { length seats.items ≡ length runner.now.scripts }
     requires place { k < length seats.items }
     requires none { logs.items ≡ [] }
     requires room { length seats.items ≤ vec_capacity logs }
-    ensures took { TookTurn S.instance S.max_entries retries S.opening script.now.jobs (k + 1) result.0.items result.1 }
+    ensures took { let script = slice_index_or (map (λ script. script.jobs) runner.now.scripts) k [] in
+        TookTurn S.instance S.max_entries runner.now.retries S.opening script (k + 1) result.0.items result.1 }
     ensures each { HasEachLog (length seats.items) result.0.items }
 {
     let mut seats = seats;
     let mut logs = logs;
     let seat = seats.remove(k);
     finish_all(workspace, &mut seats, &mut logs);
-    let (log, run) = run_planner(rt, alloc, workspace, seat, script, retries, gate);
+    let (log, run) = run_planner(runner, workspace, seat, runner.script(k));
     push_log(&mut logs, log);
     (logs, run)
 }

@@ -10,6 +10,7 @@ mod in_turn;
 pub mod laws;
 mod planner_run;
 mod report;
+mod runner;
 mod running;
 mod shared;
 mod threads;

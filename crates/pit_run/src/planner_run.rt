@@ -1,8 +1,8 @@
-ghost use Rattle.std.specs.Prelude.{◌≡◌, ◌≤◌};
-ghost use Rattle.pit_job.specs.declared.planner_run.TheConstants.{RETRIES_MAX};
+ghost use Rattle.std.specs.Prelude.{◌≡◌};
 ghost use Rattle.pit_run.specs.Inside.Reports.{run_of};
 ghost use Rattle.pit_run.specs.Turns.{DidScript};
 
+use crate::runner::Runner;
 use pit_board::Session;
 use pit_job::{Gate, Outcome, RunEnd, run_script};
 use pit_script::Script;
@@ -63,20 +63,23 @@ impl<A: Allocator + Drop> PlannerRun<A> {
 
 /// Does a planner's script.
 pub(crate) fn run_planner<S: Session, O: Wait + Drop, A: Allocator + Copy + Drop, R: Wait, G: Gate>(
-    rt: &R,
-    alloc: A,
+    runner: &Runner<'_, R, A, G>,
     workspace: &Workspace<S, O, A>,
     seat: Seat<S, A>,
     script: &Script<A>,
-    retries: u32,
-    gate: &G,
 ) -> (PlannerLog<S, A>, PlannerRun<A>)
-    requires pit { script.now.pit ≡ S.instance }
-    requires few { retries ≤ RETRIES_MAX }
-    ensures { DidScript S.instance S.max_entries retries S.opening script.now.jobs seat result.0 result.1 }
+    requires { script.now.pit ≡ S.instance }
+    ensures { DidScript S.instance S.max_entries runner.now.retries S.opening script.now.jobs seat result.0 result.1 }
 {
     let planner = seat.sit(workspace);
     let number = planner.number();
-    let (planner, outcomes, ended) = run_script(rt, alloc, planner, script, retries, gate);
+    let (planner, outcomes, ended) = run_script(
+        runner.rt,
+        runner.alloc,
+        planner,
+        script,
+        runner.retries,
+        runner.gate,
+    );
     (planner.finish(), PlannerRun::new(number, outcomes, ended))
 }

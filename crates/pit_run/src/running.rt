@@ -5,6 +5,7 @@ ghost use Rattle.pit_share.specs.declared.blank.TheConstants.{PLANNERS_MAX};
 ghost use Rattle.pit_job.specs.declared.planner_run.TheConstants.{RETRIES_MAX};
 
 use crate::report::{Report, RunError};
+use crate::runner::Runner;
 use crate::shared::Shared;
 use crate::threads::run_scoped;
 use pit_board::Session;
@@ -47,7 +48,14 @@ pub fn run<
     let Ok(runs) = Vec::with_capacity(alloc, seats.len()) else {
         return Err(RunError::NoMemory { workspace, seats });
     };
-    let shared = Shared::new(rt, alloc, &workspace, scripts, retries, gate);
+    let runner = Runner {
+        rt,
+        alloc,
+        scripts,
+        retries,
+        gate,
+    };
+    let shared = Shared::new(runner, &workspace);
     let (logs, runs) = run_scoped(&shared, seats, logs, runs);
     drop(shared);
     match workspace.close(logs) {

@@ -59,17 +59,9 @@ fn run_unless_refused<S: Session, O: Wait + Drop, A: Allocator + Copy + Drop, R:
     ensures { PlannerRan S.instance S.max_entries shared.now.retries S.opening script.now.jobs seat result.0 result.1 }
 {
     if shared.refused.load(Ordering::SeqCst) == number as u64 {
-        return finish_planner(shared.alloc, shared.workspace, seat);
+        return finish_planner(shared.runner.alloc, shared.workspace, seat);
     }
-    run_planner(
-        shared.rt,
-        shared.alloc,
-        shared.workspace,
-        seat,
-        script,
-        shared.retries,
-        shared.gate,
-    )
+    run_planner(&shared.runner, shared.workspace, seat, script)
 }
 
 /// Starts a planner's thread. Where it is refused, the planner is finished here.
@@ -97,7 +89,7 @@ fn start<
     ensures err { IfErr result (λ d. PlannerRan S.instance S.max_entries shared.now.retries S.opening script.now.jobs number d.0 d.1) }
 {
     let promise = RunOf {
-        retries: shared.retries,
+        retries: shared.runner.retries,
         planner: number,
         script: Snapshot::of(script),
     };
@@ -172,7 +164,8 @@ fn run_all<
     let number = k as u32 + 1;
     let started = start(scope, shared, seat, script, number);
     run_all(scope, shared, seats, logs, runs);
-    let (log, run) = joined(shared.rt, started, script, shared.retries, number);
+    let runner = &shared.runner;
+    let (log, run) = joined(runner.rt, started, script, runner.retries, number);
     push_log(logs, log);
     push_run(runs, run);
 }
@@ -219,7 +212,7 @@ pub(crate) fn run_scoped<
 {
     thread::scope(
         thread::scope_env(),
-        shared.rt,
+        shared.runner.rt,
         |scope| -> (Vec<PlannerLog<S, A>, A>, Vec<PlannerRun<A>, A>)
             requires { IsReady shared.now.scripts seats.items logs.items runs.items (vec_capacity logs) (vec_capacity runs) }
             ensures { AllRan S.instance S.max_entries shared.entry.now.retries S.opening 1 shared.entry.now.scripts result.0.items result.1.items }

@@ -60,3 +60,6 @@ pub returns-in_default-clause-err : goal.returns-in_default-clause-err
 returns-in_default-clause-err g c =
     let many : length (map {B = List Job} (λ script. script.jobs) c.args.scripts.now) ≡ length c.args.scripts.now = length-map c.args.scripts.now _ in
     subst IsPlannerCount (sym many) (c.if-not-is_planner_count.ensures.0 refl)
+
+pub invariant_of-runner : goal.invariant_of-runner
+invariant_of-runner g c = (c.requires.few, (c.if-not-is_planner_count.ensures.0 refl).1)

@@ -6,6 +6,6 @@ use Rattle.pit_run.proofs.in_turn.turns.Given as goal
 abbrev pub invariant-loop-k : goal.invariant-loop-k
 invariant-loop-k g l = record {
   many : length l.runs.items ≡ l.k;
-  room : length l.scripts ≤ vec_capacity l.runs;
-  did : DidInTurn l.fn.desk.plan.pit l.fn.desk.history l.fn.desk.max_entries l.retries (length l.scripts) (take l.k (map {B = List Job} (λ script. script.jobs) l.scripts)) l.closed l.runs.items;
+  room : length l.runner.scripts ≤ vec_capacity l.runs;
+  did : DidInTurn l.fn.desk.plan.pit l.fn.desk.history l.fn.desk.max_entries l.runner.retries (length l.runner.scripts) (take l.k (map {B = List Job} (λ script. script.jobs) l.runner.scripts)) l.closed l.runs.items;
 }

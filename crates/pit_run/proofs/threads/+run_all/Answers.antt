@@ -3,6 +3,8 @@ use Rattle.std.proofs.lemmas.List.{get_or_default}
 use Rattle.pit_share.specs.Planners.{PlannerState}
 use Rattle.pit_share.specs.Opening.{AreSeats}
 use Rattle.pit_run.specs.Reports.{RunState, AllRan, PlannerRan}
+use Rattle.pit_run.specs.Inside.Runner.{RunnerState}
+use Rattle.pit_run.specs.Inside.Shared.{SharedState}
 use Rattle.pit_run.proofs.Threading.{ran-next, numbered-last, numbered-front}
 use Rattle.pit_run.proofs.threads.+run_all.Goals as goal
 
@@ -17,7 +19,7 @@ returns-clause-ran g t c =
     let here : s ≡ get_or shared.scripts k [] = subst (λ (m : ℕ). s ≡ get_or shared.scripts m []) at c.script-script.ensures.jobs in
     let less : k < length shared.scripts = omega (arith, is, c.requires.each) in
     let all : AllRan g.S.Session.instance g.S.Session.max_entries shared.retries g.S.Session.opening 1 (take k shared.scripts) c.run_all.new.logs.items c.run_all.new.runs.items = c.run_all.ensures.ran in
-    let same : c.shared.inside.retries ≡ shared.retries = ap (λ shared. shared.retries) c.shared.view_is in
+    let same : c.runner.inside.retries ≡ shared.retries = ap (λ (r : RunnerState). r.retries) c.runner.view_is ∙ ap (λ (s : SharedState). s.retries) c.shared.view_is in
     let last : PlannerRan g.S.Session.instance g.S.Session.max_entries shared.retries g.S.Session.opening s (c.len-k.result + 1) c.joined-log.result.0 c.joined-log.result.1 =
     subst (λ (retries : ℕ). PlannerRan g.S.Session.instance g.S.Session.max_entries retries g.S.Session.opening s (c.len-k.result + 1) c.joined-log.result.0 c.joined-log.result.1) same c.joined-log.ensures in
     ran-next g.S.Session.instance g.S.Session.max_entries shared.retries g.S.Session.opening n k shared.scripts c.run_all.new.logs.items c.push_log.new.logs.items c.run_all.new.runs.items c.push_run.new.runs.items
