@@ -114,12 +114,11 @@ fn turn<R: Wait, A: Allocator + Copy + Drop, G: Gate>(
     ensures err { let script = slice_index_or (map (λ script. script.jobs) runner.now.scripts) k [] in
         IfErr result (IsTurnError desk.plan.pit desk.history desk.max_entries (length runner.now.scripts) runner.now.retries (k + 1) script) }
 {
-    turn_in::<Brand, _, _, _, _>(runner.rt, runner, desk, Blank::new(), k)
+    turn_in::<Brand, _, _, _>(runner, desk, Blank::new(), k)
 }
 
-/// The same under a session's name. `own` is the handle that the board's writer keeps.
-fn turn_in<S: Session, O: Wait + Drop, R: Wait, A: Allocator + Copy + Drop, G: Gate>(
-    own: O,
+/// The same under a session's name.
+fn turn_in<S: Session, R: Wait, A: Allocator + Copy + Drop, G: Gate>(
     runner: &Runner<'_, R, A, G>,
     desk: Desk<A>,
     blank: Blank,
@@ -141,7 +140,8 @@ fn turn_in<S: Session, O: Wait + Drop, R: Wait, A: Allocator + Copy + Drop, G: G
 {
     let alloc = runner.alloc;
     let planners = runner.planners();
-    let (workspace, seats) = match Workspace::<S, O, A>::open(own, alloc, desk, planners, blank) {
+    let opened = Workspace::<S, &R, A>::open(runner.rt, alloc, desk, planners, blank);
+    let (workspace, seats) = match opened {
         Ok(opened) => opened,
         Err((_desk, error)) => return Err(open_error(error)),
     };
