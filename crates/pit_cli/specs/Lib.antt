@@ -45,6 +45,7 @@ pub use Rattle.pit_output.specs.Outputs
 pub use Rattle.pit_base.specs.Marks
 pub use Rattle.pit_base.specs.Bases
 pub use Rattle.pit_base.specs.Held
+pub use Rattle.pit_base.specs.Again
 pub use Rattle.pit_edit.specs.Calls
 pub use Rattle.pit_edit.specs.EditText
 pub use Rattle.pit_edit.specs.LaidOver
