@@ -2,6 +2,7 @@ pub mod Places
 pub mod Marks
 pub mod Shared
 pub mod Bases
+pub mod OneBase
 pub mod Laid
 pub mod InRange
 pub mod Entries
@@ -12,5 +13,4 @@ pub mod SumDigits
 pub mod Comments
 pub mod Again
 pub mod ShownBases
-pub mod OneBase
 pub mod CallerLemmas

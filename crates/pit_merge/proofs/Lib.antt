@@ -2,11 +2,11 @@ pub mod Begun
 pub mod Wanted
 pub mod Taken
 pub mod Runs
-pub mod OneMerge
 pub mod ShownEdits
 pub mod Readings
 pub mod Alike
+pub mod Ends
 pub mod OneEdit
 pub mod OnePrepared
 pub mod Outcome
-pub mod Repeated
+pub mod OneMerge

@@ -23,7 +23,7 @@ use Rattle.pit_edit.specs.EditText.{edit_text}
 use Rattle.pit_edit.specs.Merging.{was_granted, IsMerged}
 use Rattle.pit_merge.specs.declared.options.MergeOptions.{MergeOptions}
 use Rattle.pit_merge.specs.Edits.{Ground, Merged, ground_of, IsSharedBase, IsBaseBy, IsBaseFaultBy, IsEditOf, IsEditFault, IsTaken}
-use Rattle.pit_merge.proofs.Alike.{IsDeterminedBy}
+use Rattle.pit_merge.proofs.Alike.{AreAlike}
 
 -- ---- what matters of where a merge stands: all but the plan that its desk keeps, its limit and its room
 
@@ -192,12 +192,18 @@ module _ (one_history : IsOneHistory) (never_bad : IsNeverBad) (one_fault : IsOn
         (subst (λ (e : Edit). LeadsOn options.is_partial e (so_far given) (so_far value)) edit (taken-leads options number text given value p)))
         (taken-leads options number text more other q)
 
-    pub taken-by : IsDeterminedBy IsSeen so_far so_far
+    taken-apart : (given more value : Merged) (fault : CliFault) → fault ≢ NoMemory → so_far given ≡ so_far more → IsTaken options number text given value
+        → IsEditFault (ground_of more) options.from number text fault → ⊥
+    taken-apart given more value fault some same p q =
+        edit-apart (ground_of more) options.from text number p.edit fault some (subst (λ (at : SoFar). IsEditAt at p.edit) same p.is_edit) q
+
+    pub taken-alike : AreAlike IsSeen so_far so_far
         (judge_step (λ given new. IsTaken options number text given new) (λ given fault. IsEditFault (ground_of given) options.from number text fault))
-    taken-by = record {
+        (judge_step (λ given new. IsTaken options number text given new) (λ given fault. IsEditFault (ground_of given) options.from number text fault))
+    taken-alike = record {
       values = taken-once;
-      apart = λ given more value fault some same p q.
-          edit-apart (ground_of more) options.from text number p.edit fault some (subst (λ (at : SoFar). IsEditAt at p.edit) same p.is_edit) q;
+      apart = λ given more value fault some same p q. taken-apart given more value fault some same p q;
+      parted = λ given more value fault some same p q. taken-apart more given value fault some (sym same) p q;
       faults = λ given more fault other some also same p q.
           edit-faults (ground_of more) options.from text number fault other some also
           (subst (λ (at : SoFar). IsEditFault (ground_at at) options.from number text fault) same p) q;

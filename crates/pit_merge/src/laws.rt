@@ -14,6 +14,7 @@ ghost use Rattle.pit_merge.specs.Prepared.{Prepared, prepare_run};
 ghost use Rattle.pit_merge.specs.Merge.{merge_outputs, merge_run};
 ghost use Rattle.pit_merge.specs.MergedHistory.{IsOfOneMerge};
 ghost use Rattle.pit_merge.specs.Edits.{Ground as GroundState, Merged, IsEditOf, IsTaken};
+ghost use Rattle.pit_merge.specs.EndAlike.{EndAlike};
 
 use pit_base::{shown_again, shown_base};
 use pit_desk::one_reply;
@@ -31,8 +32,8 @@ pub fn one_merged_history()
 {}
 
 /// A law of merges: where devices tell their bytes, these say how one ended. What it begins with is one, or is refused for one fault, out of memory aside;
-/// then it has one status or one fault. Merges of the same bytes begin with the same. And where they end with an answer, they write the same and answer the
-/// same, whatever they write to.
+/// then it has one status or one fault. On the same bytes each further one begins with the same, answers and writes the same, or is refused for the same
+/// fault, whatever it writes to; but memory may run out, or a device may fail.
 pub fn one_outcome()
     ensures begun { (is_carried_on : Bool) (model precedence : Reading) (start : Option Reading)
         → IsSome model.before → IsSome precedence.before → IfSome start (λ source. IsSome source.before)
@@ -40,18 +41,21 @@ pub fn one_outcome()
     ensures ended { (options : OptionsState) (begun : Prepared) (edits : List Reading) (out lines : Writing) (kept : Option Keeping)
         → All (λ source. IsSome source.before) edits → IsSome lines.before
         → HasOneOutcome CliFault.NoMemory (merge_run options begun edits out lines kept) }
-    ensures begun_again { (is_carried_on : Bool) (model precedence other_model other_precedence : Reading) (start other_start : Option Reading) (begun again : Prepared)
+    ensures begun_again { (is_carried_on : Bool) (model precedence other_model other_precedence : Reading) (start other_start : Option Reading)
         → IsSome model.before → IsSome precedence.before → IfSome start (λ source. IsSome source.before)
         → other_model.before ≡ model.before → other_precedence.before ≡ precedence.before
         → option_map (λ source. source.before) other_start ≡ option_map (λ source. source.before) start
-        → (prepare_run is_carried_on model precedence start).Gives tt begun → (prepare_run is_carried_on other_model other_precedence other_start).Gives tt again
-        → begun ≡ again }
-    ensures ended_again { (options : OptionsState) (begun : Prepared) (edits other_edits : List Reading) (status other : StatusState)
+        → EndAlike (prepare_run is_carried_on model precedence start) (prepare_run is_carried_on other_model other_precedence other_start) }
+    ensures ended_again { (options : OptionsState) (begun : Prepared) (edits other_edits : List Reading)
+        (out lines : Writing) (kept : Option Keeping) (other_out other_lines : Writing) (other_kept : Option Keeping)
+        → All (λ source. IsSome source.before) edits → map (λ source. source.before) other_edits ≡ map (λ source. source.before) edits
+        → EndAlike (merge_run options begun edits out lines kept) (merge_run options begun other_edits other_out other_lines other_kept) }
+    ensures written_again { (options : OptionsState) (begun : Prepared) (edits other_edits : List Reading) (status other : StatusState)
         (out lines : Writing) (kept : Option Keeping) (other_out other_lines : Writing) (other_kept : Option Keeping)
         → All (λ source. IsSome source.before) edits → map (λ source. source.before) other_edits ≡ map (λ source. source.before) edits
         → (merge : IsOfOneMerge options begun edits out lines kept status)
         → (again : IsOfOneMerge options begun other_edits other_out other_lines other_kept other)
-        → (merge_outputs begun.is_new merge.merged ≡ merge_outputs begun.is_new again.merged) × (status ≡ other) }
+        → merge_outputs begun.is_new merge.merged ≡ merge_outputs begun.is_new again.merged }
 {
     one_history();
     one_result();

@@ -1,9 +1,9 @@
-//! Edits that were made elsewhere are merged: from the bytes of a pit, of what is begun with, and of edits to a solution, a report and a history.
+//! Edits that were made elsewhere are merged: from the bytes of a pit, of what is begun with, and of edits to a solution, a report and a history. As
+//! `one_outcome` says, what the devices show tells how a merge ended, and on the same bytes each ends alike.
 //!
 //! `MergeInput::read` reads and parses the pit and what is begun with, so that the caller can make the history's output ready behind it. `merge` opens a
 //! desk with that, and takes the edits one after another: each is read, parsed and committed before the next one is looked at. An edit is a solution or
 //! a history; the base that it was made from is a front of the commits that the merge begins with. What `show` wrote of that history changes nothing.
-//! As `one_outcome` says, what the devices show tells how a merge ended, and the same edits on the same beginning leave the same.
 #![tactic(auto)]
 
 mod engine;
