@@ -1,8 +1,8 @@
 #!/usr/bin/env bash
-# The file of a history that a built `pit` writes, in place of the old one or to carry that on. Each call by which it opens, locks, writes, syncs, renames
-# or removes that file or the new one beside it is refused in turn, and the program is killed before each in turn: the file then holds the old history or
-# the whole new one, and the next run succeeds. Two programs that write one history, files that can't be locked, somebody else's files, links,
-# permissions, and what stands at the new file's name.
+# The file of a history that a built `pit` writes, in place of the old one or to carry that on. Each call by which it opens, locks, writes, syncs,
+# renames or removes that file or the new one beside it is refused in turn, and the program is killed before each in turn: the file then holds the old
+# history or the whole new one, and the next run succeeds. Two programs that write one history, files that can't be locked, somebody else's files,
+# links, permissions, and what stands at the new file's name.
 # usage: tests/history_file.sh PIT      PIT is the path of the program. Wants a C compiler and python3.
 set -u
 

@@ -1,10 +1,10 @@
 #!/usr/bin/env bash
 # Has a built `pit` plan on pits and scripts that are drawn from seeds, and replays each history: it is legal, has an entry for each line but the
 # first and a commit for each line that says so, and has the value that the report and the solution have. Then each reply is changed in turn: the
-# history is then illegal at that place. On the first of the pits that have 2 to 4 planners these then work for three days, each of which carries on the
-# history of the day before.
-# usage: tests/replay.sh PIT [RUNS [DAYS]]      PIT is the path of the program; 200 pits, and 20 of them for three days, where their numbers aren't said.
-# Some three of four pits have more than one planner: 27 are enough for 20 such, and 266 for 200.
+# history is then illegal at that place. On the first of the pits that have 2 to 4 planners these then work for three days, each of which carries on
+# the history of the day before.
+# usage: tests/replay.sh PIT [RUNS [DAYS]]      PIT is the path of the program; 200 pits, and 20 of them for three days, where their numbers aren't
+# said. Some three of four pits have more than one planner: 27 are enough for 20 such, and 266 for 200.
 set -u
 
 if [ $# -lt 1 ] || [ ! -x "$1" ]; then
