@@ -10,7 +10,7 @@ use std::sync::ledger::Ledger;
 /// A session: a name by which the types of a workspace speak of the same facts. It has no value. A caller works in a function over a
 /// session, and calls that with `Brand`, which takes the facts that the conditions ask for.
 pub trait Session: Ledger {
-    /// The book that keeps the list of commits.
+    /// The book that keeps the list of entries.
     ghost book: { Book };
 
     /// The pit that is planned.

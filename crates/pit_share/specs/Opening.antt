@@ -5,7 +5,7 @@ use Rattle.pit_share.specs.declared.blank.TheConstants.{PLANNERS_MAX}
 use Rattle.pit_share.specs.declared.error.OpenError.{OpenError}
 use Rattle.pit_share.specs.declared.error.OpenError.TheVariants as error
 
--- what no session has named yet: the ledger that is to count the entries, and the book that is to keep the list of commits
+-- what no session has named yet: the ledger that is to count the entries, and the book that is to keep the list of entries
 pub record Unnamed : Type 0 where
   pub ledger : ℕ
   pub book : Book

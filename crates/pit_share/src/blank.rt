@@ -9,7 +9,7 @@ use std::sync::ledger;
 /// The greatest number of planners. The count of entries is cut into as many parts.
 pub const PLANNERS_MAX: u32 = 64;
 
-/// A count of no entries and a list of no commits, which no session has named yet. Contracts see what names them.
+/// A count of no entries and a list of none, which no session has named yet. Contracts see what names them.
 #[derive(Drop)]
 pub struct Blank {
     shares: ledger::Blank,
