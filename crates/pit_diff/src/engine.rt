@@ -80,8 +80,8 @@ fn read_old<A: Allocator + Copy + Drop, O: Source>(
 fn with_pit<A: Allocator + Copy + Drop>(plan: Plan<A>) -> Result<(Plan<A>, Instance<A>), CliFault>
     ensures { MatchResult result (λ both. (both.0 ≡ plan) × (both.1 ≡ plan.pit)) (λ fault. fault ≡ CliFault.NoMemory) }
 {
-    let again = plan.instance().again();
-    match again {
+    let shared = plan.instance().share();
+    match shared {
         Ok(pit) => Ok((plan, pit)),
         Err(_) => {
             drop(plan);

@@ -50,8 +50,8 @@ impl<A: Allocator + Drop> Model for Instance<A> {
 
 impl<A: Allocator + Copy + Drop> Instance<A> {
     /// The same pit once more. Its tables are shared, so that it takes no memory; it is refused where there are 2^63 already.
-    pub fn again(&self) -> Result<Instance<A>, NoMemory>
-        ensures { IfOk result (λ again. again ≡ self.now) }
+    pub fn share(&self) -> Result<Instance<A>, NoMemory>
+        ensures { IfOk result (λ shared. shared ≡ self.now) }
     {
         Ok(Instance {
             blocks: self.blocks,

@@ -14,7 +14,9 @@ ghost use Rattle.pit_plan.specs.Inside.Touched.{overlaid_item, lesser_of, IsOutN
 use crate::breach::Breach;
 use crate::limits::Limits;
 use crate::moving::{look_at_revised, moved_loads};
-use crate::overlay::{FEW, Few, MANY, One, Overlay, Pairs, periods_after, revised, written};
+use crate::overlay::{
+    COPIED_PART, FewWrites, OneWrite, Overlay, Pairs, SEARCHED_MAX, periods_after, revised, written,
+};
 use crate::schedule::{Schedule, first_late, keeps_order};
 use crate::tally::Tally;
 use pit_model::Instance;
@@ -23,7 +25,7 @@ use std::alloc::Allocator;
 
 /// The first breach that the schedule would have after the writes and the revisions, where it has none before them. Looks at the written
 /// blocks, at their predecessors and successors, and at the loads that are moved or revised; takes the memory of the revisions, of these
-/// loads, and of the writes where these are more than `FEW`.
+/// loads, and of the writes where these are more than `SEARCHED_MAX`.
 pub(crate) fn first_breach_after<A: Allocator + Copy + Drop>(
     alloc: A,
     pit: &Instance<A>,
@@ -58,7 +60,7 @@ pub(crate) fn first_breach_after<A: Allocator + Copy + Drop>(
 }
 
 /// The least pair of a block and its predecessor that the writes leave out of order, of which one is written. Takes memory for more than
-/// `FEW` writes alone.
+/// `SEARCHED_MAX` writes alone.
 fn first_out_after<A: Allocator + Copy + Drop>(
     alloc: A,
     pit: &Instance<A>,
@@ -73,17 +75,17 @@ fn first_out_after<A: Allocator + Copy + Drop>(
     let kept = tally.periods.as_slice();
     if writes.len() == 1 {
         let (block, period) = writes[0];
-        let after = One {
+        let after = OneWrite {
             kept,
             block,
             period,
         };
         return Ok(first_out_near(pit, &after, writes));
     }
-    if writes.len() <= FEW {
-        return Ok(first_out_near(pit, &Few { kept, writes }, writes));
+    if writes.len() <= SEARCHED_MAX {
+        return Ok(first_out_near(pit, &FewWrites { kept, writes }, writes));
     }
-    if writes.len() >= kept.len() / MANY {
+    if writes.len() >= kept.len() / COPIED_PART {
         let after = periods_after(alloc, kept, writes)?;
         return Ok(first_out_near(pit, &after, writes));
     }

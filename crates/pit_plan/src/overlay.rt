@@ -52,16 +52,16 @@ fn overlaid_item<X: Copy, A: Allocator + Copy + Drop>(kept: &[X], pairs: &Pairs<
 }
 
 /// Writes up to so many are looked through for a block. More are kept in a map, or laid into a copy of all periods, which takes memory.
-pub(crate) const FEW: usize = 8;
+pub(crate) const SEARCHED_MAX: usize = 8;
 
 /// Periods, over which a few writes are laid.
 #[derive(Clone, Copy)]
-pub(crate) struct Few<'a> {
+pub(crate) struct FewWrites<'a> {
     pub(crate) kept: &'a [Option<u32>],
     pub(crate) writes: &'a [(u32, Option<u32>)],
 }
 
-impl<'a> Schedule for Few<'a> {
+impl<'a> Schedule for FewWrites<'a> {
     ghost period_at = { λ s. overlaid_item (by_block s.kept.now) s.writes.now };
 
     ghost count = { λ s. length s.kept.now };
@@ -76,13 +76,13 @@ impl<'a> Schedule for Few<'a> {
 
 /// Periods, over which one write is laid.
 #[derive(Clone, Copy)]
-pub(crate) struct One<'a> {
+pub(crate) struct OneWrite<'a> {
     pub(crate) kept: &'a [Option<u32>],
     pub(crate) block: u32,
     pub(crate) period: Option<u32>,
 }
 
-impl<'a> Schedule for One<'a> {
+impl<'a> Schedule for OneWrite<'a> {
     ghost period_at = { λ s. overlaid_item (by_block s.kept.now) ((s.block, s.period) ∷ []) };
 
     ghost count = { λ s. length s.kept.now };
@@ -97,7 +97,7 @@ impl<'a> Schedule for One<'a> {
 }
 
 /// Where one block of so many is written, or more, the writes are laid into a copy of all periods, where a period is found without a hash.
-pub(crate) const MANY: usize = 8;
+pub(crate) const COPIED_PART: usize = 8;
 
 /// The periods of all blocks.
 impl<A: Allocator + Drop> Schedule for Vec<Option<u32>, A> {

@@ -63,7 +63,7 @@ impl<A: Allocator + Copy + Drop> Script<A> {
         ensures pit { IfOk result (λ script. script.pit ≡ benches.now) }
         ensures result { MatchResult result (λ script. StandsForJobs benches.now text.now script.jobs) (IsScriptError benches.now text.now) }
     {
-        read_with(alloc, text, benches.pit(), benches.again())
+        read_with(alloc, text, benches.pit(), benches.share())
     }
 
     pub(crate) fn of(

@@ -2,7 +2,7 @@ ghost use Rattle.std.specs.Prelude.{◌≡◌};
 ghost use Rattle.pit_script.specs.Words.{word_of, word_in};
 
 use super::error::ScriptCause;
-use pit_text::{beside, is_ascii};
+use pit_text::{is_ascii, look_up};
 
 /// The word that a line of a script begins with.
 #[derive(Clone, Copy, Debug, PartialEq, Eq)]
@@ -58,5 +58,5 @@ pub(crate) fn word_in(field: &[u8]) -> Result<Word, ScriptCause>
 pub fn word_of(field: &[u8]) -> Option<Word>
     ensures { result ≡ word_of field.now }
 {
-    beside(WORDS, field)
+    look_up(WORDS, field)
 }

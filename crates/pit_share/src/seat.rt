@@ -101,7 +101,7 @@ fn seat_of<S: Session, R: Wait + Drop, A: Allocator + Copy + Drop>(
     let Some(view) = hall.view(rest) else {
         return Err(OpenError::NoPlace);
     };
-    let Ok(pit) = pit.again() else {
+    let Ok(pit) = pit.share() else {
         return Err(OpenError::NoMemory);
     };
     match Box::new(alloc, Account::new(alloc, number, view, pit)) {

@@ -24,4 +24,4 @@ pub use number::is_ascii;
 pub use precedence::read_precedence;
 pub use solution::read_solution;
 pub use solution_text::write_solution;
-pub use table::beside;
+pub use table::look_up;

@@ -3,8 +3,8 @@ ghost use Rattle.std.specs.Prelude.{◌≡◌, map};
 ghost use Rattle.std.specs.Map.{lookup};
 ghost use Rattle.std.specs.Str.{bytes_eq};
 
-/// What stands beside a text in the first row that has it.
-pub fn beside<T: Copy>(rows: &[(&str, T)], text: &[u8]) -> Option<T>
+/// What a table says of a text, in the first row that has it.
+pub fn look_up<T: Copy>(rows: &[(&str, T)], text: &[u8]) -> Option<T>
     ensures { result ≡ lookup (bytes_eq text.now) (map (λ row. (row.0.now, row.1)) rows.now) }
 {
     let mut left = rows;

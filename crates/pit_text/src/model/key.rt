@@ -1,7 +1,7 @@
 ghost use Rattle.std.specs.Prelude.{◌≡◌};
 ghost use Rattle.pit_text.specs.Keys.{key_of};
 
-use crate::table::beside;
+use crate::table::look_up;
 use std::fmt;
 
 /// A key of a model's header.
@@ -66,5 +66,5 @@ impl fmt::Display for Key {
 pub fn key_of(field: &[u8]) -> Option<Key>
     ensures { result ≡ key_of field.now }
 {
-    beside(KEYS, field)
+    look_up(KEYS, field)
 }

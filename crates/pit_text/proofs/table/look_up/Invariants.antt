@@ -1,7 +1,7 @@
 use Rattle.std.proofs.Common.{◌≡◌, map, length}
 use Rattle.std.specs.Map.{lookup}
 use Rattle.std.specs.Str.{bytes_eq}
-use Rattle.pit_text.proofs.table.beside.Given as goal
+use Rattle.pit_text.proofs.table.look_up.Given as goal
 
 abbrev pub invariant-loop-left : goal.invariant-loop-left
 invariant-loop-left g l = lookup (bytes_eq l.text) (map (λ row. (row.0.now, row.1)) l.left) ≡ lookup (bytes_eq l.text) (map (λ row. (row.0.now, row.1)) l.rows)
