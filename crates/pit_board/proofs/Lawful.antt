@@ -9,7 +9,7 @@ use Rattle.pit_plan.specs.Schedule.{Commit}
 use Rattle.pit_desk.specs.History.{Answered, commits_of}
 use Rattle.pit_desk.specs.State.{State, IsDeskKept}
 use Rattle.pit_desk.proofs.CallerLemmas.{commits-fit}
-use Rattle.pit_board.specs.Fronts.{AreLawful}
+use Rattle.pit_board.specs.Prefixes.{AreLawful}
 
 -- the commits of a desk on this pit, whose history is this one
 pub desk-lawful : (pit : Pit) (history : List Answered) (desk : State) → IsDeskKept desk → desk.plan.pit ≡ pit → desk.history ≡ history → AreLawful pit (commits_of history)

@@ -1,5 +1,5 @@
 -- Definitions that no public contract cites.
-pub mod Fronts
+pub mod Prefixes
 pub mod Boards
 pub mod Books
 pub mod Slots

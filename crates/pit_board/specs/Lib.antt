@@ -1,4 +1,4 @@
-pub mod Fronts
+pub mod Prefixes
 pub mod Boards
 pub mod Views
 pub mod Inside

@@ -5,19 +5,19 @@ ghost use Rattle.pit_desk.specs.History.{commits_of};
 ghost use Rattle.pit_board.specs.Inside.Boards.{ShowsAll, slot_after, taken_in};
 ghost use Rattle.pit_board.specs.declared.slot.Slot.{Slot};
 
-use crate::front::Front;
+use crate::prefix::Prefix;
+use crate::publication::{Operation, Publication};
 use crate::session::Session;
 use crate::slot::{KeptSlot, Slot};
-use crate::stamp::{Operation, Stamp};
 use left_right::Absorb;
 use std::alloc::{AllocError, Allocator};
 use std::marker::Model;
 
-/// A slot for each block, and the front whose commits they show. Contracts see the front.
+/// A slot for each block, and the prefix whose commits they show. Contracts see the prefix.
 #[derive(Drop)]
 pub struct Board<S: Session, A: Allocator + Copy + Drop> {
     slots: Vec<KeptSlot, A>,
-    front: Front<S>,
+    prefix: Prefix<S>,
 }
 
 impl<S: Session, A: Allocator + Copy + Drop> Model for Board<S, A> {
@@ -28,29 +28,29 @@ impl<S: Session, A: Allocator + Copy + Drop> Model for Board<S, A> {
 
     ghost Value = { List Answered };
 
-    ghost view = { λ b. b.front };
+    ghost view = { λ b. b.prefix };
 
-    ghost invariant = { λ b. (S.instance.periods ≤ PERIODS_MAX) × ShowsAll S.instance.blocks (commits_of b.front) b.slots.items };
+    ghost invariant = { λ b. (S.instance.periods ≤ PERIODS_MAX) × ShowsAll S.instance.blocks (commits_of b.prefix) b.slots.items };
 }
 
 impl<S: Session, A: Allocator + Copy + Drop> Board<S, A> {
-    /// A board that shows a front by these slots.
-    pub(crate) fn new(slots: Vec<KeptSlot, A>, front: &Front<S>) -> Board<S, A>
+    /// A board that shows a prefix by these slots.
+    pub(crate) fn new(slots: Vec<KeptSlot, A>, prefix: &Prefix<S>) -> Board<S, A>
         requires few_periods { S.instance.periods ≤ PERIODS_MAX }
-        requires slots { ShowsAll S.instance.blocks (commits_of front.now) slots.items }
-        ensures { result ≡ front.now }
+        requires slots { ShowsAll S.instance.blocks (commits_of prefix.now) slots.items }
+        ensures { result ≡ prefix.now }
     {
         Board {
             slots,
-            front: front.again(),
+            prefix: prefix.copy(),
         }
     }
 
-    /// The front whose commits it shows.
-    pub(crate) fn front(&self) -> &Front<S>
+    /// The prefix whose commits it shows.
+    pub(crate) fn prefix(&self) -> &Prefix<S>
         ensures { result.now ≡ self.now }
     {
-        &self.front
+        &self.prefix
     }
 
     /// A slot for each block.
@@ -61,13 +61,17 @@ impl<S: Session, A: Allocator + Copy + Drop> Board<S, A> {
     }
 
     /// Takes in a commit, if it is the next one. Takes no memory.
-    fn take_in(&mut self, stamp: &Stamp<S, A>)
-        ensures { self.new ≡ taken_in self.old (Some stamp.now) }
+    fn take_in(&mut self, publication: &Publication<S, A>)
+        ensures { self.new ≡ taken_in self.old (Some publication.now) }
     {
-        if self.front.has_commits_of(&stamp.before) {
-            let front = stamp.after.again();
-            write_slots(&mut self.slots, front.count(), stamp.changes.writes());
-            self.front = front;
+        if self.prefix.has_commits_of(&publication.before) {
+            let prefix = publication.after.copy();
+            write_slots(
+                &mut self.slots,
+                prefix.count(),
+                publication.changes.writes(),
+            );
+            self.prefix = prefix;
         }
     }
 }
@@ -110,8 +114,8 @@ fn write_slot<A: Allocator + Copy + Drop>(slots: &mut Vec<KeptSlot, A>, block: u
 impl<S: Session, A: Allocator + Copy + Drop> Absorb<Operation<S, A>> for Board<S, A> {
     ghost use Rattle.pit_board.specs.Inside.Boards.{taken_in};
 
-    /// The front that both have.
-    type State = Front<S>;
+    /// The prefix that both have.
+    type State = Prefix<S>;
 
     ghost state = { λ board. board };
 
@@ -124,8 +128,8 @@ impl<S: Session, A: Allocator + Copy + Drop> Absorb<Operation<S, A>> for Board<S
         operation: &Operation<S, A>,
         _other: &Board<S, A>,
     ) -> Result<(), AllocError> {
-        if let Some(stamp) = &operation.stamp {
-            self.take_in(stamp);
+        if let Some(publication) = &operation.publication {
+            self.take_in(publication);
         }
         Ok(())
     }
@@ -135,9 +139,9 @@ impl<S: Session, A: Allocator + Copy + Drop> Absorb<Operation<S, A>> for Board<S
         operation: Operation<S, A>,
         _other: &Board<S, A>,
     ) -> Result<(), Operation<S, A>> {
-        let Operation { stamp } = operation;
-        if let Some(stamp) = stamp {
-            self.take_in(&stamp);
+        let Operation { publication } = operation;
+        if let Some(publication) = publication {
+            self.take_in(&publication);
         }
         Ok(())
     }

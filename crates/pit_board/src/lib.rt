@@ -1,26 +1,26 @@
 //! The board: what planners see of the commits without a lock.
 //!
-//! The commits of a session are one list. A `Front` is a prefix of it that somebody has seen; of any two fronts one is a prefix of the other. The
-//! `Hall` has the desk enter a commit, adds it to the list, and publishes it; it stands behind the lock. Each planner has a `View`: a place at the
-//! board, and the front that it has seen, which only grows. A view shows a block as the whole of what it has seen leaves it, and waits for nobody.
-//! The type of a front keeps that each prefix of it leaves a good schedule under the limits then in force.
+//! The commits of a session are one list. A `Prefix` is a prefix of it that somebody has seen; of any two prefixes one is a prefix of the other. The
+//! `Publisher` has the desk enter a commit, adds it to the list, and publishes it; it stands behind the lock. Each planner has a `View`: a place at the
+//! board, and the prefix that it has seen, which only grows. A view shows a block as the whole of what it has seen leaves it, and waits for nobody.
+//! The type of a prefix keeps that each prefix of it leaves a good schedule under the limits then in force.
 #![tactic(auto)]
 
 mod board;
 mod changes;
-mod front;
-mod hall;
 mod list;
+mod prefix;
+mod publication;
+mod publisher;
 mod rule;
 mod session;
 mod slot;
-mod stamp;
 mod view;
 
 pub use changes::Changes;
-pub use front::Front;
-pub use hall::Hall;
 pub use list::EmptyList;
+pub use prefix::Prefix;
+pub use publisher::Publisher;
 pub use session::Session;
 pub use slot::Slot;
 pub use view::View;

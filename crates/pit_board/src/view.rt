@@ -3,10 +3,10 @@ ghost use Rattle.std.specs.Prelude.{◌≡◌, ◌+◌, ◌<◌, ◌≤◌, leng
 ghost use mathlib.Core.List.{IsPrefix};
 ghost use Rattle.pit_desk.specs.History.{commits_of};
 ghost use Rattle.pit_board.specs.Boards.{slot_of};
-ghost use Rattle.pit_board.specs.Fronts.{AreLawful};
+ghost use Rattle.pit_board.specs.Prefixes.{AreLawful};
 
 use crate::board::Board;
-use crate::front::Front;
+use crate::prefix::Prefix;
 use crate::session::Session;
 use crate::slot::Slot;
 use left_right::ReadHandle;
@@ -19,7 +19,7 @@ use std::sync::ledger::{Book, Share};
 #[derive(Drop)]
 pub struct View<S: Session, A: Allocator + Copy + Drop> {
     reader: ReadHandle<Board<S, A>, A>,
-    front: Front<S>,
+    prefix: Prefix<S>,
     share: Share<S>,
 }
 
@@ -29,7 +29,7 @@ impl<S: Session, A: Allocator + Copy + Drop> Model for View<S, A> {
 
     ghost Value = { Sight };
 
-    ghost view = { λ v. record { seen = v.front; amount = v.share.amount } };
+    ghost view = { λ v. record { seen = v.prefix; amount = v.share.amount } };
 
     ghost invariant = { λ v. v.share.parts ≡ 1 };
 }
@@ -37,41 +37,41 @@ impl<S: Session, A: Allocator + Copy + Drop> Model for View<S, A> {
 impl<S: Session, A: Allocator + Copy + Drop> View<S, A> {
     pub(crate) fn new(
         reader: ReadHandle<Board<S, A>, A>,
-        front: Front<S>,
+        prefix: Prefix<S>,
         share: Share<S>,
     ) -> View<S, A>
         requires { share.parts ≡ 1 }
-        ensures { result ≡ record { seen = front; amount = share.amount } }
+        ensures { result ≡ record { seen = prefix; amount = share.amount } }
     {
         View {
             reader,
-            front,
+            prefix,
             share,
         }
     }
 
     /// Gives the place back. What was seen and the share are left.
-    pub fn into_parts(self) -> (Front<S>, Share<S>)
+    pub fn into_parts(self) -> (Prefix<S>, Share<S>)
         ensures seen { result.0 ≡ self.seen }
         ensures part { result.1.parts ≡ 1 }
         ensures amount { result.1.amount ≡ self.amount }
     {
         let View {
             reader: _reader,
-            front,
+            prefix,
             share,
         } = self;
-        (front, share)
+        (prefix, share)
     }
 
     /// The entries that the planner has seen.
-    pub fn front(&self) -> &Front<S>
+    pub fn prefix(&self) -> &Prefix<S>
         ensures seen { result.now ≡ self.now.seen }
         ensures lawful { AreLawful S.instance (commits_of self.now.seen) }
     {
-        let front = &self.front;
-        front.shows_lawful();
-        front
+        let prefix = &self.prefix;
+        prefix.shows_lawful();
+        prefix
     }
 
     /// Counts one entry, in the total and in the share.
@@ -84,12 +84,12 @@ impl<S: Session, A: Allocator + Copy + Drop> View<S, A> {
     }
 
     /// From now on the planner has seen this too.
-    pub fn learn(&mut self, front: &Front<S>)
+    pub fn learn(&mut self, prefix: &Prefix<S>)
         ensures old { IsPrefix self.old.seen self.new.seen }
-        ensures learnt { IsPrefix front.now self.new.seen }
+        ensures learnt { IsPrefix prefix.now self.new.seen }
         ensures amount { self.new.amount ≡ self.old.amount }
     {
-        self.front.grow(front);
+        self.prefix.grow(prefix);
     }
 
     /// Looks at the board, and answers how many commits the planner has then seen. Where the reader isn't let in, it answers how many it had seen
@@ -102,7 +102,7 @@ impl<S: Session, A: Allocator + Copy + Drop> View<S, A> {
     {
         // no board has a slot for it
         let _slot = self.look(u32::MAX);
-        self.front.count()
+        self.prefix.count()
     }
 
     /// Looks a block up at the board, after which the planner has seen what the board shows. Where the reader isn't let in, or the board is behind
@@ -115,7 +115,7 @@ impl<S: Session, A: Allocator + Copy + Drop> View<S, A> {
         ensures amount { self.new.amount ≡ self.old.amount }
     {
         let slot = self.look(block);
-        self.front.shows_lawful();
+        self.prefix.shows_lawful();
         slot
     }
 
@@ -127,24 +127,24 @@ impl<S: Session, A: Allocator + Copy + Drop> View<S, A> {
         ensures none { block < S.instance.blocks → IfNone result (self.new.seen ≡ self.old.seen) }
         ensures amount { self.new.amount ≡ self.old.amount }
     {
-        let View { reader, front, .. } = self;
+        let View { reader, prefix, .. } = self;
         let guard = reader.enter()?;
-        shown(&guard, front, block)
+        shown(&guard, prefix, block)
     }
 }
 
 /// Takes over what a board shows that isn't behind, and looks a block up, if the board has a slot for it.
 fn shown<S: Session, A: Allocator + Copy + Drop>(
     board: &Board<S, A>,
-    front: &mut Front<S>,
+    prefix: &mut Prefix<S>,
     block: u32,
 ) -> Option<Slot>
-    ensures slot { IfSome result (λ slot. slot ≡ slot_of (commits_of front.new) block) }
-    ensures seen { IsPrefix front.old front.new }
-    ensures none { block < S.instance.blocks → IfNone result (front.new ≡ front.old) }
-    ensures due { block < S.instance.blocks → length (commits_of front.old) ≤ length (commits_of board.now) → IfNone result ⊥ }
+    ensures slot { IfSome result (λ slot. slot ≡ slot_of (commits_of prefix.new) block) }
+    ensures seen { IsPrefix prefix.old prefix.new }
+    ensures none { block < S.instance.blocks → IfNone result (prefix.new ≡ prefix.old) }
+    ensures due { block < S.instance.blocks → length (commits_of prefix.old) ≤ length (commits_of board.now) → IfNone result ⊥ }
 {
-    if !front.catch_up(board.front()) {
+    if !prefix.catch_up(board.prefix()) {
         return None;
     }
     let slots = board.slots();

@@ -3,7 +3,7 @@ use Rattle.std.proofs.Common.{◌≡◌, ◌≢◌, ◌⊎◌, inl, inr, ℕ, le
 use Rattle.std.proofs.lemmas.Bool.Decides.{leb_tells}
 use Rattle.pit_model.specs.Pit.{Pit}
 use Rattle.pit_share.specs.Opening.{IsPlannerCount}
-use Rattle.pit_share.specs.declared.blank.TheConstants.{PLANNERS_MAX}
+use Rattle.pit_share.specs.declared.new_session.TheConstants.{PLANNERS_MAX}
 use Rattle.pit_step.specs.declared.fault.CliFault.{CliFault}
 use Rattle.pit_step.specs.declared.fault.CliFault.TheVariants as cli
 use Rattle.pit_step.specs.Statuses.{fault_status}

@@ -6,7 +6,7 @@ ghost use Rattle.pit_script.specs.Jobs.{Job};
 ghost use Rattle.pit_cli.specs.Inside.Runs.{IsFaultOn};
 ghost use Rattle.pit_opening.specs.Openings.{IsOpeningIn};
 ghost use Rattle.pit_share.specs.Opening.{IsPlannerCount, IsOpenError};
-ghost use Rattle.pit_share.specs.declared.blank.TheConstants.{PLANNERS_MAX};
+ghost use Rattle.pit_share.specs.declared.new_session.TheConstants.{PLANNERS_MAX};
 ghost use Rattle.pit_job.specs.declared.planner_run.TheConstants.{RETRIES_MAX};
 ghost use Rattle.pit_step.specs.Steps.{in_turn};
 ghost use Rattle.pit_cli.specs.Texts.{Setup};
@@ -20,7 +20,7 @@ use pit_model::Instance;
 use pit_opening::{Opening, desk_of};
 use pit_run::{InTurnError, Report, RunError, run, run_in_turn};
 use pit_script::Script;
-use pit_share::{Blank, OpenError, Workspace};
+use pit_share::{NewSession, OpenError, Workspace};
 use pit_step::CliFault;
 use std::alloc::Allocator;
 use std::marker::Brand;
@@ -119,7 +119,7 @@ fn run_on<R: Threads + Wait + Sync, A: Allocator + Copy + Drop + Send + Sync>(
         alloc,
         desk,
         planners,
-        Blank::new(),
+        NewSession::new(),
         scripts,
         retries,
     )
@@ -137,7 +137,7 @@ fn run_in<
     alloc: A,
     desk: Desk<A>,
     planners: u32,
-    blank: Blank,
+    new_session: NewSession,
     scripts: &[Script<A>],
     retries: u32,
 ) -> Result<Report<A>, CliFault>
@@ -145,9 +145,9 @@ fn run_in<
     requires history { desk.history ≡ S.opening }
     requires limit { desk.max_entries ≡ S.max_entries }
     requires planners { planners ≡ S.planners }
-    requires ledger { blank.ledger ≡ S.name }
+    requires ledger { new_session.ledger ≡ S.name }
     requires parts { S.parts ≡ PLANNERS_MAX }
-    requires book { blank.book ≡ S.book }
+    requires book { new_session.book ≡ S.book }
     requires each { length scripts.now ≡ planners }
     requires pits { All (λ script. script.pit ≡ S.instance) scripts.now }
     requires few { retries ≤ RETRIES_MAX }
@@ -156,7 +156,13 @@ fn run_in<
         IfOk result (λ report. AreDone false S.instance S.opening S.max_entries retries jobs (report.closed, report.runs.items)) }
     ensures err { IfErr result (IsFaultOn false S.instance S.opening S.max_entries retries (map (λ script. script.jobs) scripts.now)) }
 {
-    let (workspace, seats) = match Workspace::<S, O, A>::open(own, alloc, desk, planners, blank) {
+    let (workspace, seats) = match Workspace::<S, O, A>::open(
+        own,
+        alloc,
+        desk,
+        planners,
+        new_session,
+    ) {
         Ok(opened) => opened,
         Err((_desk, error)) => return Err(workspace_fault(error)),
     };

@@ -30,7 +30,7 @@ look-meets pit old new b r block version less is known unknown = by (known_of ol
         let met = subst (λ (s : Result (Option ℕ) ReadStop). IsLookedUp old b s new) is (unknown less e) in (
           met.0,
           record {
-            front = new.planner.seen;
+            prefix = new.planner.seen;
             begins = prefix-refl new.planner.seen;
             last = met.1 ∙ ap (last_number (commits_of new.planner.seen)) (sym met.0);
             past = met.2;

@@ -42,7 +42,7 @@ sees-trans a b c f g = record { number = g.number ∙ f.number; items = g.items 
 
 pub moved-on : (seen more : List Answered) (start block version : ℕ) → IsPrefix seen more → IsMovedBlock seen start block version → IsMovedBlock more start block version
 moved-on seen more start block version on moved =
-    record { front = moved.front; begins = prefix-trans moved.front seen more moved.begins on; last = moved.last; past = moved.past }
+    record { prefix = moved.prefix; begins = prefix-trans moved.front seen more moved.begins on; last = moved.last; past = moved.past }
 
 past-start : (commits : List Commit) (start b : ℕ) → nat_lt start (last_number commits b) ≡ true → start < last_number commits b
 past-start commits start b is = grind (arith, is)
@@ -67,7 +67,7 @@ answered-moved pit call answer old seen block version is moved =
     let due = subst (λ (r : EntryReply). IsReply pit (commits_of is.before) call r) moved is.due in
     let e : Answered = record { call = call; reply = answer } in
     record {
-      front = is.before;
+      prefix = is.before;
       begins = prefix-trans is.before (is.before ++ e ∷ []) seen (e ∷ [], refl) is.stands;
       last = due.1.2;
       past = subst (λ (v : ℕ). call.start < v) (sym due.1.2) (least-past (commits_of is.before) call.start block call.reads due.1.1);

@@ -56,12 +56,12 @@ pub moved-writer : (seen : List Answered) (start block version : ℕ) → IsMove
 moved-writer seen start block version moved =
     let last = moved.last in
     let past = moved.past in
-    let found = number-names (commits_of moved.front) block (omega arith) in
+    let found = number-names (commits_of moved.prefix) block (omega arith) in
     record {
       place = found.0;
       commit = found.1;
       number = last ∙ found.2;
-      at = get-on (commits_of moved.front) (commits_of seen) found.0 found.1 (commits_of-prefix moved.front seen moved.begins) found.3;
+      at = get-on (commits_of moved.prefix) (commits_of seen) found.0 found.1 (commits_of-prefix moved.prefix seen moved.begins) found.3;
       writes = found.4;
     }
 

@@ -59,9 +59,9 @@ pub record IsItem (pit : Pit) (task : Job) (n : ℕ) (e : Answered) : Type 0 whe
 
 -- of the commits of some prefix of what was seen, the last one that names the block has this number, which is past the start
 pub record IsMovedBlock (seen : List Answered) (start block version : ℕ) : Type 0 where
-  pub front : List Answered
-  pub begins : IsPrefix front seen
-  pub last : version ≡ last_number (commits_of front) block
+  pub prefix : List Answered
+  pub begins : IsPrefix prefix seen
+  pub last : version ≡ last_number (commits_of prefix) block
   pub past : start < version
 
 -- an entry of a job that began after so many commits, and was refused as moved

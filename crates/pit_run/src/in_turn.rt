@@ -5,7 +5,7 @@ ghost use Rattle.pit_desk.specs.History.{Answered};
 ghost use Rattle.pit_script.specs.Jobs.{Job};
 ghost use Rattle.pit_share.specs.Logs.{has_log, HasEachLog};
 ghost use Rattle.pit_share.specs.Opening.{AreSeats, IsPlannerCount, IsOpenError};
-ghost use Rattle.pit_share.specs.declared.blank.TheConstants.{PLANNERS_MAX};
+ghost use Rattle.pit_share.specs.declared.new_session.TheConstants.{PLANNERS_MAX};
 ghost use Rattle.pit_job.specs.declared.planner_run.TheConstants.{RETRIES_MAX};
 ghost use Rattle.pit_run.specs.Reports.{IsReport};
 ghost use Rattle.pit_run.specs.Turns.{AllStarted, IsInTurn, TookTurn, DidInTurn, IsInTurnError};
@@ -19,7 +19,7 @@ use pit_board::Session;
 use pit_desk::Desk;
 use pit_job::Gate;
 use pit_script::Script;
-use pit_share::{Blank, Closed, OpenError, PLANNERS_MAX, PlannerLog, Seat, Workspace};
+use pit_share::{Closed, NewSession, OpenError, PLANNERS_MAX, PlannerLog, Seat, Workspace};
 use std::alloc::Allocator;
 use std::marker::Brand;
 use std::sync::Wait;
@@ -114,23 +114,23 @@ fn turn<R: Wait, A: Allocator + Copy + Drop, G: Gate>(
     ensures err { let script = slice_index_or (map (λ script. script.jobs) runner.now.scripts) k [] in
         IfErr result (IsTurnError desk.plan.pit desk.history desk.max_entries (length runner.now.scripts) runner.now.retries (k + 1) script) }
 {
-    turn_in::<Brand, _, _, _>(runner, desk, Blank::new(), k)
+    turn_in::<Brand, _, _, _>(runner, desk, NewSession::new(), k)
 }
 
 /// The same under a session's name.
 fn turn_in<S: Session, R: Wait, A: Allocator + Copy + Drop, G: Gate>(
     runner: &Runner<'_, R, A, G>,
     desk: Desk<A>,
-    blank: Blank,
+    new_session: NewSession,
     k: usize,
 ) -> Result<(Closed<A>, PlannerRun<A>), InTurnError>
     requires pit { desk.plan.pit ≡ S.instance }
     requires history { desk.history ≡ S.opening }
     requires limit { desk.max_entries ≡ S.max_entries }
     requires planners { length runner.now.scripts ≡ S.planners }
-    requires ledger { blank.ledger ≡ S.name }
+    requires ledger { new_session.ledger ≡ S.name }
     requires parts { S.parts ≡ PLANNERS_MAX }
-    requires book { blank.book ≡ S.book }
+    requires book { new_session.book ≡ S.book }
     requires scripts { All (λ script. script.pit ≡ S.instance) runner.now.scripts }
     requires place { k < length runner.now.scripts }
     ensures ok { let script = slice_index_or (map (λ script. script.jobs) runner.now.scripts) k [] in
@@ -140,7 +140,7 @@ fn turn_in<S: Session, R: Wait, A: Allocator + Copy + Drop, G: Gate>(
 {
     let alloc = runner.alloc;
     let planners = runner.planners();
-    let opened = Workspace::<S, &R, A>::open(runner.rt, alloc, desk, planners, blank);
+    let opened = Workspace::<S, &R, A>::open(runner.rt, alloc, desk, planners, new_session);
     let (workspace, seats) = match opened {
         Ok(opened) => opened,
         Err((_desk, error)) => return Err(open_error(error)),

@@ -17,7 +17,7 @@ pub(crate) struct Runner<'s, R, A: Allocator + Copy + Drop, G> {
 
 impl<'s, R, A: Allocator + Copy + Drop, G> Model for Runner<'s, R, A, G> {
     ghost use Rattle.std.specs.Prelude.{◌≤◌, length};
-    ghost use Rattle.pit_share.specs.declared.blank.TheConstants.{PLANNERS_MAX};
+    ghost use Rattle.pit_share.specs.declared.new_session.TheConstants.{PLANNERS_MAX};
     ghost use Rattle.pit_job.specs.declared.planner_run.TheConstants.{RETRIES_MAX};
     ghost use Rattle.pit_run.specs.Inside.Runner.{RunnerState};
 

@@ -12,7 +12,7 @@ use Rattle.pit_tx.specs.Refusals.{refusal_of}
 use Rattle.pit_desk.specs.History.{Answered, commits_of}
 use Rattle.pit_desk.proofs.CallerLemmas.{commits_of-prefix}
 use Rattle.pit_board.specs.Boards.{slot_of}
-use Rattle.pit_board.specs.Fronts.{AreLawful}
+use Rattle.pit_board.specs.Prefixes.{AreLawful}
 use Rattle.pit_board.specs.declared.slot.Slot.{Slot}
 use Rattle.pit_desk.specs.Noted.{AreHeld}
 use Rattle.pit_share.specs.Planners.{PlannerState, TransactionState, planner_of, empty_sets, SeesOn, IsTransactionKept}

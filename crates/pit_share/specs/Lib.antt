@@ -7,6 +7,6 @@ pub mod GoingOn
 pub mod Closing
 pub mod Opening
 pub mod Inside
-pub use Rattle.pit_board.specs.Fronts
+pub use Rattle.pit_board.specs.Prefixes
 pub use Rattle.pit_board.specs.Boards
 pub use Rattle.pit_board.specs.Views

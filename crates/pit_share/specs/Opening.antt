@@ -1,7 +1,7 @@
 -- What a workspace is opened with, and when it isn't.
 use Rattle.std.specs.Prelude.{◌≡◌, ℕ, ◌+◌, ◌≤◌, ◌<◌, List, length, slice_index}
 use Rattle.logbook.specs.Pages.{Book}
-use Rattle.pit_share.specs.declared.blank.TheConstants.{PLANNERS_MAX}
+use Rattle.pit_share.specs.declared.new_session.TheConstants.{PLANNERS_MAX}
 use Rattle.pit_share.specs.declared.error.OpenError.{OpenError}
 use Rattle.pit_share.specs.declared.error.OpenError.TheVariants as error
 

@@ -6,7 +6,7 @@ ghost use Rattle.pit_desk.specs.declared.reply.EntryReply.{EntryReply};
 ghost use Rattle.pit_desk.specs.declared.reply.EntryReply.TheVariants.{Committed as committed};
 ghost use Rattle.pit_share.specs.Endings.{IsAnswered};
 ghost use Rattle.pit_share.specs.GoingOn.{IsShared};
-ghost use Rattle.pit_share.specs.declared.blank.TheConstants.{PLANNERS_MAX};
+ghost use Rattle.pit_share.specs.declared.new_session.TheConstants.{PLANNERS_MAX};
 ghost use Rattle.pit_desk.specs.Noted.{AreHeld};
 
 use crate::workspace::Workspace;

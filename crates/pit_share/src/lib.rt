@@ -9,7 +9,6 @@
 
 mod account;
 mod ahead;
-mod blank;
 mod closed;
 mod comparing;
 mod error;
@@ -17,16 +16,17 @@ mod floor;
 mod held;
 mod laws;
 mod log;
+mod new_session;
 mod planner;
 mod seat;
 mod transaction;
 mod workspace;
 
-pub use blank::{Blank, PLANNERS_MAX};
 pub use closed::Closed;
 pub use error::{CloseError, OpenError, ReadStop};
 pub use laws::{committed_is_seen, one_shared_history, planner_limit};
 pub use log::PlannerLog;
+pub use new_session::{NewSession, PLANNERS_MAX};
 pub use pit_board::Session;
 pub use planner::Planner;
 pub use seat::Seat;

@@ -44,7 +44,7 @@ impl<'a, S: Session, R: Wait + Drop, A: Allocator + Copy + Drop> Planner<'a, S, 
         ensures number { result ≡ self.now.number }
         ensures lawful { AreLawful S.instance (commits_of self.now.seen) }
     {
-        self.account.front().shows_lawful();
+        self.account.prefix().shows_lawful();
         self.account.number()
     }
 

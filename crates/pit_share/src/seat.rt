@@ -8,7 +8,7 @@ use crate::account::Account;
 use crate::error::OpenError;
 use crate::planner::Planner;
 use crate::workspace::Workspace;
-use pit_board::{Hall, Session};
+use pit_board::{Publisher, Session};
 use pit_model::Instance;
 use std::alloc::Allocator;
 use std::marker::Model;
@@ -52,12 +52,12 @@ impl<S: Session, A: Allocator + Copy + Drop> Seat<S, A> {
 /// The seats of so many planners, each with a place at the board and a part of the count.
 pub(crate) fn seats_of<S: Session, R: Wait + Drop, A: Allocator + Copy + Drop>(
     alloc: A,
-    hall: &Hall<S, R, A>,
+    publisher: &Publisher<S, R, A>,
     rest: &mut Share<S>,
     pit: &Instance<A>,
     planners: u32,
 ) -> Result<Vec<Seat<S, A>, A>, OpenError>
-    requires hall { hall.now ≡ S.opening }
+    requires publisher { publisher.now ≡ S.opening }
     requires planners { planners ≡ S.planners }
     requires few { planners ≤ rest.old.parts }
     requires none_left { rest.old.amount ≡ 0 }
@@ -69,7 +69,7 @@ pub(crate) fn seats_of<S: Session, R: Wait + Drop, A: Allocator + Copy + Drop>(
 {
     let mut seats: Vec<Seat<S, A>, A> = Vec::new(alloc);
     for before in 0..planners {
-        let seat = match seat_of(alloc, hall, rest, pit, before + 1) {
+        let seat = match seat_of(alloc, publisher, rest, pit, before + 1) {
             Ok(seat) => seat,
             Err(error) => return Err(error),
         };
@@ -83,12 +83,12 @@ pub(crate) fn seats_of<S: Session, R: Wait + Drop, A: Allocator + Copy + Drop>(
 /// One seat, where a place at the board is left.
 fn seat_of<S: Session, R: Wait + Drop, A: Allocator + Copy + Drop>(
     alloc: A,
-    hall: &Hall<S, R, A>,
+    publisher: &Publisher<S, R, A>,
     rest: &mut Share<S>,
     pit: &Instance<A>,
     number: u32,
 ) -> Result<Seat<S, A>, OpenError>
-    requires hall { hall.now ≡ S.opening }
+    requires publisher { publisher.now ≡ S.opening }
     requires number { IsPlanner S.planners number }
     requires part { 0 < rest.old.parts }
     requires none_left { rest.old.amount ≡ 0 }
@@ -98,7 +98,7 @@ fn seat_of<S: Session, R: Wait + Drop, A: Allocator + Copy + Drop>(
     ensures none_left { rest.new.amount ≡ 0 }
     ensures count { IfErr result (λ error. error ≢ OpenError.PlannerCount) }
 {
-    let Some(view) = hall.view(rest) else {
+    let Some(view) = publisher.view(rest) else {
         return Err(OpenError::NoPlace);
     };
     let Ok(pit) = pit.share() else {

@@ -68,7 +68,7 @@ impl<'a, S: Session, R: Wait + Drop, A: Allocator + Copy + Drop> Transaction<'a,
         ensures kept { IsTransactionKept S.instance self.now }
         ensures lawful { AreLawful S.instance (commits_of self.now.planner.seen) }
     {
-        self.account.front().shows_lawful();
+        self.account.prefix().shows_lawful();
         self.work.start()
     }
 

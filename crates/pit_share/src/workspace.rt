@@ -2,16 +2,16 @@
 ghost use Rattle.std.specs.Prelude.{◌≡◌, ◌≤◌, ◌↔◌, IsTrue, IfOk, IfErr};
 ghost use Rattle.pit_share.specs.Closing.{IsClosed, IsCloseError};
 ghost use Rattle.pit_share.specs.Opening.{IsPlannerCount, AreSeats, IsOpenError};
-ghost use Rattle.pit_share.specs.declared.blank.TheConstants.{PLANNERS_MAX};
+ghost use Rattle.pit_share.specs.declared.new_session.TheConstants.{PLANNERS_MAX};
 
-use crate::blank::{Blank, PLANNERS_MAX};
 use crate::closed::Closed;
 use crate::error::{CloseError, OpenError};
 use crate::floor::Floor;
 use crate::held::Held;
 use crate::log::PlannerLog;
+use crate::new_session::{NewSession, PLANNERS_MAX};
 use crate::seat::{Seat, seats_of};
-use pit_board::{EmptyList, Hall, Session};
+use pit_board::{EmptyList, Publisher, Session};
 use pit_desk::Desk;
 use pit_num::NoMemory;
 use std::alloc::Allocator;
@@ -26,22 +26,22 @@ pub struct Workspace<S: Session, R: Wait + Drop, A: Allocator + Copy + Drop> {
 
 impl<S: Session, R: Wait + Drop, A: Allocator + Copy + Drop> Workspace<S, R, A> {
     /// Opens a workspace on a desk, with a seat for each of so many planners, 1 to `PLANNERS_MAX`. The session names the desk's pit, its history and
-    /// its limit of entries, the number of planners, and the blank count and list. The handle is kept, since who ends the board waits for its
+    /// its limit of entries, the number of planners, and a new count and list. The handle is kept, since who ends the board waits for its
     /// readers. On a refusal the desk is handed back, and the rest is freed.
     pub fn open(
         rt: R,
         alloc: A,
         desk: Desk<A>,
         planners: u32,
-        blank: Blank,
+        new_session: NewSession,
     ) -> Result<(Workspace<S, R, A>, Vec<Seat<S, A>, A>), (Desk<A>, OpenError)>
         requires pit { desk.plan.pit ≡ S.instance }
         requires history { desk.history ≡ S.opening }
         requires limit { desk.max_entries ≡ S.max_entries }
         requires planners { planners ≡ S.planners }
-        requires ledger { blank.ledger ≡ S.name }
+        requires ledger { new_session.ledger ≡ S.name }
         requires parts { S.parts ≡ PLANNERS_MAX }
-        requires book { blank.book ≡ S.book }
+        requires book { new_session.book ≡ S.book }
         ensures count { IfOk result (λ opened. IsPlannerCount planners) }
         ensures seats { IfOk result (λ opened. AreSeats planners opened.1.items) }
         ensures desk { IfErr result (λ refused. refused.0 ≡ desk) }
@@ -50,21 +50,21 @@ impl<S: Session, R: Wait + Drop, A: Allocator + Copy + Drop> Workspace<S, R, A> 
         if !is_planner_count(planners) {
             return Err((desk, OpenError::PlannerCount));
         }
-        let (shares, list) = blank.into_parts();
+        let (shares, list) = new_session.into_parts();
         let (total, mut rest) = shares.open::<S>();
-        let hall = match hall_of(rt, alloc, list, &desk, planners) {
-            Ok(hall) => hall,
+        let publisher = match publisher_of(rt, alloc, list, &desk, planners) {
+            Ok(publisher) => publisher,
             Err(_) => return Err((desk, OpenError::NoMemory)),
         };
         let pit = desk.plan().instance();
-        let seats = match seats_of(alloc, &hall.value, &mut rest, pit, planners) {
+        let seats = match seats_of(alloc, &publisher.value, &mut rest, pit, planners) {
             Ok(seats) => seats,
             Err(error) => return Err((desk, error)),
         };
         let Ok(items) = Vec::with_capacity(alloc, planners as usize) else {
             return Err((desk, OpenError::NoMemory));
         };
-        let floor = Mutex::new(Floor::new(desk, hall, total, rest, planners, items));
+        let floor = Mutex::new(Floor::new(desk, publisher, total, rest, planners, items));
         Ok((Workspace { floor }, seats))
     }
 
@@ -101,21 +101,21 @@ fn is_planner_count(planners: u32) -> bool
     planners >= 1 && planners <= PLANNERS_MAX
 }
 
-/// The hall of a session, in which each planner has a place.
-fn hall_of<S: Session, R: Wait + Drop, A: Allocator + Copy + Drop>(
+/// The publisher of a session, in which each planner has a place.
+fn publisher_of<S: Session, R: Wait + Drop, A: Allocator + Copy + Drop>(
     rt: R,
     alloc: A,
     list: EmptyList,
     desk: &Desk<A>,
     planners: u32,
-) -> Result<Held<Hall<S, R, A>>, NoMemory>
+) -> Result<Held<Publisher<S, R, A>>, NoMemory>
     requires pit { desk.now.plan.pit ≡ S.instance }
     requires history { desk.now.history ≡ S.opening }
     requires list { list ≡ S.book }
     requires some { 1 ≤ planners }
-    ensures { IfOk result (λ hall. hall.value ≡ S.opening) }
+    ensures { IfOk result (λ publisher. publisher.value ≡ S.opening) }
 {
     Ok(Held {
-        value: Hall::open(rt, alloc, list, desk, planners)?,
+        value: Publisher::open(rt, alloc, list, desk, planners)?,
     })
 }

@@ -3,7 +3,7 @@ use Rattle.std.specs.Prelude.{◌≡◌, ℕ, ◌≤◌, List, [], length}
 use Rattle.pit_script.specs.Jobs.{Job}
 use Rattle.pit_share.specs.Planners.{PlannerState}
 use Rattle.pit_share.specs.Opening.{AreSeats}
-use Rattle.pit_share.specs.declared.blank.TheConstants.{PLANNERS_MAX}
+use Rattle.pit_share.specs.declared.new_session.TheConstants.{PLANNERS_MAX}
 use Rattle.pit_run.specs.Reports.{RunState}
 
 -- there is a seat for each script, and room for the log and the run of each, of which none is there yet

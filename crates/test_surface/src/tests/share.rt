@@ -1,6 +1,6 @@
 //! `pit_share` and `pit_run`: planners of one workspace, by hand and by scripts in threads of their own.
 ghost use Rattle.std.specs.Prelude.{◌≡◌, All};
-ghost use Rattle.pit_share.specs.declared.blank.TheConstants.{PLANNERS_MAX};
+ghost use Rattle.pit_share.specs.declared.new_session.TheConstants.{PLANNERS_MAX};
 
 use super::book::{OVER, resumed};
 use super::tiny::{HISTORY, WORTH, empty_desk, tiny};
@@ -13,7 +13,7 @@ use pit_run::{
     ScriptError, run, run_in_turn,
 };
 use pit_share::{
-    Blank, CloseError, OpenError, Planner, PlannerLog, ReadStop, Seat, Session, Transaction,
+    CloseError, NewSession, OpenError, Planner, PlannerLog, ReadStop, Seat, Session, Transaction,
     Workspace,
 };
 use pit_tx::WorkError;
@@ -90,7 +90,7 @@ fn shared<R: Threads + Wait + Abort + Sync>(
 ) -> Shared
     requires { All (λ script. script.pit ≡ desk.plan.pit) scripts.now }
 {
-    play::<Brand, _, _>(rt, rt, alloc, desk, planners, Blank::new(), scripts)
+    play::<Brand, _, _>(rt, rt, alloc, desk, planners, NewSession::new(), scripts)
 }
 
 fn play<S: Session + Send + Sync, O: Wait + Drop + Send + Sync, R: Threads + Wait + Abort + Sync>(
@@ -99,19 +99,25 @@ fn play<S: Session + Send + Sync, O: Wait + Drop + Send + Sync, R: Threads + Wai
     alloc: Global,
     desk: Desk<Global>,
     planners: u32,
-    blank: Blank,
+    new_session: NewSession,
     scripts: &[Script<Global>],
 ) -> Shared
     requires pit { desk.plan.pit ≡ S.instance }
     requires history { desk.history ≡ S.opening }
     requires limit { desk.max_entries ≡ S.max_entries }
     requires planners { planners ≡ S.planners }
-    requires ledger { blank.ledger ≡ S.name }
+    requires ledger { new_session.ledger ≡ S.name }
     requires parts { S.parts ≡ PLANNERS_MAX }
-    requires book { blank.book ≡ S.book }
+    requires book { new_session.book ≡ S.book }
     requires scripts { All (λ script. script.pit ≡ S.instance) scripts.now }
 {
-    let (workspace, seats) = match Workspace::<S, O, _>::open(own, alloc, desk, planners, blank) {
+    let (workspace, seats) = match Workspace::<S, O, _>::open(
+        own,
+        alloc,
+        desk,
+        planners,
+        new_session,
+    ) {
         Ok(opened) => opened,
         Err(refused) => return Err(refused),
     };

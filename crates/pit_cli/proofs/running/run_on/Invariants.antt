@@ -1,10 +1,10 @@
-use Rattle.pit_share.specs.declared.blank.TheConstants.{PLANNERS_MAX}
+use Rattle.pit_share.specs.declared.new_session.TheConstants.{PLANNERS_MAX}
 use Rattle.pit_cli.proofs.running.run_on.Given as goal
 
--- the count of what is blank
+-- the count of a new session
 abbrev pub ghosts-run_in-S-Ledger : goal.ghosts-run_in-S-Ledger
-ghosts-run_in-S-Ledger g a = record { name = a.blank.ledger; parts = PLANNERS_MAX }
+ghosts-run_in-S-Ledger g a = record { name = a.new_session.ledger; parts = PLANNERS_MAX }
 
 -- its list, and the desk that is at hand
 abbrev pub ghosts-run_in-S-Session : goal.ghosts-run_in-S-Session
-ghosts-run_in-S-Session g a = record { book = a.blank.book; instance = a.desk.plan.pit; opening = a.desk.history; max_entries = a.desk.max_entries; planners = a.planners }
+ghosts-run_in-S-Session g a = record { book = a.new_session.book; instance = a.desk.plan.pit; opening = a.desk.history; max_entries = a.desk.max_entries; planners = a.planners }
