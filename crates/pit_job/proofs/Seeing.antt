@@ -42,7 +42,7 @@ sees-trans a b c f g = record { number = g.number ∙ f.number; items = g.items 
 
 pub moved-on : (seen more : List Answered) (start block version : ℕ) → IsPrefix seen more → IsMovedBlock seen start block version → IsMovedBlock more start block version
 moved-on seen more start block version on moved =
-    record { prefix = moved.prefix; begins = prefix-trans moved.front seen more moved.begins on; last = moved.last; past = moved.past }
+    record { prefix = moved.prefix; begins = prefix-trans moved.prefix seen more moved.begins on; last = moved.last; past = moved.past }
 
 past-start : (commits : List Commit) (start b : ℕ) → nat_lt start (last_number commits b) ≡ true → start < last_number commits b
 past-start commits start b is = grind (arith, is)
