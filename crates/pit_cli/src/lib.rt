@@ -27,7 +27,7 @@ pub use pit_info::info;
 pub use pit_log::log;
 pub use pit_merge::{
     CONFLICTS_SHOWN, EDITS_MAX, MergeInput, MergeOptions, edit_writes, laid_over_in_order,
-    late_edits, merge, one_merged_history, shown_edits, told_conflicts, unchanged_edits,
+    late_edits, merge, one_merged_history, reported_conflicts, shown_edits, unchanged_edits,
 };
 pub use pit_opening::{Beginning, Opening, opening_of};
 pub use pit_show::show;

@@ -11,7 +11,7 @@ ghost use Rattle.clap.specs.Values.{kind_of};
 ghost use Rattle.clap.specs.declared.error.kind.ErrorKind.TheVariants.{OutOfMemory};
 
 use crate::notes::PIT_NOTES;
-use crate::rules::told;
+use crate::rules::clap_argument;
 use crate::subcommand::{SUBCOMMANDS, Subcommand};
 use clap::error::ErrorKind;
 use clap::{ArgMatches, Command, Error};
@@ -54,18 +54,18 @@ fn with_subcommand<'a>(
     ensures app { (fields_of pit.entry).has_globals ≡ false → IfOk result (λ c. app_of c ≡ with_subcommand (app_of pit.entry) (shape_for subcommand.now)) }
     ensures local { (fields_of pit.entry).has_globals ≡ false → IfOk result (λ c. (fields_of c).has_globals ≡ false) }
 {
-    pit.subcommand(told_subcommand(alloc, subcommand)?)
+    pit.subcommand(clap_subcommand(alloc, subcommand)?)
 }
 
 /// What the parser is told of a subcommand.
-fn told_subcommand<'a>(alloc: Global, subcommand: &Subcommand) -> Result<Command<'a>, AllocError>
+fn clap_subcommand<'a>(alloc: Global, subcommand: &Subcommand) -> Result<Command<'a>, AllocError>
     ensures { IfOk result (IsSubcommand (shape_for subcommand.now)) }
 {
     let mut command = Command::new(alloc, subcommand.name)
         .about(subcommand.about)
         .after_help(subcommand.notes);
     for argument in subcommand.arguments {
-        command = command.arg(told(alloc, *argument))?;
+        command = command.arg(clap_argument(alloc, *argument))?;
     }
     Ok(command)
 }

@@ -46,7 +46,7 @@ pub(crate) enum Argument {
 }
 
 /// What the parser is told of an argument.
-pub(crate) fn told<'a>(alloc: Global, argument: Argument) -> Arg<'a>
+pub(crate) fn clap_argument<'a>(alloc: Global, argument: Argument) -> Arg<'a>
     ensures rule { rule_of result ≡ rule_for argument }
     ensures local { result.global ≡ false }
 {

@@ -8,6 +8,6 @@ pub mod Answered
 pub mod Texts
 pub mod Reviewed
 pub mod Whole
-pub mod Told
+pub mod Reported
 pub mod LaidOver
 pub mod CallerLemmas

@@ -10,7 +10,7 @@ use Rattle.pit_desk.specs.declared.reply.EntryReply.{EntryReply}
 use Rattle.pit_edit.specs.declared.conflicts.TheConstants.{CONFLICTS_SHOWN}
 use Rattle.pit_edit.specs.Changes.{Edit, late_of, kept_of}
 use Rattle.pit_edit.specs.Calls.{IsEntered}
-use Rattle.pit_edit.specs.EditText.{conflict_line, conflict_at, conflicts_text, more_text, was_moved, told_of}
+use Rattle.pit_edit.specs.EditText.{conflict_line, conflict_at, conflicts_text, more_text, was_moved, reported_of}
 use Rattle.pit_edit.proofs.Late.{moved-late}
 
 flat_map-same : (f g : ℕ → List ℕ) (xs : List ℕ) → All (λ x. f x ≡ g x) xs → flat_map f xs ≡ flat_map g xs
@@ -47,15 +47,15 @@ told-if false (b ∷ late) is = absurd (false≢true (is (λ none. cc none)))
 
 told-by : (pit : Pit) (before : List Answered) (edit : Edit) (changes : List ℕ) (after : List Answered) (reply : Option EntryReply) → edit.start ≤ length (commits_of before)
     → IsEntered pit before edit changes after reply
-    → let late = late_of edit.start (last_number (commits_of before)) changes in told_of false reply late ≡ late
+    → let late = late_of edit.start (last_number (commits_of before)) changes in reported_of false reply late ≡ late
 told-by pit before edit [] after reply seen entered = either-way (was_moved reply)
 told-by pit before edit (b ∷ changes) after reply seen entered =
     let late = late_of edit.start (last_number (commits_of before)) (b ∷ changes) in
-    subst (λ (r : Option EntryReply). told_of false r late ≡ late) (sym entered.reply_is)
+    subst (λ (r : Option EntryReply). reported_of false r late ≡ late) (sym entered.reply_is)
     (told-if (was_moved (Some entered.due)) late (moved-late (commits_of before) edit (b ∷ changes) pit entered.due seen entered.is_due).1)
 
 pub told-late : (is_partial : Bool) (pit : Pit) (before : List Answered) (edit : Edit) (changes : List ℕ) (after : List Answered) (reply : Option EntryReply) → edit.start ≤ length (commits_of before)
     → IsEntered pit before edit (kept_of is_partial edit.start (last_number (commits_of before)) changes) after reply
-    → let late = late_of edit.start (last_number (commits_of before)) changes in told_of is_partial reply late ≡ late
+    → let late = late_of edit.start (last_number (commits_of before)) changes in reported_of is_partial reply late ≡ late
 told-late true pit before edit changes after reply seen entered = refl
 told-late false pit before edit changes after reply seen entered = told-by pit before edit changes after reply seen entered

@@ -12,13 +12,13 @@ use Rattle.pit_edit.specs.Changes.{Edit, changes_of, is_late, late_of, kept_of, 
 use Rattle.pit_edit.specs.Calls.{IsEntered}
 use Rattle.pit_edit.specs.EditText.{entry_number, edit_cause, edit_line, conflicts_text, edit_text}
 use Rattle.pit_edit.specs.Merging.{Merging, IsMerged, was_granted}
-use Rattle.pit_edit.specs.Inside.Reviews.{writer_in, changes_on, IsReview, IsTold}
+use Rattle.pit_edit.specs.Inside.Reviews.{writer_in, changes_on, IsReview, IsReported}
 use Rattle.pit_edit.proofs.Filters.{changes-known, changes-same, late-same, kept-same, left-same}
 use Rattle.pit_edit.proofs.Texts.{conflicts-same, told-late}
 
 module _ (is_partial : Bool) (edit : Edit) (old new : Merging) (makers kept : List ℕ) (changes left : ℕ) (conflicts : List ℕ) (follows : Follows old.desk.history old.desk.plan)
     (made : AreMakers old.desk.history makers) (seen : edit.start ≤ length (commits_of old.desk.history)) (review : IsReview is_partial edit old.desk.plan makers kept changes left conflicts)
-    (told : IsTold edit kept changes left conflicts old new) where
+    (told : IsReported edit kept changes left conflicts old new) where
   abbrev plan : Standing
   plan = old.desk.plan
 

@@ -79,8 +79,8 @@ was_moved (Some (Refused why)) = was_moved_by why
 was_moved (Some Withdrawn) = false
 
 -- those of the late changes that are told: all where they were left out, or where the edit was refused so
-abbrev pub told_of : Bool → Option EntryReply → List ℕ → List ℕ
-told_of is_partial reply late = if is_partial || was_moved reply then late else []
+abbrev pub reported_of : Bool → Option EntryReply → List ℕ → List ℕ
+reported_of is_partial reply late = if is_partial || was_moved reply then late else []
 
 -- ---- the text
 
@@ -89,4 +89,4 @@ abbrev pub edit_text : Bool → List Answered → Edit → List ℕ → List ℕ
 edit_text is_partial before edit changes kept reply =
     edit_line edit.number (entry_number before reply) (length changes) (length (left_of is_partial edit.start (last_number (commits_of before)) changes))
     (edit_cause before edit kept reply) reply
-    ++ conflicts_text edit (held_period (commits_of before)) (last_writer before) (told_of is_partial reply (late_of edit.start (last_number (commits_of before)) changes))
+    ++ conflicts_text edit (held_period (commits_of before)) (last_writer before) (reported_of is_partial reply (late_of edit.start (last_number (commits_of before)) changes))

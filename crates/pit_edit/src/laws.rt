@@ -9,7 +9,7 @@ ghost use Rattle.pit_desk.specs.declared.reply.EntryReply.TheVariants.{Committed
 ghost use Rattle.pit_edit.specs.Changes.{Edit as EditState, base_of, changes_of, late_of, wanted_of};
 ghost use Rattle.pit_edit.specs.declared.conflicts.TheConstants.{CONFLICTS_SHOWN};
 ghost use Rattle.pit_edit.specs.Calls.{edit_call, edit_entry};
-ghost use Rattle.pit_edit.specs.EditText.{was_moved, told_of};
+ghost use Rattle.pit_edit.specs.EditText.{was_moved, reported_of};
 ghost use Rattle.pit_edit.specs.LaidOver.{laid_over};
 
 /// A law of edits. One that begins no later than now is refused as moved exactly where one of the blocks that it writes has been written by a commit
@@ -36,11 +36,11 @@ pub fn laid_over_in_order()
 
 /// A law of conflicts: each that is told is a change of a block that a commit behind the base has written. They are told where changes may be left
 /// out, or where the edit was refused as moved; then each such change is among them. The first 1,000 have a line.
-pub fn told_conflicts()
+pub fn reported_conflicts()
     ensures told { (is_partial : Bool) (reply : Option EntryReply) (start : ℕ) (version : ℕ → ℕ) (changes : List ℕ) (b : ℕ)
-        → Contains (told_of is_partial reply (late_of start version changes)) b → Contains changes b × (start < version b) }
+        → Contains (reported_of is_partial reply (late_of start version changes)) b → Contains changes b × (start < version b) }
     ensures none_left { (is_partial : Bool) (reply : Option EntryReply) (start : ℕ) (version : ℕ → ℕ) (changes : List ℕ) (b : ℕ)
-        → (is_partial || was_moved reply) ≡ true → Contains changes b → start < version b → Contains (told_of is_partial reply (late_of start version changes)) b }
+        → (is_partial || was_moved reply) ≡ true → Contains changes b → start < version b → Contains (reported_of is_partial reply (late_of start version changes)) b }
     ensures shown { CONFLICTS_SHOWN ≡ 1000 }
 {}
 

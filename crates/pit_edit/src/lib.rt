@@ -18,5 +18,5 @@ mod work;
 
 pub use conflicts::CONFLICTS_SHOWN;
 pub use edit::Edit;
-pub use laws::{edit_writes, laid_over_in_order, late_edits, told_conflicts, unchanged_edits};
+pub use laws::{edit_writes, laid_over_in_order, late_edits, reported_conflicts, unchanged_edits};
 pub use merging::Merging;

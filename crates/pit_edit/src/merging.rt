@@ -7,7 +7,7 @@ ghost use Rattle.pit_log.specs.Makers.{AreMakers};
 ghost use Rattle.pit_edit.specs.Changes.{IsEditOn};
 ghost use Rattle.pit_edit.specs.EditText.{edit_line};
 ghost use Rattle.pit_edit.specs.Merging.{IsMerged, was_granted};
-ghost use Rattle.pit_edit.specs.Inside.Reviews.{IsTold};
+ghost use Rattle.pit_edit.specs.Inside.Reviews.{IsReported};
 
 use crate::answer::{Answer, was_granted};
 use crate::answering::answer_to;
@@ -100,7 +100,7 @@ impl<A: Allocator + Copy + Drop> Merging<A> {
         requires edit { IsEditOn self.old.desk.plan.pit (commits_of self.old.desk.history) edit.now }
         requires known { All (λ b. b < self.old.desk.plan.pit.blocks) review.now.kept.items }
         requires rising { IsStrictlyIncreasing review.now.kept.items }
-        ensures { OnOk result (IsTold edit.now review.now.kept.items review.now.changes review.now.left review.now.conflicts.items self.old self.new) }
+        ensures { OnOk result (IsReported edit.now review.now.kept.items review.now.changes review.now.left review.now.conflicts.items self.old self.new) }
     {
         let answer = answer_to(alloc, &mut self.desk, &mut self.makers, edit, &review.kept)?;
         self.tell(alloc, edit.number, review, answer)

@@ -11,7 +11,7 @@ use Rattle.pit_step.specs.Devices.{Reading, Writing, write_step}
 use Rattle.pit_step.specs.Inputs.{IsModelFault, IsOrder, IsOrderFault, IsPlaced, IsPlacesFault, order_step}
 use Rattle.pit_step.proofs.CallerLemmas.{IsSeen, IsDetermined, IsOneText, shown_run, in_turn-determined, carrying-determined, input-determined, decided-model, decided-order, decided-places, write-determined, write-shown, write-never_both}
 use Rattle.pit_info.specs.InfoText.{size_text, info_text}
-use Rattle.pit_info.specs.Info.{IsHeaded, IsInfo, IsToldIf, headed_step, places_if_step, ordered_step, inputs_step, told_step, info_run}
+use Rattle.pit_info.specs.Info.{IsHeaded, IsInfo, IsToldIf, headed_step, places_if_step, ordered_step, inputs_step, rendered_step, info_run}
 
 -- ---- the inputs
 
@@ -59,8 +59,8 @@ one-text : (with_places : Bool) (pit : Pit) (unknown text other : List ℕ) → 
 one-text with_places pit unknown text other p q =
     p.says ∙ ap (λ (found : Option (ℕ × ℕ)). info_text with_places pit found unknown) (one-unmeetable pit p.unmeetable q.unmeetable p.is_first q.is_first) ∙ sym q.says
 
-told-determined : (with_places : Bool) (given : Pit × List ℕ) → IsDetermined IsSeen (told_step with_places) given
-told-determined with_places given = record {
+rendered-determined : (with_places : Bool) (given : Pit × List ℕ) → IsDetermined IsSeen (rendered_step with_places) given
+rendered-determined with_places given = record {
   values = λ text other p q. one-text with_places given.0 given.1 text other p q;
   apart = λ text fault due p q. due q;
   faults = λ fault other due also p q. absurd (due p);
@@ -81,8 +81,8 @@ some_text with_places pit unknown text is =
 pub info_outcome : (model precedence : Reading) (blocks : Option Reading) (out : Writing) → IsSome model.before → IsSome precedence.before → IsToldIf blocks → IsSome out.before
     → HasOneOutcome NoMemory (info_run model precedence blocks out)
 info_outcome model precedence blocks out told_model told_precedence told_blocks told_out =
-    shown_run NoMemory (inputs_step model precedence blocks) (told_step (is_some blocks)) (write_step out (λ (text : List ℕ). text) (λ _. Fine))
-    (inputs-determined model precedence blocks told_model told_precedence told_blocks) (told-determined (is_some blocks))
+    shown_run NoMemory (inputs_step model precedence blocks) (rendered_step (is_some blocks)) (write_step out (λ (text : List ℕ). text) (λ _. Fine))
+    (inputs-determined model precedence blocks told_model told_precedence told_blocks) (rendered-determined (is_some blocks))
     (λ text. write-determined out (λ (t : List ℕ). t) (λ _. Fine) text)
     (λ given text is. write-shown out (λ (t : List ℕ). t) (λ _. Fine) text told_out (some_text (is_some blocks) given.0 given.1 text is))
     (λ text. write-never_both out (λ (t : List ℕ). t) (λ _. Fine) text)

@@ -23,6 +23,6 @@ module _ {F A B C D : Type 0} (first : Step F A B) (next : Step F B C) (last : S
 
 -- ---- what is told
 
-pub told-as : (with_places other : Bool) (pit : Pit) (unknown read text : List ℕ) → with_places ≡ other → unknown ≡ read → IsInfo with_places pit unknown text → IsInfo other pit read text
-told-as with_places other pit unknown read text same also told =
+pub rendered-as : (with_places other : Bool) (pit : Pit) (unknown read text : List ℕ) → with_places ≡ other → unknown ≡ read → IsInfo with_places pit unknown text → IsInfo other pit read text
+rendered-as with_places other pit unknown read text same also told =
     subst (λ (b : Bool). IsInfo b pit read text) same (subst (λ (xs : List ℕ). IsInfo with_places pit xs text) also told)

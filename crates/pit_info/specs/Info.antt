@@ -50,11 +50,11 @@ pub record IsInfo (with_places : Bool) (pit : Pit) (unknown : List ℕ) (text : 
   pub says : text ≡ info_text with_places pit unmeetable unknown
 
 -- the text, or there is no memory for it
-abbrev pub told_step : Bool → Step CliFault (Pit × List ℕ) (List ℕ)
-told_step with_places =
+abbrev pub rendered_step : Bool → Step CliFault (Pit × List ℕ) (List ℕ)
+rendered_step with_places =
     judge_step (λ given text. IsInfo with_places given.0 given.1 text) (λ given fault. fault ≡ NoMemory)
 
 -- The model, the precedences, the places where there is a source for them, and then what is told of them is written.
 abbrev pub info_run : Reading → Reading → Option Reading → Writing → Step CliFault (Unit {0}) Status
 info_run model precedence blocks out =
-    in_turn (inputs_step model precedence blocks) (in_turn (told_step (is_some blocks)) (write_step out (λ text. text) (λ _. Fine)))
+    in_turn (inputs_step model precedence blocks) (in_turn (rendered_step (is_some blocks)) (write_step out (λ text. text) (λ _. Fine)))

@@ -36,7 +36,7 @@ pub fn info<A: Allocator + Copy + Drop, M: Source, P: Source, B: Source, W: Sink
         Ok(read) => read,
         Err(fault) => return Err(fault),
     };
-    let text = match told(alloc, given, blocks.is_some(), &unknown) {
+    let text = match rendered(alloc, given, blocks.is_some(), &unknown) {
         Ok(text) => text,
         Err(fault) => return Err(fault),
     };
@@ -142,7 +142,7 @@ fn read_places<A: Allocator + Copy + Drop, B: Source>(
 }
 
 /// What is to be written of a pit, which is freed, and of the lines of the unknown keys.
-fn told<A: Allocator + Copy + Drop>(
+fn rendered<A: Allocator + Copy + Drop>(
     alloc: A,
     given: Builder<A>,
     with_places: bool,

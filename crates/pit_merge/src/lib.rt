@@ -21,5 +21,6 @@ pub use input::MergeInput;
 pub use laws::{one_merged_history, one_outcome, shown_edits};
 pub use options::MergeOptions;
 pub use pit_edit::{
-    CONFLICTS_SHOWN, edit_writes, laid_over_in_order, late_edits, told_conflicts, unchanged_edits,
+    CONFLICTS_SHOWN, edit_writes, laid_over_in_order, late_edits, reported_conflicts,
+    unchanged_edits,
 };

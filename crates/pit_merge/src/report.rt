@@ -39,11 +39,11 @@ fn write_report<W: Sink>(
         (new_line is_new ++ (lines.now ++ (codes "value " ++ (value_text value ++ shorts_text shorts.now))))) }
 {
     write_new_line(w, is_new)?;
-    write_told(w, lines, value, shorts)
+    write_lines(w, lines, value, shorts)
 }
 
 /// The lines of the edits, the value, and the shortfalls.
-fn write_told<W: Sink>(
+fn write_lines<W: Sink>(
     w: &mut W,
     lines: &[u8],
     value: i128,

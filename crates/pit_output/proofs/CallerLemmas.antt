@@ -19,7 +19,7 @@ use Rattle.pit_text.specs.SolutionText.{solution_text}
 use Rattle.pit_desk.specs.History.{commits_of}
 use Rattle.pit_desk.specs.State.{State, IsDeskKept}
 use Rattle.pit_step.specs.LineTexts.{left_text}
-use Rattle.pit_output.specs.Outputs.{Keeping, keeping_of, HasWhole, IsLeft, keep_step, Outputs, told_step, outputs_run, IsUnwritten, has_failed, has_failed_if, HasFailed}
+use Rattle.pit_output.specs.Outputs.{Keeping, keeping_of, HasWhole, IsLeft, keep_step, Outputs, both_step, outputs_run, IsUnwritten, has_failed, has_failed_if, HasFailed}
 
 -- of a desk's plan, as it is found
 pub left_as : (closed desk : State) (plan : Standing) (periods : List (Option ℕ)) → desk ≡ closed → plan ≡ desk.plan → IsDeskKept desk → periods ≡ plan.periods → length periods ≡ plan.pit.blocks
@@ -123,38 +123,38 @@ module _ (out lines : Writing) (kept : Option Keeping) where
   AllWritten texts =
       Appends out.before out.after texts.solution × Appends lines.before lines.after texts.report × (0 < length texts.report → lines.failed ≡ false) × HasWhole kept texts.history
 
-  abbrev AreTold : Outputs → Type 0
-  AreTold texts = Appends out.before out.after texts.solution × Appends lines.before lines.after texts.report × (0 < length texts.report → lines.failed ≡ false)
+  abbrev AreBothWritten : Outputs → Type 0
+  AreBothWritten texts = Appends out.before out.after texts.solution × Appends lines.before lines.after texts.report × (0 < length texts.report → lines.failed ≡ false)
 
   module _ (texts : Outputs) (ended : Result Status CliFault) where
-    told : (told_step texts out lines).Gives tt tt → AreTold texts
-    told (a, p, q) = (p.1, q.1, q.2)
+    both : (both_step texts out lines).Gives tt tt → AreBothWritten texts
+    both (a, p, q) = (p.1, q.1, q.2)
 
-    told_failed : (fault : CliFault) → (told_step texts out lines).Fails tt fault → (fault ≡ cli.CannotWrite) × HasFailed out lines kept
-    told_failed fault (inl (p, left)) = (p.0, inl p.2)
-    told_failed fault (inr (a, p, q)) = (q.0, inr (inl q.2))
+    both_failed : (fault : CliFault) → (both_step texts out lines).Fails tt fault → (fault ≡ cli.CannotWrite) × HasFailed out lines kept
+    both_failed fault (inl (p, left)) = (p.0, inl p.2)
+    both_failed fault (inr (a, p, q)) = (q.0, inr (inl q.2))
 
     kept_failed : (fault : CliFault) → (keep_step kept texts.history).Fails tt fault → (fault ≡ cli.CannotWrite) × HasFailed out lines kept
     kept_failed fault p = let failed = failed_if kept texts.history fault p in (failed.0, inr (inr failed.1))
 
-    all_of : AreTold texts → HasWhole kept texts.history → AllWritten texts
+    all_of : AreBothWritten texts → HasWhole kept texts.history → AllWritten texts
     all_of p q = (p.0, p.1, p.2, q)
 
     pub outputs_given : (is_first : Bool) (status : Status) → (outputs_run is_first texts ended out lines kept).Gives tt status → (ended ≡ Ok status) × AllWritten texts
-    outputs_given false status (a, p, (b, q, is)) = (is, all_of (told p) (whole_if kept texts.history q))
-    outputs_given true status (a, p, (b, q, is)) = (is, all_of (told q) (whole_if kept texts.history p))
+    outputs_given false status (a, p, (b, q, is)) = (is, all_of (both p) (whole_if kept texts.history q))
+    outputs_given true status (a, p, (b, q, is)) = (is, all_of (both q) (whole_if kept texts.history p))
 
     -- a device failed; or all was written, and it ended so
     abbrev pub IsFailed : CliFault → Type 0
     IsFailed fault = ((fault ≡ cli.CannotWrite) × HasFailed out lines kept) ⊎ ((ended ≡ Err fault) × AllWritten texts)
 
     pub outputs_failed : (is_first : Bool) (fault : CliFault) → (outputs_run is_first texts ended out lines kept).Fails tt fault → IsFailed fault
-    outputs_failed false fault (inl (p, left)) = inl (told_failed fault p)
+    outputs_failed false fault (inl (p, left)) = inl (both_failed fault p)
     outputs_failed false fault (inr (a, p, inl (q, left))) = inl (kept_failed fault q)
-    outputs_failed false fault (inr (a, p, inr (b, q, is))) = inr (is, all_of (told p) (whole_if kept texts.history q))
+    outputs_failed false fault (inr (a, p, inr (b, q, is))) = inr (is, all_of (both p) (whole_if kept texts.history q))
     outputs_failed true fault (inl (p, left)) = inl (kept_failed fault p)
-    outputs_failed true fault (inr (a, p, inl (q, left))) = inl (told_failed fault q)
-    outputs_failed true fault (inr (a, p, inr (b, q, is))) = inr (is, all_of (told q) (whole_if kept texts.history p))
+    outputs_failed true fault (inr (a, p, inl (q, left))) = inl (both_failed fault q)
+    outputs_failed true fault (inr (a, p, inr (b, q, is))) = inr (is, all_of (both q) (whole_if kept texts.history p))
 
     pub outputs_left : (is_first : Bool) → (outputs_run is_first texts ended out lines kept).IsUntouched → IsUnwritten out lines kept
     outputs_left false ((p, q), (r, rest)) = (p, q, left_if kept texts.history r)

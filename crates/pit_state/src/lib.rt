@@ -7,10 +7,10 @@
 
 mod kind;
 mod parsed;
-mod planned;
+mod plans;
 mod state;
 
 pub use kind::is_history;
 pub use parsed::{entries_of, pairs_of};
-pub use planned::{history_plan, schedule_plan};
+pub use plans::{history_plan, schedule_plan};
 pub use state::read_state;

@@ -6,7 +6,7 @@ ghost use Rattle.pit_state.specs.States.{is_history as history_by, IsPlanRead, I
 
 use crate::kind::is_history;
 use crate::parsed::{entries_of, pairs_of};
-use crate::planned::{history_plan, schedule_plan};
+use crate::plans::{history_plan, schedule_plan};
 use pit_model::Instance;
 use pit_num::Source;
 use pit_plan::Plan;

@@ -30,7 +30,7 @@ pub use parsed::{
     builder_of, built, bytes_of, history_of, ordered, placed, read_builder, read_history,
     read_order, read_ordered_pit, read_pit, read_schedule, schedule_of,
 };
-pub use plans::planned;
+pub use plans::plan_of;
 pub use read::{INPUT_BYTES_MAX, ReadError, read_all};
 pub use refusal_words::{write_numbered, write_refusal};
 pub use status::Status;

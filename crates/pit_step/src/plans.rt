@@ -10,7 +10,7 @@ use pit_plan::{Plan, writes_of};
 use std::alloc::Allocator;
 
 /// The plan of a schedule, with its one commit. The pit is freed where memory runs out.
-pub fn planned<A: Allocator + Copy + Drop>(
+pub fn plan_of<A: Allocator + Copy + Drop>(
     alloc: A,
     pit: Instance<A>,
     schedule: &[(u32, u32)],

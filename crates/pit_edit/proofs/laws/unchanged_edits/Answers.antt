@@ -1,4 +1,4 @@
-use Rattle.pit_edit.proofs.Told.{unchanged}
+use Rattle.pit_edit.proofs.Reported.{unchanged}
 use Rattle.pit_edit.proofs.laws.unchanged_edits.Goals as goal
 
 pub returns : goal.returns

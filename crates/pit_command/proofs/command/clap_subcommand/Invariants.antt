@@ -1,7 +1,7 @@
 use Rattle.std.proofs.Common.{map, take}
 use Rattle.clap.specs.Simple.{new_shape}
 use Rattle.pit_command.specs.Command.{IsSubcommand, rule_for}
-use Rattle.pit_command.proofs.command.told_subcommand.Given as goal
+use Rattle.pit_command.proofs.command.clap_subcommand.Given as goal
 
 abbrev pub invariant-loop-argument : goal.invariant-loop-argument
 invariant-loop-argument l =

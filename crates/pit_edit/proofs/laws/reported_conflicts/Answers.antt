@@ -1,5 +1,5 @@
-use Rattle.pit_edit.proofs.Told.{told, none-left}
-use Rattle.pit_edit.proofs.laws.told_conflicts.Goals as goal
+use Rattle.pit_edit.proofs.Reported.{told, none-left}
+use Rattle.pit_edit.proofs.laws.reported_conflicts.Goals as goal
 
 pub returns-clause-told : goal.returns-clause-told
 returns-clause-told c = told

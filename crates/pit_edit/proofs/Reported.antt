@@ -6,7 +6,7 @@ use Rattle.std.proofs.lemmas.Bool.{ltb-true, lt-ltb, eq-eqb}
 use Rattle.std.proofs.lemmas.List.Elements.{All-weaker, All-contains, All-contains_itself, All-filter, filter_passes, Contains-append_left, Contains-append_right, Contains-push}
 use Rattle.pit_desk.specs.declared.reply.EntryReply.{EntryReply}
 use Rattle.pit_edit.specs.Changes.{Edit, base_of, wanted_of, is_same, is_apart, is_change, changes_of, is_late, late_of}
-use Rattle.pit_edit.specs.EditText.{was_moved, told_of}
+use Rattle.pit_edit.specs.EditText.{was_moved, reported_of}
 use Rattle.pit_edit.proofs.Filters.{filter-none, range-below}
 
 -- ---- filters
@@ -39,14 +39,14 @@ module _ (p : ℕ → Bool) where
 -- ---- conflicts
 
 module _ (is_partial : Bool) (reply : Option EntryReply) (start : ℕ) (version : ℕ → ℕ) (changes : List ℕ) (b : ℕ) where
-  pub told : Contains (told_of is_partial reply (late_of start version changes)) b → Contains changes b × (start < version b)
+  pub told : Contains (reported_of is_partial reply (late_of start version changes)) b → Contains changes b × (start < version b)
   told = by (is_partial || was_moved reply)
     where
       by : (tells : Bool) → Contains (if tells then late_of start version changes else []) b → Contains changes b × (start < version b)
       by true among = (kept-one (is_late start version) changes b among, ltb-true start (version b) (kept-passes (is_late start version) changes b among))
       by false among = absurd (omega (arith, among.1))
 
-  pub none-left : (is_partial || was_moved reply) ≡ true → Contains changes b → start < version b → Contains (told_of is_partial reply (late_of start version changes)) b
+  pub none-left : (is_partial || was_moved reply) ≡ true → Contains changes b → start < version b → Contains (reported_of is_partial reply (late_of start version changes)) b
   none-left tells among late = by (is_partial || was_moved reply) tells
     where
       by : (is : Bool) → is ≡ true → Contains (if is then late_of start version changes else []) b

@@ -4,7 +4,7 @@ use Rattle.pit_model.specs.Pit.{Pit}
 use Rattle.pit_plan.specs.Schedule.{Writes}
 use Rattle.pit_plan.specs.Standing.{IsPlanOf}
 use Rattle.pit_model.specs.Fitting.{Fits, writes_of}
-use Rattle.pit_step.proofs.plans.planned.Goals as goal
+use Rattle.pit_step.proofs.plans.plan_of.Goals as goal
 
 pub applied-requires-clause-fits : goal.applied-requires-clause-fits
 applied-requires-clause-fits g c =
