@@ -71,5 +71,13 @@ turn() {
     echo "${last[$key]} ${last[$base]} $(wc -c <"$work/out") ${processor[$key]} ${processor[$base]}" >>"$work/$key"
 }
 
+# both KEY WORD..: a run of the other program, which is called by the name that `other` is set to, and then one of PIT, on the same words.
+both() {
+    local key=$1
+    shift
+    turn "$other $key" "$other $key" "$twin" "$@"
+    turn "$key" "$other $key" "$pit" "$@"
+}
+
 # middle_of KEY EXPRESSION: the middle of what an expression of awk gives for each line of the file KEY.
 middle_of() { awk "{ print $2 }" "$work/$1" | middle; }

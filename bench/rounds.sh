@@ -11,13 +11,7 @@ words t: 1 "$@"
 run_on "${others[@]}"
 [ -n "$twin" ] || usage
 
-# both KEY WORD..: a run of each program.
-both() {
-    local key=$1
-    shift
-    turn "twin $key" "twin $key" "$twin" "$@"
-    turn "$key" "twin $key" "$pit" "$@"
-}
+other=twin
 
 # range_of KEY EXPRESSION: the middle, the least and the greatest of what an expression of awk gives for each of five lines of the file KEY.
 range_of() { awk "{ print $2 }" "$work/$1" | sort -g | awk '{ n[NR] = $1 } END { printf "%.2f (%.2f to %.2f)", n[3], n[1], n[5] }'; }

@@ -11,13 +11,7 @@ words n:t: 250000 "$@"
 run_on "${others[@]}"
 [ -n "$twin" ] || usage
 
-# both KEY WORD..: a run of each build.
-both() {
-    local key=$1
-    shift
-    turn "old $key" "old $key" "$twin" "$@"
-    turn "$key" "old $key" "$pit" "$@"
-}
+other=old
 
 for name in "${names[@]}"; do
     rm -f "$work"/*

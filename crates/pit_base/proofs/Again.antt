@@ -23,8 +23,7 @@ use Rattle.pit_show.specs.Show.{shown_count, IsCommentBy, IsComment, IsShown}
 use Rattle.pit_base.specs.Again.{ArePeriodsOf, IsLeadingComment, StandsForLeft, IsShownOf}
 use Rattle.pit_base.proofs.InRange.{DoWritesFit, fit-each}
 use Rattle.pit_base.proofs.Laid.{held-of_schedule}
-use Rattle.pit_base.proofs.LineRange.{stated-in_time}
-use Rattle.pit_base.proofs.Schedules.{as_facts, period-written, lookup-written, written-kind, written-stands, schedule-written}
+use Rattle.pit_base.proofs.Schedules.{as_facts, period-written, lookup-written, stated-in_time, written-kind, written-stands, schedule-written}
 use Rattle.pit_base.proofs.SumDigits.{sum-digits}
 use Rattle.pit_base.proofs.Comments.{comment-leads}
 

@@ -8,7 +8,6 @@ pub mod InRange
 pub mod Entries
 pub mod Lines
 pub mod Schedules
-pub mod LineRange
 pub mod SumDigits
 pub mod Comments
 pub mod Again

@@ -14,7 +14,7 @@ use Rattle.std.proofs.lemmas.List.Elements.{All-head, All-tail, filter_map-appen
 use Rattle.pit_num.specs.declared.parse.TheConstants.{DIGITS_MAX}
 use Rattle.pit_num.specs.Decimal.{are_digits, is_number, whole_of}
 use Rattle.pit_text.specs.Cutting.{Cut, lines_of, cut_from, cut_of}
-use Rattle.pit_text.proofs.CallerLemmas.{schedule_of-same}
+use Rattle.pit_text.proofs.CallerLemmas.{schedule_of-same, period-range}
 use Rattle.pit_state.specs.States.{is_ink, is_history}
 use Rattle.pit_base.specs.Again.{IsLeadingComment}
 use Rattle.pit_model.specs.Fitting.{writes_of}
@@ -25,46 +25,18 @@ use Rattle.pit_text.specs.Solution.{scheduled_pair, period_in_fact, period_in, s
 use Rattle.pit_text.specs.SolutionText.{line_text, solution_text}
 use Rattle.pit_base.proofs.Lines.{IsDigit, AreDigits, decimal-digits, line-cut, comment-cut}
 
--- ---- numbers
-
-digits-pass : (ds : List ℕ) → AreDigits ds → (are_digits ds ≡ true) × (is_ascii ds ≡ true)
-digits-pass [] digits = (refl, refl)
-digits-pass (d ∷ ds) digits =
-    let first : IsDigit d = All-head IsDigit d ds digits in
-    let others = digits-pass ds (All-tail IsDigit d ds digits) in
-    let digit : is_ascii_digit d ≡ true = grind (arith, nat_tests) in
-    let small : nat_lt d 128 ≡ true = grind (arith, nat_tests) in
-    (ap (λ (b : Bool). b && are_digits ds) digit ∙ others.0, ap (λ (b : Bool). b && is_ascii ds) small ∙ others.1)
-
-whole-decimal : (n : ℕ) → n < 2 ^ 32 → whole_of (decimal n) ≡ Ok n
-unfolding whole_of
-whole-decimal n few =
-    let many : n < 2 ^ 64 = omega (arith, few) in
-    let below : n < 10 ^ 10 = omega (arith, few) in
-    let short : length (decimal n) ≤ 10 = length-decimal-le 10 n (lit< tt) below many in
-    let value : digits_value 10 (decimal n) ≡ n = (decimal_is_IsNumeral n many).1 in
-    let some : nat_lt 0 (length (decimal n)) ≡ true = grind (arith, nat_tests, decimal_nonempty n many) in
-    let number : is_number (decimal n) ≡ true = ap (λ (b : Bool). b && are_digits (decimal n)) some ∙ (digits-pass (decimal n) (decimal-digits n many)).0 in
-    let fits : nat_lt DIGITS_MAX (length (decimal n)) ≡ false = grind (arith, nat_tests, short) in
-    let small : nat_le (2 ^ 32) n ≡ false = grind (arith, nat_tests, few) in
-    simp (number, fits, value, small)
-
-field-decimal : (n : ℕ) → n < 2 ^ 32 → whole_field (decimal n) ≡ Ok n
-unfolding whole_field
-field-decimal n few = let many : n < 2 ^ 64 = omega (arith, few) in simp ((digits-pass (decimal n) (decimal-digits n many)).1, whole-decimal n few)
-
 -- ---- lines
 
 abbrev pub Fact : Type 0
 Fact = Option (ℕ × ℕ)
 
-pair-stated : (blocks periods b t : ℕ) (earlier : List Fact) → blocks ≤ 2 ^ 32 → periods ≤ 2 ^ 32 → b < blocks → t < periods → period_in earlier b ≡ None
-    → solution_line blocks periods earlier (decimal b ∷ decimal t ∷ []) ≡ Ok (Some (b, t))
+pair-stated : (blocks periods b t : ℕ) (earlier : List Fact) (first second : List ℕ) → b < blocks → t < periods → period_in earlier b ≡ None → whole_field first ≡ Ok b
+    → whole_field second ≡ Ok t → solution_line blocks periods earlier (first ∷ second ∷ []) ≡ Ok (Some (b, t))
 unfolding solution_line scheduled_pair
-pair-stated blocks periods b t earlier few short below early none =
+pair-stated blocks periods b t earlier first second below early none one other =
     let past : nat_le blocks b ≡ false = grind (arith, nat_tests) in
     let late : nat_le periods t ≡ false = grind (arith, nat_tests) in
-    simp (field-decimal b (omega (arith, few, below)), field-decimal t (omega (arith, short, early)), past, late, none)
+    simp (one, other, past, late, none)
 
 -- another block
 still-new : (earlier : List Fact) (a t b : ℕ) → a ≢ b → period_in earlier b ≡ None → period_in (earlier ++ Some (a, t) ∷ []) b ≡ None
@@ -99,9 +71,9 @@ module _ (blocks periods : ℕ) where
         → AreStated number earlier more → ((t : ℕ) → AreStated (number + 1) (earlier ++ Some (a, t) ∷ []) more) → AreStated number earlier (with_first a o more)
     first-stated a number earlier None more below early new without behind = without
     first-stated a number earlier (Some t) more below early new without behind =
-        subst (λ (cuts : List Cut). StatesAfter (solution_line blocks periods) earlier cuts (Some (a, t) ∷ as_facts more))
-        (sym (line-cut number a t (flat_map line_text more) (omega (arith, below, few)) (omega (arith, early, short))))
-        (pair-stated blocks periods a t earlier few short below early new, behind t)
+        let cut = line-cut number a t (flat_map line_text more) (omega (arith, below, few)) (omega (arith, early, short)) in
+        subst (λ (cuts : List Cut). StatesAfter (solution_line blocks periods) earlier cuts (Some (a, t) ∷ as_facts more)) (sym cut.4)
+        (pair-stated blocks periods a t earlier cut.0 cut.1 below early new cut.2 cut.3, behind t)
 
     stated-from : (a n number : ℕ) (earlier : List Fact) → a + n ≤ blocks → ((b : ℕ) → a ≤ b → period_in earlier b ≡ None) → AreStated number earlier (pairs_from period a n)
     stated-from a zero number earlier within new = subst (λ (cuts : List Cut). StatesAfter (solution_line blocks periods) earlier cuts []) (sym (nothing-cut number)) refl
@@ -156,6 +128,15 @@ lookup-written (pair ∷ more) b =
       | inl here ↦ let back : (pair.0 == b) ≡ true = grind (arith, nat_tests) in simp (here.0, back)
       | inr there ↦ let back : (pair.0 == b) ≡ false = ne_eqb pair.0 b (λ same. there.1 (sym same)) in simp (there.0, back) (lookup-written more b)
     ]
+
+-- a period that lines state is in time
+pub stated-in_time : (blocks periods : ℕ) (earlier : List Fact) (lines : List Cut) (facts : List Fact) (b : ℕ) → StatesAfter (solution_line blocks periods) earlier lines facts
+    → IfSome (period_in facts b) (λ t. t < periods)
+stated-in_time blocks periods earlier lines facts b states = by (period_in facts b) refl
+  where
+    by : (o : Option ℕ) → period_in facts b ≡ o → IfSome o (λ t. t < periods)
+    by None is = tt
+    by (Some t) is = period-range blocks periods earlier facts lines states b t is
 
 -- ---- no history
 
