@@ -1,7 +1,7 @@
 //! Planners between two transactions.
 ghost use Rattle.std.specs.Prelude.{◌≡◌, IfOk, IfErr};
 ghost use Rattle.pit_desk.specs.History.{commits_of};
-ghost use Rattle.pit_board.specs.Fronts.{AreLawful};
+ghost use Rattle.pit_board.specs.Prefixes.{AreLawful};
 ghost use Rattle.pit_share.specs.Planners.{SeesOn, Begins};
 
 use crate::account::Account;

@@ -10,7 +10,7 @@ ghost use Rattle.pit_desk.specs.History.{commits_of};
 ghost use Rattle.pit_desk.specs.Calls.{work_call, entry_reply};
 ghost use Rattle.pit_desk.specs.declared.entry.Act.TheVariants.{Commit as commit_act, Withdraw as withdraw_act};
 ghost use Rattle.pit_desk.specs.declared.reply.EntryReply.TheVariants.{Withdrawn as withdrawn};
-ghost use Rattle.pit_board.specs.Fronts.{AreLawful};
+ghost use Rattle.pit_board.specs.Prefixes.{AreLawful};
 ghost use Rattle.pit_share.specs.Endings.{IsEnded, IsStopped};
 ghost use Rattle.pit_share.specs.Planners.{SeesOn, IsTransactionKept};
 ghost use Rattle.pit_share.specs.Reads.{IsLookedUp};
