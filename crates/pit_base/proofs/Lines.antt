@@ -1,5 +1,5 @@
 -- The lines of a text that was written, and their fields.
-use Rattle.std.proofs.Common.{◌≡◌, ℕ, ◌-◌, ◌<◌, ◌≤◌, ◌^◌, ◌+◌, ◌==◌, ◌||◌, ◌&&◌, not, nat_lt, nat_le, Bool, true, false, cond, List, [], ◌∷◌, ◌++◌, length, take, map, filter, get_or, decimal, Ok, refl, ap, subst, ◌∙◌, sym, suc, arith, lit<, append_assoc}
+use Rattle.std.proofs.Common.{◌≡◌, ℕ, ◌-◌, ◌<◌, ◌≤◌, ◌^◌, ◌+◌, ◌==◌, ◌&&◌, nat_lt, nat_le, Bool, true, false, cond, List, [], ◌∷◌, ◌++◌, length, take, map, filter, get_or, decimal, Ok, refl, ap, subst, ◌∙◌, sym, suc, arith, lit<, append_assoc}
 use Rattle.std.specs.Prelude.{All}
 use Rattle.std.specs.List.{slice_split, onto_first}
 use Rattle.std.specs.Char.{is_ascii_digit}
@@ -129,8 +129,7 @@ line-cut number b t rest few short =
     } in
     let other : IsWholeThen behind t 10 rest = record { digits = decimal t; whole = refl; number = whole-decimal t short } in
     let two = two_fields text behind rest b t one other in
-    let is : IsLineThen text (two.2.first ∷ two.2.second ∷ []) rest = subst (λ (fields : List (List ℕ)). IsLineThen text fields rest) two.2.two two.1 in
-    (
+    let is : IsLineThen text (two.2.first ∷ two.2.second ∷ []) rest = subst (λ (fields : List (List ℕ)). IsLineThen text fields rest) two.2.two two.1 in (
       two.2.first,
       two.2.second,
       two.2.one,

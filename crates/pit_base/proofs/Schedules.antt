@@ -1,24 +1,20 @@
 -- What the lines of a schedule state, and what the schedule leaves.
-use Rattle.std.proofs.Common.{◌≡◌, ◌≢◌, ℕ, zero, suc, ◌+◌, ◌<◌, ◌≤◌, ◌^◌, ◌==◌, ◌&&◌, inl, inr, nat_eq, nat_lt, nat_le, Bool, true, false, List, [], ◌∷◌, ◌++◌, length, map, decimal, Option, Some, None, IfSome, Ok, refl, sym, ap, subst, ◌∙◌, arith, lit<, append_assoc}
+use Rattle.std.proofs.Common.{◌≡◌, ◌≢◌, ℕ, zero, suc, ◌+◌, ◌<◌, ◌≤◌, ◌^◌, ◌==◌, inl, inr, nat_eq, nat_le, true, false, List, [], ◌∷◌, ◌++◌, length, map, decimal, Option, Some, None, IfSome, Ok, refl, sym, ap, subst, ◌∙◌, arith, append_assoc}
 use Rattle.std.specs.Prelude.{unwrap_or}
 use Rattle.std.specs.List.{flat_map, filter_map, cons_option, range_with_len}
 use Rattle.std.specs.Option.{option_map}
 use Rattle.std.specs.Map.{lookup}
-use Rattle.std.specs.Char.{is_ascii_digit}
-use Rattle.std.specs.Str.Parse.{digits_value}
 use Rattle.std.proofs.lemmas.Bool.{ne_eqb}
 use Rattle.std.proofs.lemmas.Bool.Decides.{nat_tests, eqb_tells}
-use Rattle.std.proofs.lemmas.Fmt.{decimal_is_IsNumeral, decimal_nonempty, length-decimal-le}
+use Rattle.std.proofs.lemmas.Fmt.{decimal_nonempty}
 use Rattle.std.proofs.lemmas.List.{append-nil}
-use Rattle.std.proofs.lemmas.List.Elements.{All-head, All-tail, filter_map-append}
-use Rattle.pit_num.specs.declared.parse.TheConstants.{DIGITS_MAX}
-use Rattle.pit_num.specs.Decimal.{are_digits, is_number, whole_of}
+use Rattle.std.proofs.lemmas.List.Elements.{All-head, filter_map-append}
 use Rattle.pit_text.specs.Cutting.{Cut, lines_of, cut_from, cut_of}
 use Rattle.pit_text.proofs.CallerLemmas.{schedule_of-same, period-range}
 use Rattle.pit_state.specs.States.{is_ink, is_history}
 use Rattle.pit_base.specs.Again.{IsLeadingComment}
 use Rattle.pit_model.specs.Fitting.{writes_of}
-use Rattle.pit_text.specs.Numbers.{is_ascii, whole_field}
+use Rattle.pit_text.specs.Numbers.{whole_field}
 use Rattle.pit_text.specs.Stands.{StatesAfter, StandsFor}
 use Rattle.pit_text.specs.Earlier.{first_of}
 use Rattle.pit_text.specs.Solution.{scheduled_pair, period_in_fact, period_in, solution_line, pair_of, schedule_of}
