@@ -1,4 +1,4 @@
--- How the words of the command line have a plan run and told.
+-- How the words of the command line have a plan run and reported.
 use Rattle.std.specs.Prelude.{codes}
 use Rattle.clap.specs.declared.parser.matches.ArgMatches.{ArgMatches}
 use Rattle.pit_command.specs.Asked.{IsFlag}

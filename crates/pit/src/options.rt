@@ -7,7 +7,7 @@ use clap::ArgMatches;
 use pit_cli::PlanOptions;
 use pit_command::{is_in_turn, is_strict};
 
-/// How the words have a plan run and told.
+/// How the words have a plan run and reported.
 pub fn options_of(given: &ArgMatches<'_>) -> PlanOptions
     ensures are { AreOptions given.now result }
     ensures few { result.retries ≤ RETRIES_MAX }

@@ -1,5 +1,5 @@
 -- The lines of a text that was written, and their fields.
-use Rattle.std.proofs.Common.{◌≡◌, ℕ, ◌-◌, ◌<◌, ◌≤◌, ◌^◌, ◌+◌, ◌==◌, ◌&&◌, nat_lt, nat_le, Bool, true, false, cond, List, [], ◌∷◌, ◌++◌, length, take, map, filter, get_or, decimal, Ok, refl, ap, subst, ◌∙◌, sym, suc, arith, lit<, append_assoc}
+use Rattle.std.proofs.Common.{◌≡◌, ℕ, ◌-◌, ◌<◌, ◌≤◌, ◌^◌, ◌+◌, ◌==◌, ◌&&◌, nat_lt, nat_le, Bool, true, false, cond, List, [], ◌∷◌, ◌++◌, length, take, map, filter, get_or, decimal, Ok, refl, ap, ◌∙◌, sym, suc, arith, lit<, append_assoc}
 use Rattle.std.specs.Prelude.{All}
 use Rattle.std.specs.List.{slice_split, onto_first}
 use Rattle.std.specs.Char.{is_ascii_digit}
@@ -15,10 +15,9 @@ use Rattle.pit_num.specs.Decimal.{are_digits, is_number, whole_of}
 use Rattle.pit_num.specs.Front.{IsWholeThen}
 use Rattle.pit_num.specs.Lines.{without_empty_last}
 use Rattle.pit_text.specs.Cutting.{without_return, lines_of, is_gap, fields_of, begins_with_eof, is_last, cut_from}
-use Rattle.pit_text.specs.Inside.Plain.{IsLineThen}
 use Rattle.pit_text.specs.Numbers.{whole_field}
 use Rattle.pit_text.specs.SolutionText.{line_text}
-use Rattle.pit_text.proofs.CallerLemmas.{has_parts, skipped_line, two_fields, plain_cut}
+use Rattle.pit_text.proofs.CallerLemmas.{has_parts, skipped_line, two_cut}
 use Rattle.pit_base.specs.Marks.{is_feed}
 
 -- ---- bytes
@@ -128,11 +127,4 @@ line-cut number b t rest few short =
       number = whole-decimal b few;
     } in
     let other : IsWholeThen behind t 10 rest = record { digits = decimal t; whole = refl; number = whole-decimal t short } in
-    let two = two_fields text behind rest b t one other in
-    let is : IsLineThen text (two.2.first ∷ two.2.second ∷ []) rest = subst (λ (fields : List (List ℕ)). IsLineThen text fields rest) two.2.two two.1 in (
-      two.2.first,
-      two.2.second,
-      two.2.one,
-      two.2.other,
-      plain_cut text rest two.2.first (two.2.second ∷ []) (two.2.first ∷ two.2.second ∷ []) number false refl is refl,
-    )
+    two_cut number b t text behind rest one other

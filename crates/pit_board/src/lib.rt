@@ -1,6 +1,6 @@
 //! The board: what planners see of the commits without a lock.
 //!
-//! The commits of a session are one list. A `Prefix` is a prefix of it that somebody has seen; of any two prefixes one is a prefix of the other. The
+//! The entries of a session are one list. A `Prefix` is a prefix of it that somebody has seen; of any two prefixes one is a prefix of the other. The
 //! `Publisher` has the desk enter a commit, adds it to the list, and publishes it; it stands behind the lock. Each planner has a `View`: a place at the
 //! board, and the prefix that it has seen, which only grows. A view shows a block as the whole of what it has seen leaves it, and waits for nobody.
 //! The type of a prefix keeps that each prefix of it leaves a good schedule under the limits then in force.

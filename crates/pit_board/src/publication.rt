@@ -19,13 +19,13 @@ pub struct Publication<S: Session, A: Allocator + Copy + Drop> {
 impl<S: Session, A: Allocator + Copy + Drop> Model for Publication<S, A> {
     ghost use Rattle.std.specs.Prelude.{◌≡◌, ◌++◌, ◌∷◌, []};
     ghost use Rattle.pit_desk.specs.History.{commits_of};
-    ghost use Rattle.pit_board.specs.Inside.Boards.{Published};
+    ghost use Rattle.pit_board.specs.Inside.Boards.{Publishing};
 
-    ghost Value = { Published };
+    ghost Value = { Publishing };
 
-    ghost view = { λ s. record { before = s.before; after = s.after } };
+    ghost view = { λ p. record { before = p.before; after = p.after } };
 
-    ghost invariant = { λ s. commits_of s.after ≡ commits_of s.before ++ s.changes ∷ [] };
+    ghost invariant = { λ p. commits_of p.after ≡ commits_of p.before ++ p.changes ∷ [] };
 }
 
 impl<S: Session, A: Allocator + Copy + Drop> Publication<S, A> {
@@ -50,9 +50,9 @@ pub struct Operation<S: Session, A: Allocator + Copy + Drop> {
 
 impl<S: Session, A: Allocator + Copy + Drop> Model for Operation<S, A> {
     ghost use Rattle.std.specs.Prelude.{Option};
-    ghost use Rattle.pit_board.specs.Inside.Boards.{Published};
+    ghost use Rattle.pit_board.specs.Inside.Boards.{Publishing};
 
-    ghost Value = { Option Published };
+    ghost Value = { Option Publishing };
 
     ghost view = { λ o. o.publication };
 }

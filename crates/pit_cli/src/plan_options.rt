@@ -1,4 +1,4 @@
-/// How a plan is run and told.
+/// How a plan is run and reported.
 #[derive(Clone, Copy, Debug, PartialEq, Eq)]
 pub struct PlanOptions {
     /// How often a job that meets a change of another planner is repeated, up to `RETRIES_MAX` times.

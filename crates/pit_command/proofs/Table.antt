@@ -14,15 +14,15 @@ map_more : {A B : Type 0} (f : A → B) (rows : List A) (i : ℕ) (row : A) → 
 map_more f rows i row h = rw (add-one, take-suc rows i row h) (map-append f (take i rows) (get_or rows i row ∷ []))
 
 -- a subcommand with some arguments
-abbrev pub app_of : List ℕ → List Argument → App
-app_of name arguments = record {
+abbrev pub app_with : List ℕ → List Argument → App
+app_with name arguments = record {
   top = record (new_shape name) { rules = map rule_for arguments };
   subs = [];
 }
 
 -- one more argument
 pub argument_more : (old new : App) (name : List ℕ) (rows : List Argument) (i : ℕ) (row : Argument) (rule : Rule) → i < length rows
-    → old ≡ app_of name (take i rows) → rule ≡ rule_for (get_or rows i row) → new ≡ with_rule old rule → new ≡ app_of name (take (i + 1) rows)
+    → old ≡ app_with name (take i rows) → rule ≡ rule_for (get_or rows i row) → new ≡ with_rule old rule → new ≡ app_with name (take (i + 1) rows)
 argument_more old new name rows i row rule h was here adds = rw (adds, was, here, map_more rule_for rows i row h) refl
 
 begun_more : (shapes : List Shape) (shape : Shape) → with_subcommand (app_begun shapes) shape ≡ app_begun (shapes ++ shape ∷ [])

@@ -12,7 +12,7 @@ use Rattle.pit_state.specs.States.{IsStateFault, state_step}
 use Rattle.pit_state.specs.Views.{IsViewed}
 use Rattle.pit_diff.specs.DiffText.{diff_answer}
 
--- the new schedule, of which is told what differs from what the commits of the old one leave
+-- the new schedule, of which is written what differs from what the commits of the old one leave
 abbrev pub new_step : Reading → Step CliFault (Pit × List Commit) (List ℕ × Status)
 new_step new = input_step New new (λ given. IsViewed (λ pit commits. diff_answer pit given.1 commits) given.0) (λ given. IsStateFault New given.0)
 

@@ -1,4 +1,4 @@
--- Which conflicts are told, and of which edits there is no change.
+-- Which conflicts are reported, and of which edits there is no change.
 use Rattle.std.proofs.Common.{◌≡◌, ℕ, zero, suc, ◌<◌, Bool, true, false, cond, List, [], ◌∷◌, length, get_or, Option, Some, None, refl, ap, subst, ◌∙◌, arith}
 use Rattle.std.specs.Prelude.{Contains, ◌||◌, ◌&&◌, not, if◌then◌else◌}
 use Rattle.std.specs.List.{filter, range_with_len}
@@ -39,8 +39,8 @@ module _ (p : ℕ → Bool) where
 -- ---- conflicts
 
 module _ (is_partial : Bool) (reply : Option EntryReply) (start : ℕ) (version : ℕ → ℕ) (changes : List ℕ) (b : ℕ) where
-  pub told : Contains (reported_of is_partial reply (late_of start version changes)) b → Contains changes b × (start < version b)
-  told = by (is_partial || was_moved reply)
+  pub reported : Contains (reported_of is_partial reply (late_of start version changes)) b → Contains changes b × (start < version b)
+  reported = by (is_partial || was_moved reply)
     where
       by : (tells : Bool) → Contains (if tells then late_of start version changes else []) b → Contains changes b × (start < version b)
       by true among = (kept-one (is_late start version) changes b among, ltb-true start (version b) (kept-passes (is_late start version) changes b among))

@@ -12,7 +12,7 @@ use Rattle.pit_edit.proofs.Filters.{changes-known, changes-rising, kept-known, k
 pub reviewed : (is_partial : Bool) (edit : Edit) (plan : Standing) (makers changes late kept : List ℕ) (start count left : ℕ) (conflicts : List ℕ) → start ≡ edit.start → changes ≡ changes_on plan edit
     → late ≡ part_of true start (version_of plan) changes → kept ≡ kept_of is_partial start (version_of plan) changes → count ≡ length changes → left ≡ cond is_partial (length late) 0
     → conflicts ≡ conflicts_text edit (period_of plan) (writer_in plan makers) late → IsReview is_partial edit plan makers kept count left conflicts
-reviewed is_partial edit plan makers changes late kept start count left conflicts same found late_is kept_is counted left_is told =
+reviewed is_partial edit plan makers changes late kept start count left conflicts same found late_is kept_is counted left_is reported =
     let version : ℕ → ℕ = version_of plan in
     let all_late : late ≡ late_of edit.start version (changes_on plan edit) =
     late_is ∙ (ap (λ (n : ℕ). part_of true n version changes) same ∙ ap (λ (bs : List ℕ). part_of true edit.start version bs) found) in
@@ -20,7 +20,7 @@ reviewed is_partial edit plan makers changes late kept start count left conflict
       kept_are = kept_is ∙ (ap (λ (n : ℕ). kept_of is_partial n version changes) same ∙ ap (λ (bs : List ℕ). kept_of is_partial edit.start version bs) found);
       changes_are = counted ∙ ap (λ (bs : List ℕ). length bs) found;
       left_are = left-count is_partial edit.start version (changes_on plan edit) late left all_late left_is;
-      conflicts_are = told ∙ ap (λ (bs : List ℕ). conflicts_text edit (period_of plan) (writer_in plan makers) bs) all_late;
+      conflicts_are = reported ∙ ap (λ (bs : List ℕ). conflicts_text edit (period_of plan) (writer_in plan makers) bs) all_late;
     }
 
 -- the blocks that are written

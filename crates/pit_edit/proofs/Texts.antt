@@ -34,28 +34,28 @@ pub given-ok : {X Y P : Type 0} (result : Result X Y) → IsOk result → OnOk r
 given-ok (Ok x) is p = p
 given-ok (Err e) is p = absurd (false≢true is)
 
--- ---- all late changes are told, or there are none
+-- ---- all late changes are reported, or there are none
 
 either-way : (b : Bool) → ◌≡◌ {A = List ℕ} (cond b [] []) []
 either-way true = refl
 either-way false = refl
 
-told-if : (moved : Bool) (late : List ℕ) → (late ≢ [] → moved ≡ true) → cond moved late [] ≡ late
-told-if true late is = refl
-told-if false [] is = refl
-told-if false (b ∷ late) is = absurd (false≢true (is (λ none. cc none)))
+reported-if : (moved : Bool) (late : List ℕ) → (late ≢ [] → moved ≡ true) → cond moved late [] ≡ late
+reported-if true late is = refl
+reported-if false [] is = refl
+reported-if false (b ∷ late) is = absurd (false≢true (is (λ none. cc none)))
 
-told-by : (pit : Pit) (before : List Answered) (edit : Edit) (changes : List ℕ) (after : List Answered) (reply : Option EntryReply) → edit.start ≤ length (commits_of before)
+reported-by : (pit : Pit) (before : List Answered) (edit : Edit) (changes : List ℕ) (after : List Answered) (reply : Option EntryReply) → edit.start ≤ length (commits_of before)
     → IsEntered pit before edit changes after reply
     → let late = late_of edit.start (last_number (commits_of before)) changes in reported_of false reply late ≡ late
-told-by pit before edit [] after reply seen entered = either-way (was_moved reply)
-told-by pit before edit (b ∷ changes) after reply seen entered =
+reported-by pit before edit [] after reply seen entered = either-way (was_moved reply)
+reported-by pit before edit (b ∷ changes) after reply seen entered =
     let late = late_of edit.start (last_number (commits_of before)) (b ∷ changes) in
     subst (λ (r : Option EntryReply). reported_of false r late ≡ late) (sym entered.reply_is)
-    (told-if (was_moved (Some entered.due)) late (moved-late (commits_of before) edit (b ∷ changes) pit entered.due seen entered.is_due).1)
+    (reported-if (was_moved (Some entered.due)) late (moved-late (commits_of before) edit (b ∷ changes) pit entered.due seen entered.is_due).1)
 
-pub told-late : (is_partial : Bool) (pit : Pit) (before : List Answered) (edit : Edit) (changes : List ℕ) (after : List Answered) (reply : Option EntryReply) → edit.start ≤ length (commits_of before)
+pub reported-late : (is_partial : Bool) (pit : Pit) (before : List Answered) (edit : Edit) (changes : List ℕ) (after : List Answered) (reply : Option EntryReply) → edit.start ≤ length (commits_of before)
     → IsEntered pit before edit (kept_of is_partial edit.start (last_number (commits_of before)) changes) after reply
     → let late = late_of edit.start (last_number (commits_of before)) changes in reported_of is_partial reply late ≡ late
-told-late true pit before edit changes after reply seen entered = refl
-told-late false pit before edit changes after reply seen entered = told-by pit before edit changes after reply seen entered
+reported-late true pit before edit changes after reply seen entered = refl
+reported-late false pit before edit changes after reply seen entered = reported-by pit before edit changes after reply seen entered

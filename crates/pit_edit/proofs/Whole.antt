@@ -1,4 +1,4 @@
--- An edit that was reviewed on a desk's plan and told is merged.
+-- An edit that was reviewed on a desk's plan and reported is merged.
 use Rattle.std.proofs.Common.{◌≡◌, ℕ, ◌<◌, ◌≤◌, ◌==◌, ◌&&◌, Bool, List, ◌++◌, length, Option, refl, sym, ap, subst, ◌∙◌}
 use Rattle.std.specs.Prelude.{All}
 use Rattle.std.proofs.lemmas.List.Elements.{All-filter}
@@ -14,11 +14,11 @@ use Rattle.pit_edit.specs.EditText.{entry_number, edit_cause, edit_line, conflic
 use Rattle.pit_edit.specs.Merging.{Merging, IsMerged, was_granted}
 use Rattle.pit_edit.specs.Inside.Reviews.{writer_in, changes_on, IsReview, IsReported}
 use Rattle.pit_edit.proofs.Filters.{changes-known, changes-same, late-same, kept-same, left-same}
-use Rattle.pit_edit.proofs.Texts.{conflicts-same, told-late}
+use Rattle.pit_edit.proofs.Texts.{conflicts-same, reported-late}
 
 module _ (is_partial : Bool) (edit : Edit) (old new : Merging) (makers kept : List ℕ) (changes left : ℕ) (conflicts : List ℕ) (follows : Follows old.desk.history old.desk.plan)
     (made : AreMakers old.desk.history makers) (seen : edit.start ≤ length (commits_of old.desk.history)) (review : IsReview is_partial edit old.desk.plan makers kept changes left conflicts)
-    (told : IsReported edit kept changes left conflicts old new) where
+    (reported : IsReported edit kept changes left conflicts old new) where
   abbrev plan : Standing
   plan = old.desk.plan
 
@@ -64,18 +64,18 @@ module _ (is_partial : Bool) (edit : Edit) (old new : Merging) (makers kept : Li
       ∙ conflicts-same blocks edit (period_of plan) (held_period commits) (writer_in plan makers) (last_writer old.desk.history) (late_of edit.start (last_number commits) found)
       (All-filter (is_late edit.start (last_number commits)) (λ b. b < blocks) found known) follows.stands.period same-writer))
 
-  same-text : edit_line edit.number told.answer.entry changes left told.answer.cause told.answer.reply ++ conflicts
-      ≡ edit_text is_partial old.desk.history edit found kept told.answer.reply
+  same-text : edit_line edit.number reported.answer.entry changes left reported.answer.cause reported.answer.reply ++ conflicts
+      ≡ edit_text is_partial old.desk.history edit found kept reported.answer.reply
   same-text =
-      let reply = told.answer.reply in
+      let reply = reported.answer.reply in
       let late = late_of edit.start (last_number commits) found in
-      let all = told-late is_partial plan.pit old.desk.history edit found new.desk.history reply seen
-      (subst (λ (bs : List ℕ). IsEntered plan.pit old.desk.history edit bs new.desk.history reply) same-kept told.is_answer.entered) in
-      ap (λ (x : Option ℕ). edit_line edit.number x changes left told.answer.cause reply ++ conflicts) told.is_answer.entry_is
-      ∙ (ap (λ (n : ℕ). edit_line edit.number (entry_number old.desk.history reply) n left told.answer.cause reply ++ conflicts) same-count
-      ∙ (ap (λ (n : ℕ). edit_line edit.number (entry_number old.desk.history reply) (length found) n told.answer.cause reply ++ conflicts) same-left
+      let all = reported-late is_partial plan.pit old.desk.history edit found new.desk.history reply seen
+      (subst (λ (bs : List ℕ). IsEntered plan.pit old.desk.history edit bs new.desk.history reply) same-kept reported.is_answer.entered) in
+      ap (λ (x : Option ℕ). edit_line edit.number x changes left reported.answer.cause reply ++ conflicts) reported.is_answer.entry_is
+      ∙ (ap (λ (n : ℕ). edit_line edit.number (entry_number old.desk.history reply) n left reported.answer.cause reply ++ conflicts) same-count
+      ∙ (ap (λ (n : ℕ). edit_line edit.number (entry_number old.desk.history reply) (length found) n reported.answer.cause reply ++ conflicts) same-left
       ∙ (ap (λ (x : Option ℕ). edit_line edit.number (entry_number old.desk.history reply) (length found) (length (left_of is_partial edit.start (last_number commits) found)) x reply ++ conflicts)
-      told.is_answer.cause_is
+      reported.is_answer.cause_is
       ∙ ap (λ (text : List ℕ). edit_line edit.number (entry_number old.desk.history reply) (length found) (length (left_of is_partial edit.start (last_number commits) found))
       (edit_cause old.desk.history edit kept reply) reply ++ text)
       (same-conflicts ∙ sym (ap (λ (bs : List ℕ). conflicts_text edit (held_period commits) (last_writer old.desk.history) bs) all)))))
@@ -88,10 +88,10 @@ module _ (is_partial : Bool) (edit : Edit) (old new : Merging) (makers kept : Li
     kept_are = same-kept;
     left = left_of is_partial edit.start (last_number commits) found;
     left_are = refl;
-    reply = told.answer.reply;
-    entered = told.is_answer.entered;
-    same_pit = told.same_pit;
-    same_limit = told.same_limit;
-    told = told.lines ∙ ap (λ (text : List ℕ). old.lines ++ text) same-text;
-    whole = told.whole ∙ ap (λ (n : ℕ). old.is_whole && (was_granted told.answer.reply && n == 0)) same-left;
+    reply = reported.answer.reply;
+    entered = reported.is_answer.entered;
+    same_pit = reported.same_pit;
+    same_limit = reported.same_limit;
+    reported = reported.lines ∙ ap (λ (text : List ℕ). old.lines ++ text) same-text;
+    whole = reported.whole ∙ ap (λ (n : ℕ). old.is_whole && (was_granted reported.answer.reply && n == 0)) same-left;
   }

@@ -1,4 +1,4 @@
--- What is told of an edit.
+-- What is reported of an edit.
 use Rattle.std.specs.Prelude.{ℕ, ◌+◌, ◌-◌, ◌||◌, nat_le, Bool, true, false, List, [], ◌∷◌, ◌++◌, length, take, flat_map, Option, Some, None, codes, if◌then◌else◌}
 use Rattle.pit_plan.specs.Schedule.{held_period, last_number}
 use Rattle.pit_desk.specs.History.{Answered, commits_of}
@@ -62,7 +62,7 @@ more_text count = if nat_le count CONFLICTS_SHOWN then [] else codes "more " ++ 
 abbrev pub conflicts_text : Edit → (ℕ → Option ℕ) → (ℕ → Option ℕ) → List ℕ → List ℕ
 conflicts_text edit held writer blocks = conflict_lines edit held writer (take CONFLICTS_SHOWN blocks) ++ more_text (length blocks)
 
--- ---- which are told
+-- ---- which are reported
 
 -- the edit was refused since a block that it writes was written behind its base
 abbrev pub was_moved_by : Refusal → Bool
@@ -78,7 +78,7 @@ was_moved (Some (Committed number)) = false
 was_moved (Some (Refused why)) = was_moved_by why
 was_moved (Some Withdrawn) = false
 
--- those of the late changes that are told: all where they were left out, or where the edit was refused so
+-- those of the late changes that are reported: all where they were left out, or where the edit was refused so
 abbrev pub reported_of : Bool → Option EntryReply → List ℕ → List ℕ
 reported_of is_partial reply late = if is_partial || was_moved reply then late else []
 

@@ -22,7 +22,7 @@ was_granted (Some (Committed number)) = true
 was_granted (Some (Refused why)) = false
 was_granted (Some Withdrawn) = true
 
--- its call is answered, and told; the desk has one entry more at most
+-- its call is answered, and reported; the desk has one entry more at most
 pub record IsMerged (is_partial : Bool) (edit : Edit) (old new : Merging) : Type 0 where
   pub changes : List ℕ
   pub changes_are : changes ≡ changes_of old.desk.plan.pit.blocks edit (held_period (commits_of old.desk.history))
@@ -34,5 +34,5 @@ pub record IsMerged (is_partial : Bool) (edit : Edit) (old new : Merging) : Type
   pub entered : IsEntered old.desk.plan.pit old.desk.history edit kept new.desk.history reply
   pub same_pit : new.desk.plan.pit ≡ old.desk.plan.pit
   pub same_limit : new.desk.max_entries ≡ old.desk.max_entries
-  pub told : new.lines ≡ old.lines ++ edit_text is_partial old.desk.history edit changes kept reply
+  pub reported : new.lines ≡ old.lines ++ edit_text is_partial old.desk.history edit changes kept reply
   pub whole : new.is_whole ≡ (old.is_whole && (was_granted reply && length left == 0))

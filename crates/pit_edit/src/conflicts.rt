@@ -12,7 +12,7 @@ use pit_plan::Plan;
 use pit_step::{empty_text, gathered, write_field, write_numbered, write_period};
 use std::alloc::Allocator;
 
-/// How many conflicts of an edit are told one by one.
+/// How many conflicts of an edit are reported one by one.
 pub const CONFLICTS_SHOWN: u64 = 1_000;
 
 /// A line for each of the first of these blocks, and how many more there are.
@@ -51,7 +51,7 @@ fn write_conflicts<A: Allocator + Copy + Drop, W: Sink>(
     write_more(w, blocks.len() as u64)
 }
 
-/// The first of these blocks, as many as are told.
+/// The first of these blocks, as many as are reported.
 fn first_of(blocks: &[u32]) -> &[u32]
     ensures { result.now ≡ take CONFLICTS_SHOWN blocks.now }
 {
@@ -122,7 +122,7 @@ fn write_line<W: Sink>(
     write_period(w, edit.wanted_period(b), b"\n")
 }
 
-/// How many of so many are not told, where any are not.
+/// How many of so many are not reported, where any are not.
 fn write_more<W: Sink>(w: &mut W, count: u64) -> Result<(), WriteFault>
     ensures { OnOk result (Appends (W.contents w.old) (W.contents w.new) (more_text count)) }
 {

@@ -2,7 +2,7 @@
 //!
 //! What the transaction read are the base's periods of the blocks that the edit changes, and what it writes are the edit's. So an edit that somebody has
 //! made already is no change, a block that somebody else has changed since is a conflict, and the rules of the pit are judged on the merged schedule.
-//! `Merging` keeps the desk, the lines that tell of the edits, and whether each was merged whole.
+//! `Merging` keeps the desk, the lines that report the edits, and whether each was merged whole.
 #![tactic(auto)]
 
 mod answer;

@@ -20,7 +20,7 @@ use pit_num::NoMemory;
 use std::alloc::Allocator;
 use std::marker::Model;
 
-/// A desk on which edits are merged, the lines that tell of them, and whether each was merged whole. Its type keeps that each commit has the number
+/// A desk on which edits are merged, the lines that report them, and whether each was merged whole. Its type keeps that each commit has the number
 /// of the entry that made it.
 #[derive(Drop)]
 pub struct Merging<A: Allocator + Copy + Drop> {
@@ -103,11 +103,11 @@ impl<A: Allocator + Copy + Drop> Merging<A> {
         ensures { OnOk result (IsReported edit.now review.now.kept.items review.now.changes review.now.left review.now.conflicts.items self.old self.new) }
     {
         let answer = answer_to(alloc, &mut self.desk, &mut self.makers, edit, &review.kept)?;
-        self.tell(alloc, edit.number, review, answer)
+        self.report(alloc, edit.number, review, answer)
     }
 
     /// Adds the lines of an edit with this answer.
-    fn tell(
+    fn report(
         &mut self,
         alloc: A,
         number: u32,

@@ -54,7 +54,7 @@ abbrev pub rendered_step : Bool → Step CliFault (Pit × List ℕ) (List ℕ)
 rendered_step with_places =
     judge_step (λ given text. IsInfo with_places given.0 given.1 text) (λ given fault. fault ≡ NoMemory)
 
--- The model, the precedences, the places where there is a source for them, and then what is told of them is written.
+-- The model, the precedences, the places where there is a source for them, and then what is rendered of them is written.
 abbrev pub info_run : Reading → Reading → Option Reading → Writing → Step CliFault (Unit {0}) Status
 info_run model precedence blocks out =
     in_turn (inputs_step model precedence blocks) (in_turn (rendered_step (is_some blocks)) (write_step out (λ text. text) (λ _. Fine)))

@@ -74,7 +74,7 @@ record LeadsOn (is_partial : Bool) (edit : Edit) (old new : SoFar) : Type 0 wher
   pub same_pit : new.pit ≡ old.pit
   pub same_ours : new.ours ≡ old.ours
   pub same_resumed : new.is_resumed ≡ old.is_resumed
-  pub told : new.lines ≡ old.lines ++ edit_text is_partial old.history edit (changed edit old) (written is_partial edit old) reply
+  pub reported : new.lines ≡ old.lines ++ edit_text is_partial old.history edit (changed edit old) (written is_partial edit old) reply
   pub whole : new.is_whole ≡ (old.is_whole && (was_granted reply && length (left_out is_partial edit old) == 0))
 
 taken-leads : (options : MergeOptions) (number : ℕ) (text : List ℕ) (old new : Merged) (is : IsTaken options number text old new) → LeadsOn options.is_partial is.edit (so_far old) (so_far new)
@@ -90,7 +90,7 @@ taken-leads options number text old new is =
       same_pit = m.same_pit;
       same_ours = is.same_ours;
       same_resumed = is.same_resumed;
-      told = m.told
+      reported = m.reported
           ∙ (ap (λ (bs : List ℕ). old.merging.lines ++ edit_text options.is_partial before is.edit bs m.kept m.reply) m.changes_are
           ∙ ap (λ (bs : List ℕ). old.merging.lines ++ edit_text options.is_partial before is.edit (changed is.edit (so_far old)) bs m.reply) kept);
       whole = m.whole ∙ ap (λ (bs : List ℕ). old.merging.is_whole && (was_granted m.reply && length bs == 0)) left;
@@ -115,7 +115,7 @@ module _ (one_reply : IsOneReply) where
   one-lead is_partial edit old new other p q =
       let same = one-entry old.pit old.history edit (written is_partial edit old) new.history other.history p.reply q.reply p.entered q.entered in
       same-so_far new other (p.same_pit ∙ sym q.same_pit) same.0 (p.same_ours ∙ sym q.same_ours) (p.same_resumed ∙ sym q.same_resumed)
-      (p.told ∙ (ap (λ (r : Option EntryReply). old.lines ++ edit_text is_partial old.history edit (changed edit old) (written is_partial edit old) r) same.1 ∙ sym q.told))
+      (p.reported ∙ (ap (λ (r : Option EntryReply). old.lines ++ edit_text is_partial old.history edit (changed edit old) (written is_partial edit old) r) same.1 ∙ sym q.told))
       (p.whole ∙ (ap (λ (r : Option EntryReply). old.is_whole && (was_granted r && length (left_out is_partial edit old) == 0)) same.1 ∙ sym q.whole))
 
 -- ---- the edit of a text

@@ -19,7 +19,7 @@ use Rattle.pit_step.specs.Devices.{Reading, Writing, write_step}
 use Rattle.pit_step.proofs.CallerLemmas.{IsDetermined, IsSeen, IsOfInputs, IsOneHistory, IsNeverBad, IsOneFault, never_two, inputs-seen, in_turn-determined, may-decided, write-determined}
 use Rattle.pit_opening.specs.Openings.{Opened, is_resumed, entries_before, IsGoodOpening, IsDeskFault}
 use Rattle.pit_opening.proofs.CallerLemmas.{refusal_early}
-use Rattle.pit_output.specs.Outputs.{new_line, Keeping, keep_step, Outputs, both_step, end_step, outputs_run, IsUnwritten}
+use Rattle.pit_output.specs.Outputs.{new_line, Keeping, keep_step, Outputs, streams_step, end_step, outputs_run, IsUnwritten}
 use Rattle.pit_output.proofs.CallerLemmas.{shown, outputs_given, outputs_failed, outputs_left}
 use Rattle.pit_merge.specs.declared.options.MergeOptions.{MergeOptions}
 use Rattle.pit_merge.specs.Prepared.{Prepared}
@@ -156,17 +156,17 @@ end-determined status given = record {
 }
 
 module _ (out lines : Writing) (kept : Option Keeping) (texts : Outputs) (status : Status) where
-  both-determined : (given : Unit {0}) → IsDetermined IsSeen (both_step texts out lines) given
+  both-determined : (given : Unit {0}) → IsDetermined IsSeen (streams_step texts out lines) given
   both-determined given =
       in_turn-determined IsSeen (write_step out (λ _. texts.solution) (λ _. tt {0})) (write_step lines (λ _. texts.report) (λ _. tt {0})) given
       (write-determined out (λ _. texts.solution) (λ _. tt {0}) given) (λ (between : Unit {0}). write-determined lines (λ _. texts.report) (λ _. tt {0}) between)
 
   outputs-determined : (is_first : Bool) (given : Unit {0}) → IsDetermined IsSeen (outputs_run is_first texts (Ok status) out lines kept) given
   outputs-determined true given =
-      in_turn-determined IsSeen (keep_step kept texts.history) (in_turn (both_step texts out lines) (end_step (Ok status))) given (keep-determined kept texts.history given)
-      (λ (between : Unit {0}). in_turn-determined IsSeen (both_step texts out lines) (end_step (Ok status)) between (both-determined between) (end-determined status))
+      in_turn-determined IsSeen (keep_step kept texts.history) (in_turn (streams_step texts out lines) (end_step (Ok status))) given (keep-determined kept texts.history given)
+      (λ (between : Unit {0}). in_turn-determined IsSeen (streams_step texts out lines) (end_step (Ok status)) between (both-determined between) (end-determined status))
   outputs-determined false given =
-      in_turn-determined IsSeen (both_step texts out lines) (in_turn (keep_step kept texts.history) (end_step (Ok status))) given (both-determined given)
+      in_turn-determined IsSeen (streams_step texts out lines) (in_turn (keep_step kept texts.history) (end_step (Ok status))) given (both-determined given)
       (λ (between : Unit {0}). in_turn-determined IsSeen (keep_step kept texts.history) (end_step (Ok status)) between (keep-determined kept texts.history between) (end-determined status))
 
 -- by what matters of where the merge stands

@@ -1,4 +1,4 @@
-//! What is told of a merge.
+//! The report of a merge.
 ghost use Rattle.std.specs.Prelude.{◌≡◌, ◌++◌, IfOk, OnOk, codes};
 ghost use Rattle.std.specs.Io.KnownBytes.{Appends};
 ghost use Rattle.pit_desk.specs.History.{commits_of};
@@ -24,11 +24,11 @@ pub(crate) fn reported<A: Allocator + Copy + Drop>(
     let plan = merging.desk().plan();
     let shorts = plan.shortfalls()?;
     let mut text = empty_text(alloc);
-    let written = write_report(&mut text, is_new, merging.lines(), plan.value(), &shorts);
+    let written = write_all(&mut text, is_new, merging.lines(), plan.value(), &shorts);
     gathered(text, written)
 }
 
-fn write_report<W: Sink>(
+fn write_all<W: Sink>(
     w: &mut W,
     is_new: bool,
     lines: &[u8],

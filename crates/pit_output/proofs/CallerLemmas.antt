@@ -19,7 +19,7 @@ use Rattle.pit_text.specs.SolutionText.{solution_text}
 use Rattle.pit_desk.specs.History.{commits_of}
 use Rattle.pit_desk.specs.State.{State, IsDeskKept}
 use Rattle.pit_step.specs.LineTexts.{left_text}
-use Rattle.pit_output.specs.Outputs.{Keeping, keeping_of, HasWhole, IsLeft, keep_step, Outputs, both_step, outputs_run, IsUnwritten, has_failed, has_failed_if, HasFailed}
+use Rattle.pit_output.specs.Outputs.{Keeping, keeping_of, HasWhole, IsLeft, keep_step, Outputs, streams_step, outputs_run, IsUnwritten, has_failed, has_failed_if, HasFailed}
 
 -- of a desk's plan, as it is found
 pub left_as : (closed desk : State) (plan : Standing) (periods : List (Option ℕ)) → desk ≡ closed → plan ≡ desk.plan → IsDeskKept desk → periods ≡ plan.periods → length periods ≡ plan.pit.blocks
@@ -127,10 +127,10 @@ module _ (out lines : Writing) (kept : Option Keeping) where
   AreBothWritten texts = Appends out.before out.after texts.solution × Appends lines.before lines.after texts.report × (0 < length texts.report → lines.failed ≡ false)
 
   module _ (texts : Outputs) (ended : Result Status CliFault) where
-    both : (both_step texts out lines).Gives tt tt → AreBothWritten texts
+    both : (streams_step texts out lines).Gives tt tt → AreBothWritten texts
     both (a, p, q) = (p.1, q.1, q.2)
 
-    both_failed : (fault : CliFault) → (both_step texts out lines).Fails tt fault → (fault ≡ cli.CannotWrite) × HasFailed out lines kept
+    both_failed : (fault : CliFault) → (streams_step texts out lines).Fails tt fault → (fault ≡ cli.CannotWrite) × HasFailed out lines kept
     both_failed fault (inl (p, left)) = (p.0, inl p.2)
     both_failed fault (inr (a, p, q)) = (q.0, inr (inl q.2))
 

@@ -50,16 +50,16 @@ pub record Outputs : Type 0 where
   pub history : List ℕ
 
 -- the solution and the report
-abbrev pub both_step : Outputs → Writing → Writing → Step CliFault (Unit {0}) (Unit {0})
-both_step texts out lines = in_turn (write_step out (λ _. texts.solution) (λ _. tt {0})) (write_step lines (λ _. texts.report) (λ _. tt {0}))
+abbrev pub streams_step : Outputs → Writing → Writing → Step CliFault (Unit {0}) (Unit {0})
+streams_step texts out lines = in_turn (write_step out (λ _. texts.solution) (λ _. tt {0})) (write_step lines (λ _. texts.report) (λ _. tt {0}))
 
 abbrev pub end_step : Result Status CliFault → Step CliFault (Unit {0}) Status
 end_step ended = judge_step (λ _ status. ended ≡ Ok status) (λ _ fault. ended ≡ Err fault)
 
 -- each is written, and it ends so; a history that is carried on stands before the others are written
 abbrev pub outputs_run : Bool → Outputs → Result Status CliFault → Writing → Writing → Option Keeping → Step CliFault (Unit {0}) Status
-outputs_run true texts ended out lines kept = in_turn (keep_step kept texts.history) (in_turn (both_step texts out lines) (end_step ended))
-outputs_run false texts ended out lines kept = in_turn (both_step texts out lines) (in_turn (keep_step kept texts.history) (end_step ended))
+outputs_run true texts ended out lines kept = in_turn (keep_step kept texts.history) (in_turn (streams_step texts out lines) (end_step ended))
+outputs_run false texts ended out lines kept = in_turn (streams_step texts out lines) (in_turn (keep_step kept texts.history) (end_step ended))
 
 -- ---- what devices show
 

@@ -15,7 +15,7 @@ use crate::breach::Breach;
 use crate::limits::Limits;
 use crate::moving::{look_at_revised, moved_loads};
 use crate::overlay::{
-    COPIED_PART, FewWrites, OneWrite, Overlay, Pairs, SEARCHED_MAX, periods_after, revised, written,
+    COPY_ONE_IN, FewWrites, OneWrite, Overlay, Pairs, SEARCHED_MAX, periods_after, revised, written,
 };
 use crate::schedule::{Schedule, first_late, keeps_order};
 use crate::tally::Tally;
@@ -85,7 +85,7 @@ fn first_out_after<A: Allocator + Copy + Drop>(
     if writes.len() <= SEARCHED_MAX {
         return Ok(first_out_near(pit, &FewWrites { kept, writes }, writes));
     }
-    if writes.len() >= kept.len() / COPIED_PART {
+    if writes.len() >= kept.len() / COPY_ONE_IN {
         let after = periods_after(alloc, kept, writes)?;
         return Ok(first_out_near(pit, &after, writes));
     }

@@ -97,7 +97,7 @@ impl<'a> Schedule for OneWrite<'a> {
 }
 
 /// Where one block of so many is written, or more, the writes are laid into a copy of all periods, where a period is found without a hash.
-pub(crate) const COPIED_PART: usize = 8;
+pub(crate) const COPY_ONE_IN: usize = 8;
 
 /// The periods of all blocks.
 impl<A: Allocator + Drop> Schedule for Vec<Option<u32>, A> {

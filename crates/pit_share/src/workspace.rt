@@ -101,7 +101,7 @@ fn is_planner_count(planners: u32) -> bool
     planners >= 1 && planners <= PLANNERS_MAX
 }
 
-/// The publisher of a session, in which each planner has a place.
+/// The publisher of a session, whose board has a place for each planner.
 fn publisher_of<S: Session, R: Wait + Drop, A: Allocator + Copy + Drop>(
     rt: R,
     alloc: A,

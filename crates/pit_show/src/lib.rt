@@ -2,7 +2,7 @@
 //!
 //! The schedule is a solution or a history, as `pit_state` reads them. Of a history a comment goes before the solution: how many commits are
 //! shown, and the SHA-256 of the entries up to the last of these, each by its line in format 2, so that two histories that have the same
-//! entries so far have the same sum, whatever format they are told in.
+//! entries so far have the same sum, whatever format they are written in.
 #![tactic(auto)]
 
 mod comment;

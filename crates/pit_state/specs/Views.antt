@@ -1,4 +1,4 @@
--- What is told of a schedule: a text and a status of its pit and its commits.
+-- What is said of a schedule: a text and a status of its pit and its commits.
 use Rattle.std.specs.Prelude.{◌≡◌, ℕ, List}
 use Rattle.pit_model.specs.Pit.{Pit}
 use Rattle.pit_plan.specs.Schedule.{Commit}

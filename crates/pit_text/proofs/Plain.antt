@@ -325,6 +325,20 @@ plain_cut text rest field fields seen number false goes_on is same =
     ∙ read_line number is.line (lines_of rest) is.goes_on reads
     ∙ ap (λ (fs : List (List ℕ)). record { number = number; fields = fs } ∷ cut_from (number + 1) (lines_of rest)) (is.cut ∙ sym same)
 
+-- a line of two numbers is cut into them
+pub two_cut : (number n m : ℕ) (text behind rest : List ℕ) → IsWholeThen text n 32 behind → IsWholeThen behind m 10 rest
+    → (first : List ℕ) × (second : List ℕ) × (whole_field first ≡ Ok n) × (whole_field second ≡ Ok m)
+    × (cut_from number (lines_of text) ≡ record { number = number; fields = first ∷ second ∷ [] } ∷ cut_from (number + 1) (lines_of rest))
+two_cut number n m text behind rest one other =
+    let two = two_fields text behind rest n m one other in
+    let is : IsLineThen text (two.2.first ∷ two.2.second ∷ []) rest = subst (λ (fields : List (List ℕ)). IsLineThen text fields rest) two.2.two two.1 in (
+      two.2.first,
+      two.2.second,
+      two.2.one,
+      two.2.other,
+      plain_cut text rest two.2.first (two.2.second ∷ []) (two.2.first ∷ two.2.second ∷ []) number false refl is refl,
+    )
+
 pub plain_end : (text rest : List ℕ) (fields : List (List ℕ)) (number : ℕ) (ended : Bool) → ended ≡ false → IsLineThen text fields rest
     → cond ended (number + 1) (number + 1 + position_or_len is_last (lines_of rest)) ≡ cond ended number (number + position_or_len is_last (lines_of text))
 plain_end text rest fields number true goes_on is = cc

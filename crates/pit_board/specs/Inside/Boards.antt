@@ -21,11 +21,11 @@ pub record ShowsAll (blocks : ℕ) (commits : List Commit) (slots : List Slot) :
 -- ---- what it takes in
 
 -- the entries before a commit's, and with it
-pub record Published : Type 0 where
+pub record Publishing : Type 0 where
   pub before : List Answered
   pub after : List Answered
 
 -- a board that shows as many commits as there were before takes the commit in; of nothing, nothing is taken in
-abbrev pub taken_in : List Answered → Option Published → List Answered
+abbrev pub taken_in : List Answered → Option Publishing → List Answered
 taken_in shown None = shown
 taken_in shown (Some publication) = if length (commits_of shown) == length (commits_of publication.before) then publication.after else shown

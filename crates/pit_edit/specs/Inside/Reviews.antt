@@ -23,7 +23,7 @@ pub record IsReview (is_partial : Bool) (edit : Edit) (plan : Standing) (makers 
   pub left_are : left ≡ length (left_of is_partial edit.start (version_of plan) (changes_on plan edit))
   pub conflicts_are : conflicts ≡ conflicts_text edit (period_of plan) (writer_in plan makers) (late_of edit.start (version_of plan) (changes_on plan edit))
 
--- the call for the blocks that are written is answered, and told by these numbers and lines
+-- the call for the blocks that are written is answered, and reported by these numbers and lines
 pub record IsReported (edit : Edit) (kept : List ℕ) (changes left : ℕ) (conflicts : List ℕ) (old new : Merging) : Type 0 where
   pub answer : Answer
   pub is_answer : IsAnswerOf old.desk.plan.pit old.desk.history edit kept new.desk.history answer

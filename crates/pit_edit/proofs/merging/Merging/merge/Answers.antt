@@ -34,5 +34,5 @@ returns g c =
     let reviewed =
     subst (λ (p : Standing). IsReview c.args.is_partial edit p makers review.kept.items review.changes review.left review.conflicts.items) plan_is c.in_ok-review.ensures in
     map_ok c.enter.result
-    (λ told. merged c.args.is_partial edit old c.enter.new.self makers review.kept.items review.changes review.left review.conflicts.items follows made c.requires.seen reviewed told)
+    (λ reported. merged c.args.is_partial edit old c.enter.new.self makers review.kept.items review.changes review.left review.conflicts.items follows made c.requires.seen reviewed reported)
     c.enter.ensures
