@@ -150,6 +150,7 @@ printf 'begin\nput 0 0\nput 1 0\ncommit\nbegin\nread 0\nrevise 0 0 inf\ncommit\n
 printf 'begin\nread 3\nabort\n' >two
 each 'plan' plan "$data/tiny.cpit" "$data/tiny.prec" one
 each 'plan, two planners from a start' plan "$data/tiny.cpit" "$data/tiny.prec" --start "$data/tiny.sol" --retries 0 one two
+each 'plan, two planners in turn' plan --in-turn "$data/tiny.cpit" "$data/tiny.prec" one two
 each 'plan with a history' plan --history kept "$data/tiny.cpit" "$data/tiny.prec" one
 cp whole.kept history
 cp history old
@@ -160,6 +161,11 @@ input_stays
 echo before >old
 each 'merge, an edit that is refused' merge --start "$data/tiny.sol" --history kept "$data/tiny.cpit" "$data/tiny.prec" "$data/early.sol" "$data/short.sol"
 each 'merge, the same is left out' merge --start "$data/tiny.sol" --partial "$data/tiny.cpit" "$data/tiny.prec" "$data/short.sol" "$data/over.sol"
+printf 'begin\nput 3 1\ncommit\n' >three
+"$pit" plan --history edited "${of[@]}" three >out 2>err
+"$pit" show "$data/tiny.cpit" edited >shown
+each 'merge, an edit that is a history' merge --start "$data/tiny.sol" "${of[@]}" edited
+each 'merge, an edit that names its base' merge --start edited "${of[@]}" shown
 each 'log' log --writes "$data/tiny.cpit" "$data/tiny.prec" history
 each 'replay' replay "$data/tiny.cpit" "$data/tiny.prec" history
 # Each line of this one is read by its JSON value.

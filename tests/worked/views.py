@@ -176,6 +176,12 @@ ENDS_TABLE = lines(
     b"1,1,4.545454545455000000,-5.454545454545000000,1.000000,1.000000,4.000000,3.000000",
 )
 
+BENCH_TABLE = lines(
+    TABLE_HEAD,
+    b"0,2,-5.000000000000000000,-5.000000000000000000,3.000000,,4.000000,1.000000",
+    b"1,0,0.000000000000000000,-5.000000000000000000,0.000000,1.000000,4.000000,4.000000",
+)
+
 BARE = b"""\
 TYPE: CPIT
 NBLOCKS: 2
@@ -230,6 +236,7 @@ TABLES = [
     case("the same schedule with no limit revised", "table", b"0 0\n1 0\n3 0\n", UNREVISED_TABLE),
     case("no block is mined", "table", b"", NOTHING_TABLE),
     case("the first block and the last", "table", b"0 0\n3 1\n", ENDS_TABLE),
+    case("the blocks at height 2", "table", b"0 0\n3 0\n", BENCH_TABLE),
     case("one period, and no resource", "table", b"0 0\n1 0\n", BARE_TABLE, model=BARE),
     case("two resources in three periods", "table", b"0 0\n1 1\n2 2\n3 2\n", TWO_TABLE, model=TWO_RESOURCES),
 ]
