@@ -115,7 +115,7 @@ module _ (one_reply : IsOneReply) where
   one-lead is_partial edit old new other p q =
       let same = one-entry old.pit old.history edit (written is_partial edit old) new.history other.history p.reply q.reply p.entered q.entered in
       same-so_far new other (p.same_pit ∙ sym q.same_pit) same.0 (p.same_ours ∙ sym q.same_ours) (p.same_resumed ∙ sym q.same_resumed)
-      (p.reported ∙ (ap (λ (r : Option EntryReply). old.lines ++ edit_text is_partial old.history edit (changed edit old) (written is_partial edit old) r) same.1 ∙ sym q.told))
+      (p.reported ∙ (ap (λ (r : Option EntryReply). old.lines ++ edit_text is_partial old.history edit (changed edit old) (written is_partial edit old) r) same.1 ∙ sym q.reported))
       (p.whole ∙ (ap (λ (r : Option EntryReply). old.is_whole && (was_granted r && length (left_out is_partial edit old) == 0)) same.1 ∙ sym q.whole))
 
 -- ---- the edit of a text
