@@ -1,12 +1,14 @@
 //! `pit_book`: a desk, its history, and the lines of that.
+ghost use Rattle.pit_book.specs.Calls.{IsReady};
+
 use super::model::limited;
-use super::plan::BEHIND;
-use super::tiny::{CHANGED, HISTORY, WORTH, empty_desk, tiny};
+use super::plan::{BEHIND, first_limit};
+use super::tiny::{CHANGED, HISTORY, REVISED, WORTH, empty_desk, tiny};
 use super::tx::{Call, Pair, work_of};
 use Reply::{Committed, Refused};
 use pit_book::{
-    Act, AuditFault, Desk, DeskError, Entry, EntryReply, LinesCause, LinesError, Pairs, Refusal,
-    Reply, ResumeFault, Revisions, Stop, audit, from_lines, to_lines,
+    Act, AuditFault, Desk, DeskError, Entry, EntryReply, LinesCause, LinesError, Pairs, Ready,
+    Refusal, Reply, ResumeFault, Revisions, Stop, audit, from_lines, to_lines,
 };
 use pit_model::Instance;
 use pit_plan::Plan;
@@ -118,6 +120,63 @@ fn withdraw(rt: &impl Abort, desk: &mut Desk<Global>, work: Work<Global>) {
     let is_done = answer.is_ok();
     drop(answer);
     assert!(rt; is_done);
+}
+
+/// Block 3 is too much for period 0 until 5 may be loaded there. What is ready is taken back, or entered.
+#[test]
+fn a_commit_is_made_ready(rt: HostRuntime) {
+    let mut desk = empty_desk(&rt, rt.alloc(), 2);
+    let work = work_of(&rt, rt.alloc(), (1, &[], 0, FIRST_TWO));
+    let reply = reply_of(&rt, &mut desk, work);
+    let work = work_of(&rt, rt.alloc(), (2, &[], 1, &[(3, Some(0))]));
+    let work = taken_back(&rt, &mut desk, work);
+    assert_entered(&rt, &mut desk, work);
+    drop(desk);
+    assert!(rt; reply == Some(Committed { number: 1 }));
+}
+
+fn ready_of(rt: &impl Abort, desk: &mut Desk<Global>, work: Work<Global>) -> Ready<Global>
+    ensures { IsReady desk.new result }
+{
+    if !desk.fits(&work) {
+        panic!(rt; "of another pit");
+    }
+    match desk.ready(work) {
+        Ok(ready) => ready,
+        Err((_work, stop)) => panic!(rt; "{stop:?}"),
+    }
+}
+
+fn taken_back(rt: &impl Abort, desk: &mut Desk<Global>, work: Work<Global>) -> Work<Global> {
+    let ready = ready_of(rt, desk, work);
+    assert_reply(rt, &ready, Refused(OVER));
+    let work = ready.back();
+    assert_count(rt, desk, 1);
+    work
+}
+
+fn assert_reply(rt: &impl Abort, ready: &Ready<Global>, reply: Reply) {
+    assert!(rt; *ready.reply() == reply);
+}
+
+fn assert_count(rt: &impl Abort, desk: &Desk<Global>, entries: usize) {
+    assert!(rt; desk.history().len() == entries);
+}
+
+fn assert_entered(rt: &impl Abort, desk: &mut Desk<Global>, mut work: Work<Global>) {
+    let revised = work.revise(0, 0, Some(5_000_000));
+    let ready = ready_of(rt, desk, work);
+    assert_reply(rt, &ready, Committed { number: 2 });
+    assert_sets(rt, &ready);
+    let reply = desk.enter(ready);
+    assert!(rt; revised == Ok(()) && reply == Committed { number: 2 });
+    assert!(rt; first_limit(desk.plan()) == Some(5_000_000));
+    assert_count(rt, desk, 2);
+}
+
+fn assert_sets(rt: &impl Abort, ready: &Ready<Global>) {
+    assert!(rt; ready.writes() == [(3, Some(0))].as_slice());
+    assert!(rt; ready.revises() == [(0, 0, Some(5_000_000))].as_slice());
 }
 
 fn assert_entries(rt: &impl Abort, history: &[Entry<Global>]) {
@@ -299,6 +358,31 @@ pub(super) fn resumed(
     };
     let history = from_lines(alloc, alloc, text).expect(rt, "a history");
     Desk::resume(alloc, pit, history, max_entries)
+}
+
+#[test]
+fn a_desk_goes_on_from_a_history(rt: HostRuntime) {
+    let nothing = b"{\"format\":1}\n".as_slice();
+    assert_resumed(&rt, rt.alloc(), nothing, 0, (0, 0, Some(4_000_000)));
+    assert_resumed(&rt, rt.alloc(), REVISED, 3, (3, 2, Some(5_000_000)));
+}
+
+/// A desk that may have just the entries of a history has these, so many commits, and so much that may be loaded in period 0.
+fn assert_resumed(
+    rt: &impl Abort,
+    alloc: Global,
+    text: &[u8],
+    max_entries: u32,
+    found: (usize, u32, Option<i64>),
+) {
+    let desk = match resumed(rt, alloc, text, max_entries) {
+        Ok(desk) => desk,
+        Err(fault) => panic!(rt; "{fault:?}"),
+    };
+    let limit = first_limit(desk.plan());
+    let counts = (desk.history().len(), desk.plan().commits());
+    drop(desk);
+    assert!(rt; (counts.0, counts.1, limit) == found);
 }
 
 /// Texts, the line of the first fault, and its cause.

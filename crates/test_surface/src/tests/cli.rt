@@ -1,16 +1,18 @@
 //! `pit_cli`: the engines, over devices.
 use super::num::Shut;
 use super::plan::BEHIND;
+use super::share::in_turn;
 use super::tiny::{BLOCKS, CHANGED, HISTORY, MODEL, PRECEDENCE, SCRIPT, is_written};
 use LinesCause::Shape;
 use ScriptCause::Order;
 use pit_book::{LinesCause, LinesError};
 use pit_cli::{
-    Beginning, BreachLine, CliFault, Input, PlanInput, PlanOptions, ReadError, Status, Stream,
-    check, check_all, diff, info, log, plan, read_all, replay, show, table, value,
+    Beginning, BreachLine, CliFault, Input, MergeInput, MergeOptions, PlanInput, PlanOptions,
+    ReadError, Status, Stream, check, check_all, diff, info, log, merge, plan, read_all, replay,
+    show, table, value, write_report,
 };
 use pit_num::{In, Out};
-use pit_run::{ScriptCause, ScriptError};
+use pit_run::{Open, ScriptCause, ScriptError};
 use pit_text::{Cause, Key, TextError};
 use std::alloc::Global;
 use std::process::Abort;
@@ -224,10 +226,83 @@ fn bytes_of(rt: &impl Abort, alloc: Global, text: &[u8]) -> Vec<u8> {
     }
 }
 
+/// Blocks 0 and 1 earn -10 + 20.5. The third job finds no room, and at least 1 is wanted in period 1.
+const STOPPED: &[u8] = b"planner 1 job 1 committed 1 tries 1
+planner 1 job 2 refused over 0 0 5.000000 4.000000 tries 1
+planner 1 stopped at job 3: full\nvalue 10.500000000000000000\nshort 0 1 0.000000 1.000000\n";
+
+#[test]
+fn a_report_is_written(rt: HostRuntime) {
+    let report = in_turn(&rt, rt.alloc(), &Open);
+    let mut out = Out::new(Vec::new(rt.alloc()));
+    let answer = write_report(rt.alloc(), &mut out, &report);
+    drop(report);
+    let is_text = is_written(out, STOPPED);
+    assert!(rt; answer == Ok(()) && is_text);
+}
+
+/// Edits of a pit in which nothing is mined yet. Behind the first, block 3 is too much for period 0.
+const EDITS: [&[u8]; 2] = [b"0 0\n1 0\n", b"0 0\n3 0\n"];
+
+/// What is left is the first edit, `OLD`, which earns -10 + 20.5.
+const MERGE_REPORT: &[u8] = b"edit 1 entry 1 changes 2 left 0 cause - committed 1
+edit 2 entry 2 changes 1 left 0 cause - refused over 0 0 5.000000 4.000000
+value 10.500000000000000000\nshort 0 1 0.000000 1.000000\n";
+
+const MERGED: &[u8] = b"{\"format\":1}
+{\"act\":\"commit\",\"job\":1,\"planner\":1,\"reads\":[[0,null],[1,null]],\"reply\":{\"committed\":1},\"start\":0,\"writes\":[[0,0],[1,0]]}
+{\"act\":\"commit\",\"job\":1,\"planner\":2,\"reads\":[[3,null]],\"reply\":{\"over\":[0,0,\"5000000\",\"4000000\"]},\"start\":0,\"writes\":[[3,0]]}
+";
+
+#[test]
+fn edits_are_merged(rt: HostRuntime) {
+    let mut solution = Out::new(Vec::new(rt.alloc()));
+    let mut report = Out::new(Vec::new(rt.alloc()));
+    let mut history = Some(Stream {
+        sink: Out::new(Vec::new(rt.alloc())),
+    });
+    let answer = merged(rt.alloc(), &mut solution, &mut report, &mut history);
+    let is_solution = is_written(solution, OLD);
+    let is_report = is_written(report, MERGE_REPORT);
+    let is_history = is_written(history.expect(&rt, "a device").sink, MERGED);
+    assert!(rt; answer == Ok(Status::Failed));
+    assert!(rt; is_solution && is_report && is_history);
+}
+
+fn merged(
+    alloc: Global,
+    solution: &mut Out<Vec<u8>>,
+    report: &mut Out<Vec<u8>>,
+    history: &mut Option<Stream<Out<Vec<u8>>>>,
+) -> Result<Status, CliFault> {
+    let mut model = In::new(MODEL);
+    let mut order = In::new(PRECEDENCE);
+    let mut start: Option<In<&[u8]>> = None;
+    let input = MergeInput::read(alloc, alloc, &mut model, &mut order, &mut start, false)?;
+    let mut edits = [In::new(EDITS[0]), In::new(EDITS[1])];
+    let options = MergeOptions {
+        from: None,
+        is_partial: false,
+    };
+    merge(
+        alloc, alloc, input, &mut edits, options, solution, report, history,
+    )
+}
+
 /// Faults, each with the status that the program ends with.
 const FAULTS: &[(CliFault, u8)] = &[
     (CliFault::TooLong(Input::Precedence), 2),
     (CliFault::FewCommits { commits: 1 }, 2),
+    (
+        CliFault::FewBaseCommits {
+            file: Input::Edit(1),
+            commits: 1,
+        },
+        2,
+    ),
+    (CliFault::AnotherHistory(Input::Edit(1)), 2),
+    (CliFault::RevisedLimit(Input::Edit(1)), 2),
+    (CliFault::BaseMissing(Input::Edit(1)), 2),
     (CliFault::Start(BreachLine(BEHIND)), 2),
     (CliFault::PlannerCount, 2),
     (CliFault::CannotRead(Input::Solution), 3),

@@ -1,4 +1,4 @@
-//! `pit_plan`: a plan that grows by writes.
+//! `pit_plan`: a plan that grows by writes and revisions.
 use super::tiny::tiny;
 use pit_num::NoMemory;
 use pit_plan::{Breach, Plan, Short};
@@ -6,7 +6,7 @@ use std::alloc::Global;
 use std::process::Abort;
 
 #[test]
-fn a_plan_grows_by_writes(rt: HostRuntime) {
+fn a_plan_grows_by_writes_and_revisions(rt: HostRuntime) {
     let mut plan = match Plan::empty(rt.alloc(), tiny(&rt, rt.alloc())) {
         Ok(plan) => plan,
         Err((_pit, NoMemory)) => panic!(rt; "no memory"),
@@ -14,6 +14,7 @@ fn a_plan_grows_by_writes(rt: HostRuntime) {
     write(&rt, &mut plan);
     assert_judged(&rt, &plan);
     assert_short(&rt, &plan);
+    assert_revised(&rt, &mut plan);
     let pit = plan.into_instance();
     let blocks = pit.blocks();
     drop(pit);
@@ -76,4 +77,23 @@ fn assert_short(rt: &impl Abort, plan: &Plan<Global>) {
     let is_short = shorts.as_slice() == [SHORT].as_slice();
     drop(shorts);
     assert!(rt; is_short);
+}
+
+/// From the next commit on, 5 may be loaded in period 0.
+fn assert_revised(rt: &impl Abort, plan: &mut Plan<Global>) {
+    assert!(rt; first_limit(plan) == Some(4_000_000));
+    assert!(rt; plan.instance().resources() == 1);
+    assert!(rt; plan.instance().periods() == 2);
+    assert!(rt; plan.commits() == 1);
+    assert!(rt; plan.apply(&[], &[(0, 0, Some(5_000_000))]) == Ok(()));
+    assert!(rt; first_limit(plan) == Some(5_000_000));
+}
+
+/// How much of the one resource may be loaded in period 0, in millionths.
+pub(super) fn first_limit(plan: &Plan<Global>) -> Option<i64> {
+    let pit = plan.instance();
+    if pit.resources() != 1 || pit.periods() != 2 {
+        return None;
+    }
+    plan.limit(0, 0)
 }

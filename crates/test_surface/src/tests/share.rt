@@ -4,7 +4,7 @@ ghost use Rattle.pit_share.specs.declared.new_session.TheConstants.{PLANNERS_MAX
 
 use super::book::{OVER, resumed};
 use super::tiny::{HISTORY, WORTH, empty_desk, tiny};
-use super::tx::has_pairs;
+use super::tx::{has_limit, has_pairs};
 use pit_book::{Desk, Reply};
 use pit_model::Instance;
 use pit_num::NumError;
@@ -159,7 +159,10 @@ fn not_closed<S: Session, R: Wait + Drop>(
 }
 
 fn assert_missing(rt: &impl Abort, error: CloseError) {
-    assert!(rt; error == CloseError::Missing { planner: 1 });
+    match error {
+        CloseError::Missing { planner } => assert!(rt; planner == 1),
+        CloseError::Differs { planner } => panic!(rt; "no log of {planner}'s entries"),
+    }
 }
 
 /// Planner 1 has begun when planner 2 commits.
@@ -207,7 +210,7 @@ fn assert_logs<S: Session>(rt: &impl Abort, logs: &[PlannerLog<S, Global>]) {
     }
 }
 
-/// Planner 2 reads block 3, and puts block 2 in its place.
+/// Planner 2 reads block 3, puts block 2 in its place, and lets 5 be loaded in period 0.
 fn after_commit<'a, S: Session, R: Wait + Drop, W: Wait + Abort>(
     rt: &W,
     planner: Planner<'a, S, R, Global>,
@@ -232,6 +235,7 @@ fn assert_filled<S: Session, R: Wait + Drop>(
     assert!(rt; number == 2);
     assert!(rt; (transaction.start(), transaction.read(3)) == (2, Ok(Some(1))));
     assert!(rt; is_filled(transaction));
+    assert!(rt; is_revised(transaction));
 }
 
 fn assert_third(rt: &impl Abort, reply: Reply) {
@@ -244,6 +248,12 @@ fn is_filled<S: Session, R: Wait + Drop>(transaction: &mut Transaction<'_, S, R,
         && transaction.clear(3) == Ok(())
         && has_pairs(transaction.reads(), &[(3, Some(1))])
         && has_pairs(transaction.writes(), &[(2, Some(1)), (3, None)])
+}
+
+fn is_revised<S: Session, R: Wait + Drop>(transaction: &mut Transaction<'_, S, R, Global>) -> bool {
+    transaction.revise(1, 0, None) == Err(WorkError::NoResource)
+        && transaction.revise(0, 0, Some(5_000_000)) == Ok(())
+        && has_limit(transaction.revises(), (0, 0), Some(5_000_000))
 }
 
 /// Planner 1 can't read block 3 any more, and withdraws. It begins anew, and gives that up.
@@ -385,7 +395,8 @@ fn planners_take_turns(rt: HostRuntime) {
     assert!(rt; gate.0.load(Ordering::SeqCst) == 22);
 }
 
-fn in_turn<R: Wait + Abort>(rt: &R, alloc: Global, gate: &Counting) -> Report<Global> {
+/// What comes of the script by turns, where the history may have two entries.
+pub(super) fn in_turn<R: Wait + Abort, G: Gate>(rt: &R, alloc: Global, gate: &G) -> Report<Global> {
     let desk = empty_desk(rt, alloc, 2);
     let scripts = [script_of(rt, alloc, desk.plan().instance())];
     let answer = run_in_turn(rt, alloc, desk, &scripts, 3, gate);

@@ -33,6 +33,13 @@ pub(super) const HISTORY: &[u8] = b"{\"format\":1}
 /// What blocks 0, 1 and 3 are then worth, in units of 10^-18: -10 + 20.5 + 5 * 0.909090909091.
 pub(super) const WORTH: i128 = 15_045_454_545_455_000_000;
 
+/// A history in which 5 may be loaded in period 0 from the second commit on. That this becomes 4 again is refused.
+pub(super) const REVISED: &[u8] = b"{\"format\":2}
+{\"act\":\"commit\",\"job\":1,\"planner\":1,\"reads\":[],\"reply\":{\"committed\":1},\"revises\":[],\"start\":0,\"writes\":[[0,0],[1,0]]}
+{\"act\":\"commit\",\"job\":2,\"planner\":1,\"reads\":[],\"reply\":{\"committed\":2},\"revises\":[[0,0,\"5000000\"]],\"start\":1,\"writes\":[[3,0]]}
+{\"act\":\"commit\",\"job\":3,\"planner\":1,\"reads\":[],\"reply\":{\"over\":[0,0,\"5000000\",\"4000000\"]},\"revises\":[[0,0,\"4000000\"]],\"start\":2,\"writes\":[]}
+";
+
 /// A history whose first commit has another number than 1.
 pub(super) const CHANGED: &[u8] = b"{\"format\":1}
 {\"act\":\"commit\",\"job\":1,\"planner\":1,\"reads\":[],\"reply\":{\"committed\":2},\"start\":0,\"writes\":[[0,0],[1,0]]}

@@ -1,6 +1,6 @@
-//! `pit_tx`: what a transaction has read and written.
+//! `pit_tx`: what a transaction has read, written and revised.
 use pit_num::NoMemory;
-use pit_tx::{PeriodMap, Work, WorkError};
+use pit_tx::{LimitMap, PeriodMap, Work, WorkError};
 use std::alloc::Global;
 use std::process::Abort;
 
@@ -65,7 +65,7 @@ fn is_kept(work: &mut Work<Global>) -> bool {
 
 fn assert_filled(rt: &impl Abort, work: &mut Work<Global>) {
     assert!(rt; (work.planner(), work.job(), work.start()) == (1, 7, 3));
-    assert!(rt; (work.blocks(), work.periods()) == (4, 2));
+    assert!(rt; (work.blocks(), work.periods(), work.resources()) == (4, 2, 1));
     assert!(rt; is_kept(work));
     assert!(rt; has_pairs(work.reads(), &[(3, Some(1))]));
     assert!(rt; has_pairs(work.writes(), &[(2, Some(1)), (3, None)]));
@@ -80,4 +80,31 @@ pub(super) fn has_pairs(set: &PeriodMap<Global>, pairs: &[Pair]) -> bool {
         }
     }
     set.len() == pairs.len()
+}
+
+#[test]
+fn a_work_keeps_the_last_revision(rt: HostRuntime) {
+    let mut work = work_of(&rt, rt.alloc(), (7, &[], 3, &[]));
+    assert_revised(&rt, &mut work);
+    drop(work);
+}
+
+fn assert_revised(rt: &impl Abort, work: &mut Work<Global>) {
+    assert!(rt; is_revised(work));
+    assert!(rt; has_limit(work.revises(), (0, 1), None));
+}
+
+fn is_revised(work: &mut Work<Global>) -> bool {
+    work.revise(1, 2, None) == Err(WorkError::NoResource)
+        && work.revise(0, 2, None) == Err(WorkError::NoPeriod)
+        && work.revise(0, 1, Some(5_000_000)) == Ok(())
+        && work.revise(0, 1, None) == Ok(())
+}
+
+/// Whether a set has the limit of this resource in this period, and no other.
+pub(super) fn has_limit(set: &LimitMap<Global>, place: (u32, u32), limit: Option<i64>) -> bool {
+    match set.get_index(0) {
+        Some((first, upper)) => set.len() == 1 && *first == place && *upper == limit,
+        None => false,
+    }
 }
