@@ -4,6 +4,7 @@ mod cli;
 mod model;
 mod num;
 mod plan;
+mod run;
 mod share;
 mod text;
 mod tiny;

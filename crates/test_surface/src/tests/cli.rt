@@ -1,7 +1,7 @@
 //! `pit_cli`: the engines, over devices.
 use super::num::Shut;
 use super::plan::BEHIND;
-use super::share::in_turn;
+use super::run::in_turn;
 use super::tiny::{BLOCKS, CHANGED, HISTORY, MODEL, PRECEDENCE, SCRIPT, is_written};
 use LinesCause::Shape;
 use ScriptCause::Order;
