@@ -34,8 +34,8 @@ pub fn laid_over_in_order()
         → held_period (commits_of (before ++ entries)) b ≡ laid_over b (held_period (commits_of before) b) entries }
 {}
 
-/// A law of conflicts: each that is reported is a change of a block that a commit behind the base has written. They are reported where changes may be left
-/// out, or where the edit was refused as moved; then each such change is among them. The first 1,000 have a line.
+/// A law of conflicts: each that is reported is a change of a block that a commit behind the base has written. They are reported where changes may be
+/// left out, or where the edit was refused as moved; then each such change is among them. The first 1,000 have a line.
 pub fn reported_conflicts()
     ensures reported { (is_partial : Bool) (reply : Option EntryReply) (start : ℕ) (version : ℕ → ℕ) (changes : List ℕ) (b : ℕ)
         → Contains (reported_of is_partial reply (late_of start version changes)) b → Contains changes b × (start < version b) }
