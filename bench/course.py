@@ -17,6 +17,7 @@ FIGURE = re.compile(r'(.*): (time|processor time|rate|memory) to the twin(, leas
 TOP = 2.0  # the greatest ratio that a field shows
 COLUMNS, WIDTH, HEIGHT = 3, 320, 150
 LEFT, RIGHT, ABOVE, BELOW = 34, 12, 40, 24
+LABELS = 8  # the most days that a field names
 STYLE = '''
 text { font: 11px sans-serif; fill: #333 } .rest { font-size: 10px } .name { font-weight: bold } .axis, .bar { stroke: #999 } .one { stroke: #ccc }
 .line { fill: none; stroke: #1f6fb5; stroke-width: 1.5 } .dot { fill: #1f6fb5 } .bound { stroke: #b5511f; stroke-dasharray: 4 3 }
@@ -66,8 +67,9 @@ def field(x, y, days, name, points, bars, bound):
     yield level(0, 'axis') + level(1, 'one')
     for value in (0, 1, 2):
         yield f'<text x="{x + LEFT - 6}" y="{down(value) + 4}" text-anchor="end">{value}</text>'
-    for day in days:
-        yield f'<text x="{across(day)}" y="{y + HEIGHT - 10}" text-anchor="middle">{day[8:]}</text>'
+    for day in days[:: -(-len(days) // LABELS)]:
+        shown = day[8:] if days[0][:7] == days[-1][:7] else day[5:]
+        yield f'<text x="{across(day)}" y="{y + HEIGHT - 10}" text-anchor="middle">{shown}</text>'
     if bound:
         yield level(bound, 'bound')
     for day in days:
