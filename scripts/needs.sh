@@ -17,7 +17,7 @@ lacks() {
 for tool in git python3; do
     command -v $tool >/dev/null || lacks "there is no $tool on the path"
 done
-command -v rt >/dev/null || lacks "there is no rt on the path: put the folder bin of the Rattle kit there (README, 'Toolchain and platforms')"
+command -v rt >/dev/null || lacks "there is no rt on the path: put the folder bin of rattle-kit-13b or rattle-kit-13f there (README, 'Toolchain and platforms')"
 compiler=${CC:-cc}
 command -v "${compiler%% *}" >/dev/null || lacks "there is no C compiler $compiler: install one, as gcc or clang, or set CC"
 memory=$(awk '$1 == "MemTotal:" { print $2 }' /proc/meminfo)
