@@ -77,6 +77,7 @@ uninstall:
 	-rmdir "$(INTO)/share/doc/pit"
 
 audit: pit
+	@scripts/needs.sh
 	audit/run.sh
 	audit/soak.py ./pit
 	tests/replay.sh ./pit 266 200
