@@ -2,29 +2,33 @@
 # Has a built `pit` write one history's file by two programs at once, of which one does or both do, one after the other: no entry is lost. Then it is
 # killed before and behind each call that opens, locks, writes, syncs or renames a file, or sets its permissions, and at moments that are drawn: the
 # file holds the old history or the whole new one, and the next program goes on from there.
-# usage: tests/carry_on.sh PIT [ROUNDS [SEED]]      PIT is the path of the program; 50 rounds and a drawn seed, where they aren't said. Wants a C
-# compiler.
+# usage: tests/carry_on.sh PIT [ROUNDS [SEED [PART]]]      PIT is the path of the program; 50 rounds and a drawn seed, where they aren't said. PART is
+# N/M, the Nth of M parts of the cases, or the number of one case. Wants a C compiler.
 set -u
 
-if [ $# -lt 1 ] || [ ! -x "$1" ]; then
-    echo "usage: $0 PIT [ROUNDS [SEED]]" >&2
+. "$(dirname "$0")/judge.sh"
+if [ $# -lt 1 ] || [ ! -x "$1" ] || ! is_part "${4:-1/1}"; then
+    echo "usage: $0 PIT [ROUNDS [SEED [PART]]]" >&2
     exit 2
 fi
 pit=$(realpath "$1")
 rounds=${2:-50}
 seed=${3:-$RANDOM}
+part=${4:-1/1}
+alone="$0 $1 $rounds $seed"
 work=$(mktemp -d)
 trap 'rm -rf "$work"' EXIT
 cd "$work" || exit 2
-failures=0
+echo "seed $seed"
 
 printf 'TYPE: CPIT\nNBLOCKS: 4\nNPERIODS: 2\nNRESOURCE_SIDE_CONSTRAINTS: 0\nDISCOUNT_RATE: 0\n' >model
 : >precedence
 printf 'begin\nput 0 0\ncommit\nbegin\nclear 0\ncommit\n' >script
 
+# fail TEXT: what isn't as it should be in the case that is judged.
 fail() {
-    echo "FAIL  $1"
-    failures=$((failures + 1))
+    echo "$1"
+    lacks=$((lacks + 1))
 }
 
 # entries FILE: how many entries the history in a file has, where it is legal.
@@ -39,57 +43,61 @@ count() { echo $(($(wc -l 2>/dev/null <"$1" || echo 1) - 1)); }
 # One program holds the history while it waits for its script, and others are told so. Once it ends, something else reads the pipe, so that nobody
 # waits for it where it ended too early.
 mkfifo waited
-before=$failures
-for round in $(seq "$rounds"); do
-    entries=$(count held)
-    {
-        "$pit" plan --continue held model precedence waited >first.out 2>first.err
-        echo $? >first.status
-        cat waited >/dev/null
-    } &
-    # It opens the pipe behind the lock.
-    exec 7>waited
-    for way in --continue --history; do
-        "$pit" plan $way held model precedence script >second.out 2>second.err
-        status=$?
-        is_refused "$status" second.err && [ ! -s second.out ] || fail "round $round: $way beside a program that holds the history: status $status"
+hold() {
+    local lacks=0 round entries way status
+    for round in $(seq "$rounds"); do
+        entries=$(count held)
+        {
+            "$pit" plan --continue held model precedence waited >first.out 2>first.err
+            echo $? >first.status
+            cat waited >/dev/null
+        } &
+        # It opens the pipe behind the lock.
+        exec 7>waited
+        for way in --continue --history; do
+            "$pit" plan $way held model precedence script >second.out 2>second.err
+            status=$?
+            is_refused "$status" second.err && [ ! -s second.out ] || fail "round $round: $way beside a program that holds the history: status $status"
+        done
+        cat script >&7
+        exec 7>&-
+        while kill -0 $! 2>/dev/null; do
+            : <>waited
+            sleep 0.002
+        done
+        wait
+        [ "$(cat first.status)" = 0 ] || fail "round $round: the program that held the history: status $(cat first.status)"
+        [ "$(entries held)" = $((entries + 2)) ] && [ ! -e held.pit-new ] || fail "round $round: $(entries held) entries, wanted $((entries + 2))"
     done
-    cat script >&7
-    exec 7>&-
-    while kill -0 $! 2>/dev/null; do
-        : <>waited
-        sleep 0.002
-    done
-    wait
-    [ "$(cat first.status)" = 0 ] || fail "round $round: the program that held the history: status $(cat first.status)"
-    [ "$(entries held)" = $((entries + 2)) ] && [ ! -e held.pit-new ] || fail "round $round: $(entries held) entries, wanted $((entries + 2))"
-done
-[ "$failures" -ne "$before" ] || echo "ok    one program holds the history, and others are told so: $rounds rounds"
+    [ "$lacks" -eq 0 ]
+}
+! ours || judge 'one program holds the history, and others are told so' hold
 
 # Two programs begin at once: each adds its two entries, or is told that the history is in use.
-both=0
-before=$failures
-for round in $(seq "$rounds"); do
-    entries=$(count shared)
-    "$pit" plan --continue shared model precedence script >first.out 2>first.err &
-    "$pit" plan --continue shared model precedence script >second.out 2>second.err
-    second=$?
-    wait $!
-    first=$?
-    written=0
-    for end in "$first first.err" "$second second.err"; do
-        if [ "${end%% *}" = 0 ]; then
-            written=$((written + 1))
-        elif ! is_refused $end; then
-            fail "round $round: a program ended with ${end%% *}: $(cat "${end#* }")"
-        fi
+begin_at_once() {
+    local lacks=0 round entries first second written end
+    for round in $(seq "$rounds"); do
+        entries=$(count shared)
+        "$pit" plan --continue shared model precedence script >first.out 2>first.err &
+        "$pit" plan --continue shared model precedence script >second.out 2>second.err
+        second=$?
+        wait $!
+        first=$?
+        written=0
+        for end in "$first first.err" "$second second.err"; do
+            if [ "${end%% *}" = 0 ]; then
+                written=$((written + 1))
+            elif ! is_refused $end; then
+                fail "round $round: a program ended with ${end%% *}: $(cat "${end#* }")"
+            fi
+        done
+        [ "$written" -gt 0 ] || fail "round $round: neither program wrote the history"
+        [ "$(entries shared)" = $((entries + 2 * written)) ] || fail "round $round: $(entries shared) entries, wanted $((entries + 2 * written))"
+        [ ! -e shared.pit-new ] || fail "round $round: a new file is left"
     done
-    [ "$written" -gt 0 ] || fail "round $round: neither program wrote the history"
-    [ "$written" -lt 2 ] || both=$((both + 1))
-    [ "$(entries shared)" = $((entries + 2 * written)) ] || fail "round $round: $(entries shared) entries, wanted $((entries + 2 * written))"
-    [ ! -e shared.pit-new ] || fail "round $round: a new file is left"
-done
-[ "$failures" -ne "$before" ] || echo "ok    two programs begin at once: in $both of $rounds rounds one after the other, else one of them"
+    [ "$lacks" -eq 0 ]
+}
+! ours || judge 'two programs begin at once: one after the other, or one of them' begin_at_once
 
 cat >kill.c <<'TEXT'
 #define _GNU_SOURCE
@@ -145,40 +153,43 @@ holds() {
 
 # killed NAME OLD WORD..: kills the program that writes F at each place in turn. OLD is what F held, or isn't there.
 killed() {
-    local name=$1 old=$2 at status entries old_left=0 new_left=0 before=$failures ends=0
+    ! ours || judge "$1: killed at each place" kill_at_each "$@"
+}
+kill_at_each() {
+    local name=$1 old=$2 place status entries old_left=0 new_left=0 lacks=0 ends=0
     shift 2
     rm -f F F.pit-new
     [ ! -e "$old" ] || cp "$old" F
     "$pit" plan "$@" F model precedence script >whole.out 2>whole.err || fail "$name: status $? where nothing is killed"
     cp F whole
-    for at in {1..400}; do
+    for place in {1..400}; do
         rm -f F F.pit-new
         [ ! -e "$old" ] || cp "$old" F
-        { KILLED_AT=$at LD_PRELOAD=./kill.so "$pit" plan "$@" F model precedence script >out 2>err; } 2>/dev/null
+        { KILLED_AT=$place LD_PRELOAD=./kill.so "$pit" plan "$@" F model precedence script >out 2>err; } 2>/dev/null
         status=$?
         if [ "$status" = 0 ]; then
             ends=1
             break
         fi
-        [ "$status" = 137 ] || fail "$name, place $at: status $status"
+        [ "$status" = 137 ] || fail "$name, place $place: status $status"
         if holds F "$old"; then
             old_left=$((old_left + 1))
         elif cmp -s F whole; then
             new_left=$((new_left + 1))
-            [ ! -e F.pit-new ] || fail "$name, place $at: the new file is there twice"
+            [ ! -e F.pit-new ] || fail "$name, place $place: the new file is there twice"
         else
-            fail "$name, place $at: neither the old history nor the new one is left"
+            fail "$name, place $place: neither the old history nor the new one is left"
         fi
         entries=$(count F)
-        "$pit" plan --continue F model precedence script >out 2>err || fail "$name, place $at: the next program ended with $?"
-        [ "$(entries F)" = $((entries + 2)) ] && [ ! -e F.pit-new ] || fail "$name, place $at: the next program didn't go on"
+        "$pit" plan --continue F model precedence script >out 2>err || fail "$name, place $place: the next program ended with $?"
+        [ "$(entries F)" = $((entries + 2)) ] && [ ! -e F.pit-new ] || fail "$name, place $place: the next program didn't go on"
     done
     [ "$ends" = 1 ] && [ "$old_left" -gt 0 ] && [ "$new_left" -gt 0 ] || fail "$name: $old_left places with the old history, and $new_left with the new one"
-    [ "$failures" -ne "$before" ] || echo "ok    $name: killed at $((old_left + new_left)) places, and the new history stands behind $new_left of them"
+    [ "$lacks" -eq 0 ]
 }
 
 printf 'begin\nput 3 1\ncommit\n' >other
-"$pit" plan --history old model precedence other >out 2>err || fail 'no history to begin with'
+"$pit" plan --history old model precedence other >out 2>err || { cat err >&2; exit 2; }
 killed 'a history is new' none --history
 killed 'a history is replaced' old --history
 killed 'a history is carried on' old --continue
@@ -193,15 +204,18 @@ jobs() {
     done
 }
 jobs 0 1 >many
-"$pit" plan --history long model precedence <(jobs 2 3) >out 2>err || fail 'no long history'
-RANDOM=$seed
+"$pit" plan --history long model precedence <(jobs 2 3) >out 2>err || { cat err >&2; exit 2; }
 # A pipe that nothing is written to: a wait for it ends when its time is over, with no program started.
 mkfifo silent
 exec 9<>silent
 
 # moments NAME WAY: kills the program at 100 moments between its start and a bit behind its end.
 moments() {
-    local name=$1 way=$2 begun time round moment pause status left old_left=0 beside=0 ended=0 before=$failures
+    ! ours || judge "$1" kill_at_moments "$@"
+}
+kill_at_moments() {
+    local name=$1 way=$2 begun time round moment pause status left old_left=0 beside=0 lacks=0
+    RANDOM=$seed
     cp long F
     "$pit" plan "$way" F model precedence many >out 2>err || fail "$name: status $? where nothing is killed"
     cp F whole
@@ -228,7 +242,6 @@ moments() {
         { wait $!; } 2>/dev/null
         status=$?
         [ "$status" = 137 ] || [ "$status" = 0 ] || fail "$name, $moment microseconds: status $status"
-        [ "$status" != 0 ] || ended=$((ended + 1))
         [ ! -e F.pit-new ] || beside=$((beside + 1))
         left=whole
         if cmp -s F long; then
@@ -241,14 +254,9 @@ moments() {
         cmp -s F "next.$left" && [ ! -e F.pit-new ] || fail "$name, $moment microseconds: the next program didn't go on"
     done
     [ "$old_left" -gt 0 ] && [ "$beside" -gt 0 ] || fail "$name: $old_left moments with the old history, $beside with a new file beside it"
-    [ "$failures" -ne "$before" ] || echo "ok    $name: 100 moments of $time microseconds, $old_left left the old history, $beside a new file, $ended came too late"
+    [ "$lacks" -eq 0 ]
 }
-echo "seed $seed"
 moments 'at drawn moments, a history is carried on' --continue
 moments 'at drawn moments, a history is replaced' --history
 
-if [ "$failures" -ne 0 ]; then
-    echo "$failures failed"
-    exit 1
-fi
-echo 'all fine'
+judged

@@ -1,7 +1,7 @@
 #!/usr/bin/env python3
 """Has a built `pit` write to files that are full behind each byte, and read pipes that give a byte at once.
 
-usage: tests/devices.py PIT FOLDER      FOLDER has the small example
+usage: tests/devices.py PIT FOLDER [CASE]      FOLDER has the small example, CASE is the number of one case
 
 A full file has the first bytes of what the same run writes elsewhere, and the run ends with status 3 and `pit: cannot write`. What comes of pipes is what
 comes of files. Ends with status 1 at the first run that isn't so.
@@ -15,10 +15,12 @@ import tempfile
 import threading
 
 sys.dont_write_bytecode = True
-sys.path.insert(0, os.path.join(os.path.dirname(os.path.abspath(__file__)), "worked"))
+HERE = os.path.dirname(os.path.abspath(__file__))
+sys.path[:0] = [HERE, os.path.join(HERE, "worked")]
+import judge  # noqa: E402
 from tiny import LOADING  # noqa: E402
 
-if len(sys.argv) != 3:
+if len(sys.argv) not in (3, 4):
     sys.exit(__doc__)
 PIT, FOLDER = (os.path.abspath(word) for word in sys.argv[1:3])
 MODEL, PRECEDENCES, SOLUTION = (os.path.join(FOLDER, f"tiny.{kind}") for kind in ("cpit", "prec", "sol"))
@@ -62,12 +64,33 @@ def bytes_of(path):
         return file.read()
 
 
-def judge(what, found, wanted):
-    if found != wanted:
-        sys.exit(f"FAIL  {what}: {found}, wanted {wanted}")
+def differences(*rows):
+    """What isn't as it should be of rows of a text, what was found and what was wanted."""
+    return "\n".join(f"{what}: {found}, wanted {wanted}" for what, found, wanted in rows if found != wanted)
+
+
+def into_full_files(words):
+    """A command into files that are full behind each byte of what it writes, and one that takes it all."""
+    status, whole, _ = wrote(words)
+    rows = [("into as many bytes as it writes", wrote(words, len(whole))[:2], (status, whole))]
+    for room in range(len(whole)):
+        failed, front, error = wrote(words, room)
+        rows.append((f"into {room} bytes", (failed, front, error.endswith(b"pit: cannot write\n")), (3, whole[:room], True)))
+    return differences(*rows)
+
+
+def from_slow_pipes(words):
+    """A command whose inputs are slow pipes."""
+    inputs = {word: name for word, name in ((MODEL, "m"), (PRECEDENCES, "p"), (SOLUTION, "s"), ("history", "h")) if word in words}
+    texts = {name: bytes_of(word) for word, name in inputs.items()}
+    found = by_pipes([inputs.get(word, word) for word in words], texts)
+    for name in texts:
+        os.remove(name)
+    return differences(("by pipes", found, wrote(words)))
 
 
 def main():
+    only = sys.argv[3] if len(sys.argv) > 3 else None
     with tempfile.TemporaryDirectory() as work:
         os.chdir(work)
         with open("history", "w") as file:
@@ -77,22 +100,18 @@ def main():
             ["diff", MODEL, SOLUTION, "history"], ["info", MODEL, PRECEDENCES], ["show", MODEL, "history"], ["log", "--writes", MODEL, PRECEDENCES, "history"],
             ["replay", MODEL, PRECEDENCES, "history"], ["merge", MODEL, PRECEDENCES, SOLUTION],
         ]
-        runs = 0
-        for words in commands:
-            status, whole, _ = wrote(words)
-            for room in range(len(whole)):
-                failed, front, error = wrote(words, room)
-                judge(f"{words} into {room} bytes", (failed, front, error.endswith(b"pit: cannot write\n")), (3, whole[:room], True))
-                runs += 1
-            judge(f"{words} into as many bytes as it writes", wrote(words, len(whole))[:2], (status, whole))
-        for words in commands:
-            inputs = {word: name for word, name in ((MODEL, "m"), (PRECEDENCES, "p"), (SOLUTION, "s"), ("history", "h")) if word in words}
-            texts = {name: bytes_of(word) for word, name in inputs.items()}
-            judge(f"{words} by pipes", by_pipes([inputs.get(word, word) for word in words], texts), wrote(words))
-            for name in texts:
-                os.remove(name)
-            runs += 1
-        print(f"{runs} runs with full files and slow pipes")
+        cases = [(f"{what}: {words[0]}{' --all' * ('--all' in words)}", does, words)
+                 for what, does in (("full files", into_full_files), ("slow pipes", from_slow_pipes)) for words in commands]
+        for number, (name, does, words) in enumerate(cases, 1):
+            if only not in (None, str(number)):
+                continue
+            said = does(words)
+            if said:
+                judge.wrong(name, said, f"tests/devices.py {sys.argv[1]} {sys.argv[2]} {number}")
+            else:
+                judge.well(name)
+        os.chdir("/")
+    judge.judged()
 
 
 if __name__ == "__main__":

@@ -1,12 +1,20 @@
 #!/usr/bin/env bash
-# Installs the built program into a folder, runs it from there, formats its manual page, completes words, and uninstalls it.
-# usage: tests/install.sh, at the top of the repository, with ./pit built. Each case prints a line, `ok`, `FAIL` or `skip`.
+# Installs a built program into a folder, runs it from there, formats its manual page, completes words, and uninstalls it.
+# usage: tests/install.sh PIT      PIT is the path of the program. It lies as ./pit in a copy of what `make install` takes from the tree, where it is newer
+# than all that it is made of, so that an unproved one is installed too. In the tree itself `make install` proves what isn't proved.
 set -u
 
-make -q pit 2>/dev/null || { echo "$0: there is no ./pit that is newer than its sources: make pit" >&2; exit 2; }
+. "$(dirname "$0")/judge.sh"
+if [ $# -ne 1 ] || [ ! -x "$1" ]; then
+    echo "usage: $0 PIT" >&2
+    exit 2
+fi
+program=$(realpath "$1")
 work=$(mktemp -d)
 trap 'rm -rf "$work"' EXIT
-. tests/judge.sh
+cd "$(dirname "$0")/.." || exit 2
+mkdir "$work/tree" "$work/tree/crates"
+cp -r Makefile crates.txt HANDLES scripts share docs examples "$work/tree" && cp "$program" "$work/tree/pit" && cd "$work/tree" || exit 2
 
 at=$work/root/opt/pit
 judge 'install' make --no-print-directory install DESTDIR="$work/root" PREFIX=/opt/pit
@@ -63,7 +71,9 @@ if command -v groff >/dev/null || command -v man >/dev/null; then
     judge 'the page has its sections' has_sections
     judge 'the page has each argument and option' has_words
 else
-    echo 'skip  the page: there is neither groff nor man'
+    for name in 'the page is formatted without a warning' 'the page has its sections' 'the page has each argument and option'; do
+        skip "$name" 'there is neither groff nor man'
+    done
 fi
 
 # completes WANTED WORD..: what the last word is completed to, in a folder with the small example.

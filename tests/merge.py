@@ -6,7 +6,7 @@ usage: tests/merge.py PIT [RUNS [SEED]]      300 merges from seed 1, where these
 A merge begins with nothing, with a solution, or with a history, which it may carry on. It has 1 to 6 edits: solutions, some behind the first line that
 `pit show` writes, with a carriage return, with another sum, or further down; and histories that went on from a front of the one here, with refusals and,
 seldom, with revised limits. Solution, report, status and history have to be those that are computed here, or else the fault that comes first. Ends with
-status 1 at the first that isn't, and says the seed that makes it again.
+status 1 where a merge isn't so, and says the seed that makes it again. Each merge is a case.
 """
 import hashlib
 import json
@@ -15,7 +15,9 @@ import random
 import sys
 import tempfile
 
-sys.path.insert(0, os.path.join(os.path.dirname(os.path.abspath(__file__)), "..", "audit"))
+HERE = os.path.dirname(os.path.abspath(__file__))
+sys.path[:0] = [HERE, os.path.join(HERE, "..", "audit")]
+import judge  # noqa: E402
 from soak import (  # noqa: E402
     Pit, State, Wrong, call, cause, decimal, drawn_job, history_text, in_turn, lines, opening, read, run, solution_text, wants, words_of, write,
 )
@@ -210,16 +212,19 @@ def main():
     pit_path = os.path.realpath(sys.argv[1])
     runs = int(sys.argv[2]) if len(sys.argv) > 2 else 300
     first = int(sys.argv[3]) if len(sys.argv) > 3 else 1
+    done = 0
     with tempfile.TemporaryDirectory() as work:
         os.chdir(work)
         for seed in range(first, first + runs):
             try:
                 drawn_merge(pit_path, random.Random(seed))
+                done += 1
             except Wrong as wrong:
-                print(f"FAIL  seed {seed}: {wrong}")
-                sys.exit(1)
+                judge.wrong(f"a merge of seed {seed}", wrong, f"tests/merge.py {sys.argv[1]} 1 {seed}")
         os.chdir("/")
-    print(f"ok    {runs} merges from seed {first}")
+    if done:
+        judge.well(f"merges from seed {first}: {done} cases", done)
+    judge.judged()
 
 
 if __name__ == "__main__":

@@ -4,19 +4,22 @@
 # stops for it, and the report says so, with status 3. The file of a plan's history is then as it was; or it has a history, where a planner stopped.
 # No new file is left beside it, and none is removed that is an input.
 # It also refuses each thread of a plan in turn: that planner isn't started, and the others do their scripts.
-# usage: tests/no_memory.sh PIT FOLDER      PIT is the path of the program, FOLDER has the small example. Wants a C compiler.
+# usage: tests/no_memory.sh PIT FOLDER [PART]      PIT is the path of the program, FOLDER has the small example. PART is N/M, the Nth of M parts of the
+# cases, or the number of one case. Wants a C compiler.
 set -u
 
-if [ $# -ne 2 ] || [ ! -x "$1" ] || [ ! -r "$2/tiny.cpit" ]; then
-    echo "usage: $0 PIT FOLDER" >&2
+. "$(dirname "$0")/judge.sh"
+if [ $# -lt 2 ] || [ $# -gt 3 ] || [ ! -x "$1" ] || [ ! -r "$2/tiny.cpit" ] || ! is_part "${3:-1/1}"; then
+    echo "usage: $0 PIT FOLDER [PART]" >&2
     exit 2
 fi
 pit=$(realpath "$1")
 data=$(realpath "$2")
+part=${3:-1/1}
+alone="$0 $1 $2"
 work=$(mktemp -d)
 trap 'rm -rf "$work"' EXIT
 cd "$work" || exit 2
-failures=0
 
 cat >refuse.c <<'TEXT'
 #define _GNU_SOURCE
@@ -67,8 +70,10 @@ most=300
 
 # each NAME WORD..: runs the program with the words, once for each request.
 each() {
-    local name=$1 refused=0 before=0 number status whole
-    shift
+    ! ours || judge "$1" each_request "${@:2}"
+}
+each_request() {
+    local refused=0 before=0 lacking=0 number status whole
     cp old kept
     "$pit" "$@" >whole.out 2>whole.err
     whole=$?
@@ -79,25 +84,24 @@ each() {
         status=$?
         before=$refused
         if [ -e kept.pit-new ]; then
-            echo "FAIL  $name: request $number refused: a new file is left"
+            echo "request $number refused: a new file is left"
             rm kept.pit-new
-            failures=$((failures + 1))
+            lacking=1
         elif [ "$status" = 3 ] && [ ! -s out ] && cmp -s kept old && [ "$(cat err)" = 'pit: no memory' ]; then
             refused=$((refused + 1))
         elif [ "$status" = 3 ] && grep -q '^planner [0-9]* \(stopped at job [0-9]*: no memory\|not started\)$' err && is_told "$@"; then
             refused=$((refused + 1))
         elif [ "$status" != "$whole" ] || ! cmp -s out whole.out || ! cmp -s err whole.err || ! cmp -s kept whole.kept; then
-            echo "FAIL  $name: request $number refused: status $status"
-            failures=$((failures + 1))
+            echo "request $number refused: status $status"
+            lacking=1
         fi
     done
     # In the last run nothing is left to refuse.
     if [ "$refused" -eq 0 ] || [ "$refused" -ne "$before" ]; then
-        echo "FAIL  $name: $refused of $most runs had no memory: none, or the last one too"
-        failures=$((failures + 1))
-    else
-        echo "ok    $name: $refused requests refused"
+        echo "$refused of $most runs had no memory: none, or the last one too"
+        lacking=1
     fi
+    return $lacking
 }
 
 # input_stays: carries a history on whose new file is an input, once for each request. The input stays, and so does the history.
@@ -110,17 +114,13 @@ input_stays() {
         cmp -s kept.pit-new one && cmp -s kept old && grep -q '^pit: \(no memory\|history is an input\)$' err && stayed=$((stayed + 1))
     done
     rm kept.pit-new
-    if [ "$stayed" = 300 ]; then
-        echo 'ok    plan, the new file is an input: it stays'
-    else
-        echo "FAIL  plan, the new file is an input: it stays in $stayed of 300 runs"
-        failures=$((failures + 1))
-    fi
+    echo "it stays in $stayed of 300 runs"
+    [ "$stayed" = 300 ]
 }
 
 # threads COUNT: plans by so many planners, once for each of their threads, which is refused.
 threads() {
-    local count=$1 before=$failures scripts=() number status
+    local count=$1 lacking=0 scripts=() number status
     printf 'begin\nput 3 1\ncommit\n' >late
     for number in $(seq "$count"); do scripts+=(late); done
     for number in $(seq "$count"); do
@@ -136,11 +136,11 @@ threads() {
             END { exit other || NR != count + 1 }' err || status=lacking
         if [ "$status" != 3 ] || [ "$(cat out)" != '3 1' ] ||
             [ "$("$pit" replay "$data/tiny.cpit" "$data/tiny.prec" kept | head -1)" != "legal $((count - 1)) $((count - 1))" ]; then
-            echo "FAIL  threads: $number of $count refused: status $status"
-            failures=$((failures + 1))
+            echo "thread $number of $count refused: status $status"
+            lacking=1
         fi
     done
-    [ "$failures" -ne "$before" ] || echo "ok    threads: each of $count refused"
+    return $lacking
 }
 
 each 'value' value "$data/tiny.cpit" "$data/tiny.sol"
@@ -152,12 +152,12 @@ each 'plan' plan "$data/tiny.cpit" "$data/tiny.prec" one
 each 'plan, two planners from a start' plan "$data/tiny.cpit" "$data/tiny.prec" --start "$data/tiny.sol" --retries 0 one two
 each 'plan, two planners in turn' plan --in-turn "$data/tiny.cpit" "$data/tiny.prec" one two
 each 'plan with a history' plan --history kept "$data/tiny.cpit" "$data/tiny.prec" one
-cp whole.kept history
+"$pit" plan --history history "${of[@]}" one >out 2>err
 cp history old
 each 'plan, a history is carried on' plan --continue kept "$data/tiny.cpit" "$data/tiny.prec" one
 each 'merge, a history is carried on' merge --continue kept --from 1 "$data/tiny.cpit" "$data/tiny.prec" "$data/early.sol" "$data/over.sol"
 each 'plan, the history is an input' plan --history kept "$data/tiny.cpit" "$data/tiny.prec" kept
-input_stays
+! ours || judge 'plan, the new file is an input: it stays' input_stays
 echo before >old
 each 'merge, an edit that is refused' merge --start "$data/tiny.sol" --history kept "$data/tiny.cpit" "$data/tiny.prec" "$data/early.sol" "$data/short.sol"
 each 'merge, the same is left out' merge --start "$data/tiny.sol" --partial "$data/tiny.cpit" "$data/tiny.prec" "$data/short.sol" "$data/over.sol"
@@ -206,12 +206,12 @@ each 'rows, check --all' check --all "${of[@]}" turned.sol
 each 'rows, table' table rows.cpit rows.sol
 each 'rows, info' info "${of[@]}" --blocks rows.blocks
 each 'rows, plan' plan --start front.sol --history kept "${of[@]}" --blocks rows.blocks rows.job
-cp whole.kept rows.history
+"$pit" plan --start front.sol --history rows.history "${of[@]}" --blocks rows.blocks rows.job >out 2>err
 each 'rows, log' log --writes "${of[@]}" rows.history
 each 'rows, replay' replay "${of[@]}" rows.history
 each 'rows, merge' merge "${of[@]}" front.sol rows.sol
 most=300
-threads 4
+! ours || judge 'threads: each of 4 refused' threads 4
 each 'help' --help
 each 'help on value' value --help
 each 'help value' help value
@@ -231,8 +231,4 @@ each 'words that exclude one another' plan --continue history --start history "$
 each 'one file' value "$data/tiny.cpit"
 each 'a word that is not UTF-8' value $'\xff' x
 
-if [ "$failures" -ne 0 ]; then
-    echo "$failures failed"
-    exit 1
-fi
-echo 'all fine'
+judged

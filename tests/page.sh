@@ -2,21 +2,24 @@
 # Has `share/pit-page` draw schedules by a built `pit`, and looks at each page: that it is well formed and asks for nothing else, that its cells are
 # those of `pit table`, its bars and marks as high as the loads and limits, and each square of its maps of the colour of the period of its block. Then
 # the faults; and that the pictures in `examples` are those of the page.
-# usage: tests/page.sh PIT      PIT is the path of the program. Each case prints a line, `ok` or `FAIL`.
+# usage: tests/page.sh PIT [PART..]      PIT is the path of the program. The parts are hill, small, many, wide and faults, all where none is said.
 set -u
 
-if [ $# -ne 1 ] || [ ! -x "$1" ]; then
-    echo "usage: $0 PIT" >&2
+. "$(dirname "$0")/judge.sh"
+parts=${*:2}
+parts=${parts:-hill small many wide faults}
+if [ $# -lt 1 ] || [ ! -x "$1" ] || [ -n "$(tr ' ' '\n' <<<"$parts" | grep -vxE 'hill|small|many|wide|faults')" ]; then
+    echo "usage: $0 PIT [PART..]      of the parts hill small many wide faults" >&2
     exit 2
 fi
 pit=$(realpath "$1")
+alone="$0 $1"
 top=$(realpath "$(dirname "$0")/..")
 draw=$top/share/pit-page
 hill=$top/examples/hill/hill
 tiny=$top/examples/tiny/tiny
 work=$(mktemp -d)
 trap 'rm -rf "$work"' EXIT
-. "$top/tests/judge.sh"
 cd "$work" || exit 2
 
 # Looks at a page: look.py PIT PAGE MODEL PREC SCHEDULE [--blocks FILE] [--diff OLD]
@@ -260,126 +263,147 @@ has_failed() {
     diff err <(echo "$line") && [ ! -s page.html ] && [ "$status" = "$wanted" ]
 }
 
-drawn 'the hill' "$hill.cpit" "$hill.prec" "$hill.sol"
-drawn 'the hill with its benches' "$hill.cpit" "$hill.prec" "$hill.sol" --blocks "$hill.blocks"
-drawn 'mistakes on the hill, and what they changed' "$hill.cpit" "$hill.prec" "${hill%/*}/mistakes.sol" --blocks "$hill.blocks" --diff "$hill.sol"
-# The pictures in the repository are cut out of this page.
-picture() {
-    grep -o "<svg[^>]*><title>$1.*</svg>" page.html
-}
-judge 'the picture of a load' cmp <(picture 'Load of resource 1<') "${hill%/*}/load.svg"
-judge 'the picture of a bench' cmp <(picture 'Bench z = 4:') "${hill%/*}/bench.svg"
-drawn 'changes without places' "$hill.cpit" "$hill.prec" "$hill.sol" --diff "${hill%/*}/mistakes.sol"
-drawn 'no change' "$hill.cpit" "$hill.prec" "$hill.sol" --diff "$hill.sol" --blocks "$hill.blocks"
-
+# Files that several parts begin with.
 printf '0 0 0 2\n1 0 0 1\n2 0 0 0\n3 1 0 2\n' >blocks
-drawn 'the small pit' "$tiny.cpit" "$tiny.prec" "$tiny.sol"
-drawn 'the small pit with its benches' "$tiny.cpit" "$tiny.prec" "$tiny.sol" --blocks blocks
-drawn 'a breach' "$tiny.cpit" "$tiny.prec" "${tiny%/*}/early.sol" --blocks blocks
-"$pit" plan "$tiny.cpit" "$tiny.prec" "${tiny%/*}/first.script" --history history >out 2>err || exit 2
-drawn 'a history' "$tiny.cpit" "$tiny.prec" history --blocks blocks --diff "$tiny.sol"
-printf '%% no place here\n0:-1.5:1e1:+2 5 x\r\n1 .25 10 2\n2 -1.5 1 2\n\n3 -1.5 10 -0.1\nEOF\nnot read\n' >spelled
-drawn 'places in other words' "$tiny.cpit" "$tiny.prec" "$tiny.sol" --blocks spelled
-printf '0 0 0 0\n1 0 0 0\n2 0 0 0\n3 1 0 0\n' >together
-drawn 'blocks in one place' "$tiny.cpit" "$tiny.prec" "$tiny.sol" --blocks together
-judge 'it says so' grep -q 'A square of several blocks' page.html
-
-sed 's|^NAME: .*|NAME: <\&" <script>alert(1)</script> \&amp; --> '"'"']]> ümlaut|' "$tiny.cpit" >named
-drawn 'a name with marks' named "$tiny.prec" "$tiny.sol" --blocks blocks
-sed '/^NAME/d' "$tiny.cpit" >'no<&"name'
-drawn 'no name, and marks in that of a file' 'no<&"name' "$tiny.prec" "$tiny.sol"
-sed '/^RESOURCE_CONSTRAINT_LIMITS/,$d' "$tiny.cpit" >free
-drawn 'no limits' free "$tiny.prec" "$tiny.sol" --blocks blocks
-sed '/^RESOURCE_CONSTRAINT_COEFFICIENTS/,$d; s/^NRESOURCE_SIDE_CONSTRAINTS: 1/NRESOURCE_SIDE_CONSTRAINTS: 0/' "$tiny.cpit" >bare
-drawn 'no resource' bare "$tiny.prec" "$tiny.sol" --blocks blocks
-sed '/^0 1 I/d; s/^NPERIODS: 2/NPERIODS: 1/' "$tiny.cpit" >short
-printf '0 0\n1 0\n' >soon
-drawn 'one period' short "$tiny.prec" soon --blocks blocks
 : >none
-drawn 'nothing mined' "$tiny.cpit" "$tiny.prec" none --blocks blocks
-sed 's/^NPERIODS: 2/NPERIODS: 1000/; $a 0 999 G 1' "$tiny.cpit" >long
-printf '0 0\n1 500\n2 999\n' >late
-drawn '1,000 periods' long "$tiny.prec" late --blocks blocks
-printf 'NAME: losses\nTYPE: CPIT\nNBLOCKS: 2\nNPERIODS: 2\nNRESOURCE_SIDE_CONSTRAINTS: 1\nDISCOUNT_RATE: 0\nOBJECTIVE_FUNCTION\n0 -5\n1 2\n' >losses
-printf 'RESOURCE_CONSTRAINT_COEFFICIENTS\n0 0 -3\n1 0 2\nRESOURCE_CONSTRAINT_LIMITS\n0 0 I -4 0\n0 1 I -1 1\n' >>losses
 printf '0 0\n1 1\n' >both
-drawn 'values and loads below zero' losses none both
 
-# Of two resources the second alone is above its limit, and then below it.
-printf 'TYPE: CPIT\nNBLOCKS: 2\nNPERIODS: 2\nNRESOURCE_SIDE_CONSTRAINTS: 2\nDISCOUNT_RATE: 0\nRESOURCE_CONSTRAINT_COEFFICIENTS\n0 0 1\n0 1 5\n' >second
-printf 'RESOURCE_CONSTRAINT_LIMITS\n0 0 L 9\n1 0 L 4\n1 1 G 3\n' >>second
-printf '0 0\n' >heavy
-drawn 'a second resource outside its limits' second none heavy
-# More breaches than `pit` prints one by one.
-awk 'BEGIN {
-    print "TYPE: CPIT\nNBLOCKS: 1003\nNPERIODS: 1\nNRESOURCE_SIDE_CONSTRAINTS: 0\nDISCOUNT_RATE: 0" >"tall"
-    printf "0 1002" >"tall.prec"
-    for (b = 1; b < 1003; b++) printf " %d", b >"tall.prec"
-    print "" >"tall.prec"
-}'
-drawn 'more breaches than are printed' tall tall.prec heavy
-
-# 50,000 blocks in periods that are drawn, so that hardly any square is like the one beside it; and all of them have changed.
-awk 'BEGIN {
-    print "TYPE: CPIT\nNBLOCKS: 50000\nNPERIODS: 20\nNRESOURCE_SIDE_CONSTRAINTS: 0\nDISCOUNT_RATE: 0.1" >"many"
-    x = 1
-    for (b = 0; b < 50000; b++) {
-        x = (x * 1664525 + 1013904223) % 4294967296
-        t = int(x / 65536) % 20
-        print b, b % 100, int(b / 100) % 50, int(b / 5000) >"many.blocks"
-        print b, t >"many.sol"
-        print b, (t + 1) % 20 >"many.old"
+# The hill, and the pictures of it.
+part_hill() {
+    drawn 'the hill' "$hill.cpit" "$hill.prec" "$hill.sol"
+    drawn 'the hill with its benches' "$hill.cpit" "$hill.prec" "$hill.sol" --blocks "$hill.blocks"
+    drawn 'mistakes on the hill, and what they changed' "$hill.cpit" "$hill.prec" "${hill%/*}/mistakes.sol" --blocks "$hill.blocks" --diff "$hill.sol"
+    # The pictures in the repository are cut out of this page.
+    picture() {
+        grep -o "<svg[^>]*><title>$1.*</svg>" page.html
     }
-}'
-drawn '50,000 blocks' many none many.sol --blocks many.blocks
-is_small() {
-    "$draw" many none many.sol --blocks many.blocks --diff many.old --pit "$pit" >page.html && [ "$(wc -c <page.html)" -le 2000000 ]
+    judge 'the picture of a load' cmp <(picture 'Load of resource 1<') "${hill%/*}/load.svg"
+    judge 'the picture of a bench' cmp <(picture 'Bench z = 4:') "${hill%/*}/bench.svg"
+    drawn 'changes without places' "$hill.cpit" "$hill.prec" "$hill.sol" --diff "${hill%/*}/mistakes.sol"
+    drawn 'no change' "$hill.cpit" "$hill.prec" "$hill.sol" --diff "$hill.sol" --blocks "$hill.blocks"
 }
-judge 'they take 2 MB at most, with their changes' is_small
-# Of the 50,020 lines of these, of the blocks and of the moves from 20 periods, the page has the first 9,999 and the last.
-is_cut() {
-    "$pit" diff many many.old many.sol >lines
-    { head -n 9999 lines; echo '.. 40,020 lines left out ..'; tail -n 1 lines; } >cut
-    sed -n '/<h2>Changes/,/<\/pre>/p' page.html | sed '1d; s/^<pre[^>]*>//; s/<\/pre>$//' | diff - cut
-}
-judge 'the first lines of the changes and the last one' is_cut
 
-# More places than are drawn each by a square, 501 by 400, in periods that are drawn, or in none; every 997th has changed.
-awk 'BEGIN {
-    print "TYPE: CPIT\nNBLOCKS: 200400\nNPERIODS: 2\nNRESOURCE_SIDE_CONSTRAINTS: 0\nDISCOUNT_RATE: 0" >"wide"
-    x = 1
-    for (b = 0; b < 200400; b++) {
-        x = (x * 1664525 + 1013904223) % 4294967296
-        t = int(x / 65536) % 3
-        print b, b % 501, int(b / 501), 0 >"wide.blocks"
-        if (t < 2) print b, t >"wide.sol"
-        if (b % 997 == 0) t = (t + 1) % 3
-        if (t < 2) print b, t >"wide.old"
+# The small pit, and what is made of it.
+part_small() {
+    drawn 'the small pit' "$tiny.cpit" "$tiny.prec" "$tiny.sol"
+    drawn 'the small pit with its benches' "$tiny.cpit" "$tiny.prec" "$tiny.sol" --blocks blocks
+    drawn 'a breach' "$tiny.cpit" "$tiny.prec" "${tiny%/*}/early.sol" --blocks blocks
+    "$pit" plan "$tiny.cpit" "$tiny.prec" "${tiny%/*}/first.script" --history history >out 2>err || exit 2
+    drawn 'a history' "$tiny.cpit" "$tiny.prec" history --blocks blocks --diff "$tiny.sol"
+    printf '%% no place here\n0:-1.5:1e1:+2 5 x\r\n1 .25 10 2\n2 -1.5 1 2\n\n3 -1.5 10 -0.1\nEOF\nnot read\n' >spelled
+    drawn 'places in other words' "$tiny.cpit" "$tiny.prec" "$tiny.sol" --blocks spelled
+    printf '0 0 0 0\n1 0 0 0\n2 0 0 0\n3 1 0 0\n' >together
+    drawn 'blocks in one place' "$tiny.cpit" "$tiny.prec" "$tiny.sol" --blocks together
+    judge 'it says so' grep -q 'A square of several blocks' page.html
+
+    sed 's|^NAME: .*|NAME: <\&" <script>alert(1)</script> \&amp; --> '"'"']]> ümlaut|' "$tiny.cpit" >named
+    drawn 'a name with marks' named "$tiny.prec" "$tiny.sol" --blocks blocks
+    sed '/^NAME/d' "$tiny.cpit" >'no<&"name'
+    drawn 'no name, and marks in that of a file' 'no<&"name' "$tiny.prec" "$tiny.sol"
+    sed '/^RESOURCE_CONSTRAINT_LIMITS/,$d' "$tiny.cpit" >free
+    drawn 'no limits' free "$tiny.prec" "$tiny.sol" --blocks blocks
+    sed '/^RESOURCE_CONSTRAINT_COEFFICIENTS/,$d; s/^NRESOURCE_SIDE_CONSTRAINTS: 1/NRESOURCE_SIDE_CONSTRAINTS: 0/' "$tiny.cpit" >bare
+    drawn 'no resource' bare "$tiny.prec" "$tiny.sol" --blocks blocks
+    sed '/^0 1 I/d; s/^NPERIODS: 2/NPERIODS: 1/' "$tiny.cpit" >short
+    printf '0 0\n1 0\n' >soon
+    drawn 'one period' short "$tiny.prec" soon --blocks blocks
+    drawn 'nothing mined' "$tiny.cpit" "$tiny.prec" none --blocks blocks
+    sed 's/^NPERIODS: 2/NPERIODS: 1000/; $a 0 999 G 1' "$tiny.cpit" >long
+    printf '0 0\n1 500\n2 999\n' >late
+    drawn '1,000 periods' long "$tiny.prec" late --blocks blocks
+    printf 'NAME: losses\nTYPE: CPIT\nNBLOCKS: 2\nNPERIODS: 2\nNRESOURCE_SIDE_CONSTRAINTS: 1\nDISCOUNT_RATE: 0\nOBJECTIVE_FUNCTION\n0 -5\n1 2\n' >losses
+    printf 'RESOURCE_CONSTRAINT_COEFFICIENTS\n0 0 -3\n1 0 2\nRESOURCE_CONSTRAINT_LIMITS\n0 0 I -4 0\n0 1 I -1 1\n' >>losses
+    drawn 'values and loads below zero' losses none both
+
+    # Of two resources the second alone is above its limit, and then below it.
+    printf 'TYPE: CPIT\nNBLOCKS: 2\nNPERIODS: 2\nNRESOURCE_SIDE_CONSTRAINTS: 2\nDISCOUNT_RATE: 0\nRESOURCE_CONSTRAINT_COEFFICIENTS\n0 0 1\n0 1 5\n' >second
+    printf 'RESOURCE_CONSTRAINT_LIMITS\n0 0 L 9\n1 0 L 4\n1 1 G 3\n' >>second
+    printf '0 0\n' >heavy
+    drawn 'a second resource outside its limits' second none heavy
+    # More breaches than `pit` prints one by one.
+    awk 'BEGIN {
+        print "TYPE: CPIT\nNBLOCKS: 1003\nNPERIODS: 1\nNRESOURCE_SIDE_CONSTRAINTS: 0\nDISCOUNT_RATE: 0" >"tall"
+        printf "0 1002" >"tall.prec"
+        for (b = 1; b < 1003; b++) printf " %d", b >"tall.prec"
+        print "" >"tall.prec"
+    }'
+    drawn 'more breaches than are printed' tall tall.prec heavy
+}
+
+# Many blocks, and what of them is left out.
+part_many() {
+    # 50,000 blocks in periods that are drawn, so that hardly any square is like the one beside it; and all of them have changed.
+    awk 'BEGIN {
+        print "TYPE: CPIT\nNBLOCKS: 50000\nNPERIODS: 20\nNRESOURCE_SIDE_CONSTRAINTS: 0\nDISCOUNT_RATE: 0.1" >"many"
+        x = 1
+        for (b = 0; b < 50000; b++) {
+            x = (x * 1664525 + 1013904223) % 4294967296
+            t = int(x / 65536) % 20
+            print b, b % 100, int(b / 100) % 50, int(b / 5000) >"many.blocks"
+            print b, t >"many.sol"
+            print b, (t + 1) % 20 >"many.old"
+        }
+    }'
+    drawn '50,000 blocks' many none many.sol --blocks many.blocks
+    is_small() {
+        "$draw" many none many.sol --blocks many.blocks --diff many.old --pit "$pit" >page.html && [ "$(wc -c <page.html)" -le 2000000 ]
     }
-}'
-drawn 'a coarser grid' wide none wide.sol --blocks wide.blocks --diff wide.old
-judge 'it says so' grep -q 'There are 200,400 places, too many to draw: a square stands for up to 2 by 2 of them' page.html
-
-fails 'a fault of the model' 2 'pit: model line 1: missing TYPE' none none none --pit "$pit"
-fails 'a fault of the blocks' 2 'pit: blocks line 1: field count' "$tiny.cpit" "$tiny.prec" "$tiny.sol" --blocks both --pit "$pit"
-fails 'no model' 3 'pit: cannot read model' absent none none --pit "$pit"
-fails 'no schedule' 3 'pit: cannot read schedule' "$tiny.cpit" "$tiny.prec" absent --pit "$pit"
-fails 'no old schedule' 3 'pit: cannot read old' "$tiny.cpit" "$tiny.prec" "$tiny.sol" --diff absent --pit "$pit"
-fails 'no blocks' 3 'pit: cannot read blocks' "$tiny.cpit" "$tiny.prec" "$tiny.sol" --blocks absent --pit "$pit"
-head -n 3 blocks >fewer
-fails 'a block without a place' 2 'pit-page: blocks: 1 of 4 have no place' "$tiny.cpit" "$tiny.prec" "$tiny.sol" --blocks fewer --pit "$pit"
-fails 'no pit' 3 'pit-page: cannot run ./absent' "$tiny.cpit" "$tiny.prec" "$tiny.sol" --pit ./absent
-printf '#!/bin/sh\nkill -9 $$\n' >killed
-chmod +x killed
-fails 'a pit that is killed' 3 'pit-page: pit info was ended by signal 9' "$tiny.cpit" "$tiny.prec" "$tiny.sol" --pit ./killed
-full() {
-    "$draw" "$tiny.cpit" "$tiny.prec" "$tiny.sol" --pit "$pit" 2>err >/dev/full
-    [ $? = 3 ] && [ "$(cat err)" = 'pit-page: cannot write' ]
+    judge 'they take 2 MB at most, with their changes' is_small
+    # Of the 50,020 lines of these, of the blocks and of the moves from 20 periods, the page has the first 9,999 and the last.
+    is_cut() {
+        "$pit" diff many many.old many.sol >lines
+        { head -n 9999 lines; echo '.. 40,020 lines left out ..'; tail -n 1 lines; } >cut
+        sed -n '/<h2>Changes/,/<\/pre>/p' page.html | sed '1d; s/^<pre[^>]*>//; s/<\/pre>$//' | diff - cut
+    }
+    judge 'the first lines of the changes and the last one' is_cut
 }
-judge 'a full output' full
-on_the_path() {
-    mkdir bin && ln -s "$pit" bin/pit && PATH=$work/bin:$PATH "$draw" "$tiny.cpit" "$tiny.prec" "$tiny.sol" >page.html && grep -q '<h1>' page.html
-}
-judge 'the pit on the path' on_the_path
 
+# More places than squares.
+part_wide() {
+    # More places than are drawn each by a square, 501 by 400, in periods that are drawn, or in none; every 997th has changed.
+    awk 'BEGIN {
+        print "TYPE: CPIT\nNBLOCKS: 200400\nNPERIODS: 2\nNRESOURCE_SIDE_CONSTRAINTS: 0\nDISCOUNT_RATE: 0" >"wide"
+        x = 1
+        for (b = 0; b < 200400; b++) {
+            x = (x * 1664525 + 1013904223) % 4294967296
+            t = int(x / 65536) % 3
+            print b, b % 501, int(b / 501), 0 >"wide.blocks"
+            if (t < 2) print b, t >"wide.sol"
+            if (b % 997 == 0) t = (t + 1) % 3
+            if (t < 2) print b, t >"wide.old"
+        }
+    }'
+    drawn 'a coarser grid' wide none wide.sol --blocks wide.blocks --diff wide.old
+    judge 'it says so' grep -q 'There are 200,400 places, too many to draw: a square stands for up to 2 by 2 of them' page.html
+}
+
+# Faults, and streams.
+part_faults() {
+    fails 'a fault of the model' 2 'pit: model line 1: missing TYPE' none none none --pit "$pit"
+    fails 'a fault of the blocks' 2 'pit: blocks line 1: field count' "$tiny.cpit" "$tiny.prec" "$tiny.sol" --blocks both --pit "$pit"
+    fails 'no model' 3 'pit: cannot read model' absent none none --pit "$pit"
+    fails 'no schedule' 3 'pit: cannot read schedule' "$tiny.cpit" "$tiny.prec" absent --pit "$pit"
+    fails 'no old schedule' 3 'pit: cannot read old' "$tiny.cpit" "$tiny.prec" "$tiny.sol" --diff absent --pit "$pit"
+    fails 'no blocks' 3 'pit: cannot read blocks' "$tiny.cpit" "$tiny.prec" "$tiny.sol" --blocks absent --pit "$pit"
+    head -n 3 blocks >fewer
+    fails 'a block without a place' 2 'pit-page: blocks: 1 of 4 have no place' "$tiny.cpit" "$tiny.prec" "$tiny.sol" --blocks fewer --pit "$pit"
+    fails 'no pit' 3 'pit-page: cannot run ./absent' "$tiny.cpit" "$tiny.prec" "$tiny.sol" --pit ./absent
+    printf '#!/bin/sh\nkill -9 $$\n' >killed
+    chmod +x killed
+    fails 'a pit that is killed' 3 'pit-page: pit info was ended by signal 9' "$tiny.cpit" "$tiny.prec" "$tiny.sol" --pit ./killed
+    full() {
+        "$draw" "$tiny.cpit" "$tiny.prec" "$tiny.sol" --pit "$pit" 2>err >/dev/full
+        [ $? = 3 ] && [ "$(cat err)" = 'pit-page: cannot write' ]
+    }
+    judge 'a full output' full
+    on_the_path() {
+        mkdir bin && ln -s "$pit" bin/pit && PATH=$work/bin:$PATH "$draw" "$tiny.cpit" "$tiny.prec" "$tiny.sol" >page.html && grep -q '<h1>' page.html
+    }
+    judge 'the pit on the path' on_the_path
+}
+
+# `at` is what repeats a case: its part.
+for at in $parts; do
+    "part_$at"
+done
 judged

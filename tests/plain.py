@@ -7,7 +7,7 @@ usage: tests/plain.py PIT [PITS [SEED]]      60 pits from seed 1, where these ar
 Plain are digits with single blanks between and a line feed behind, in some texts a minus and a point. The other forms have doubled blanks, tabs, colons,
 carriage returns, blanks at the ends of lines, or zeros before numbers. Whole numbers have 1 to 12 digits, on both sides of the nine that a plain line may
 have, and decimals up to 16 and 7, on both sides of its twelve before a point and six behind it. Some texts have faults, and one pit's texts are cut behind
-each byte. Ends with status 1 at the first difference, and leaves the texts.
+each byte. Ends with status 1 where there is a difference, and leaves the texts. Each pit is a case, and so is each text that is cut.
 """
 import os
 import random
@@ -16,6 +16,12 @@ import subprocess
 import sys
 import tempfile
 
+sys.dont_write_bytecode = True
+sys.path.insert(0, os.path.dirname(os.path.abspath(__file__)))
+import judge  # noqa: E402
+
+if len(sys.argv) < 2 or not os.access(sys.argv[1], os.X_OK):
+    sys.exit("usage: tests/plain.py PIT [PITS [SEED]]")
 PROGRAM = os.path.abspath(sys.argv[1])
 PITS = int(sys.argv[2]) if len(sys.argv) > 2 else 60
 SEED = int(sys.argv[3]) if len(sys.argv) > 3 else 1
@@ -119,9 +125,12 @@ def put(folder, texts):
             file.write(text)
 
 
-def compare(texts, commands, forms, what):
-    """Compares what is said of the texts with what is said of them in each other form."""
-    runs = len(commands)
+class Differs(Exception):
+    """A text of which something else is said in another form."""
+
+
+def compare(texts, commands, forms):
+    """Compares what is said of the texts with what is said of them in each other form, and returns the statuses."""
     with tempfile.TemporaryDirectory() as folder:
         put(folder, texts)
         plain = [said(folder, command) for command in commands]
@@ -132,37 +141,56 @@ def compare(texts, commands, forms, what):
                 if form == "zeros" and command[0] == "info":
                     continue
                 other = said(folder, command)
-                runs += 1
                 if other != first:
                     kept = tempfile.mkdtemp(prefix="plain-")
                     put(kept, texts)
-                    print(f"{what}, {command[0]}, with {form}: {first} became {other}; the texts are in {kept}")
-                    sys.exit(1)
-    return runs, [it[0] for it in plain]
+                    raise Differs(f"{command[0]}, with {form}: {first} became {other}\nthe texts are in {kept}")
+    return [it[0] for it in plain]
+
+
+def of_seed(seed):
+    """One drawn pit, and the statuses that its plain texts ended with."""
+    draw = random.Random(seed)
+    texts = drawn_texts(draw)
+    for _ in range(draw.choice([0, 0, 1, 1, 2])):
+        spoil(draw, texts)
+    return compare([written(draw, it) for it in texts], COMMANDS, FORMS)
+
+
+def cut(k, command):
+    """The text at this place among those of the first pit, cut behind each byte."""
+    whole = [("\n".join(it) + "\n").encode() for it in drawn_texts(random.Random(SEED))]
+    for end in range(len(whole[k]) + 1):
+        try:
+            compare([it[:end] if at == k else it for at, it in enumerate(whole)], [command], ["doubled blanks", "zeros"])
+        except Differs as differs:
+            raise Differs(f"cut behind {end} bytes: {differs}") from None
 
 
 def main():
-    runs, statuses = 0, {}
+    done, statuses = 0, set()
     for seed in range(SEED, SEED + PITS):
-        draw = random.Random(seed)
-        texts = drawn_texts(draw)
-        for _ in range(draw.choice([0, 0, 1, 1, 2])):
-            spoil(draw, texts)
-        count, ended = compare([written(draw, it) for it in texts], COMMANDS, FORMS, f"seed {seed}")
-        runs += count
-        for status in ended:
-            statuses[status] = statuses.get(status, 0) + 1
-    draw = random.Random(SEED)
-    whole = [("\n".join(it) + "\n").encode() for it in drawn_texts(draw)]
+        try:
+            statuses |= set(of_seed(seed))
+            done += 1
+        except Differs as differs:
+            judge.wrong(f"a pit of seed {seed}", differs, f"tests/plain.py {sys.argv[1]} 1 {seed}")
+    if done:
+        judge.well(f"pits from seed {SEED}: {done} cases", done)
+    again = f"tests/plain.py {sys.argv[1]} {PITS} {SEED}"
     for k, command in (0, COMMANDS[0]), (1, COMMANDS[1]), (2, COMMANDS[2]), (3, COMMANDS[0]):
-        for end in range(len(whole[k]) + 1):
-            texts = [it[:end] if at == k else it for at, it in enumerate(whole)]
-            runs += compare(texts, [command], ["doubled blanks", "zeros"], f"{NAMES[k]} cut behind {end} bytes")[0]
-    # Texts that are read and texts that are refused come up, so the draws are of use.
-    if not {0, 2} <= set(statuses):
-        print(f"only the statuses {sorted(statuses)} came up")
-        sys.exit(1)
-    print(f"{runs} runs, each text the same in each form; ended with 0: {statuses.get(0, 0)}, 1: {statuses.get(1, 0)}, 2: {statuses.get(2, 0)}")
+        try:
+            cut(k, command)
+            judge.well(f"{NAMES[k]}, cut behind each byte")
+        except Differs as differs:
+            judge.wrong(f"{NAMES[k]}, cut behind each byte", differs, again)
+    # Texts that are read and texts that are refused come up, so the draws are of use. One pit alone has not both.
+    if PITS > 1:
+        if {0, 2} <= statuses:
+            judge.well("texts that are read and texts that are refused came up")
+        else:
+            judge.wrong("texts that are read and texts that are refused came up", f"only the statuses {sorted(statuses)} came up", again)
+    judge.judged()
 
 
 if __name__ == "__main__":

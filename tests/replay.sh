@@ -3,17 +3,27 @@
 # first and a commit for each line that says so, and has the value that the report and the solution have. Then each reply is changed in turn: the
 # history is then illegal at that place. On the first of the pits that have 2 to 4 planners these then work for three days, each of which carries on
 # the history of the day before.
-# usage: tests/replay.sh PIT [RUNS [DAYS]]      PIT is the path of the program; 200 pits, and 20 of them for three days, where their numbers aren't
-# said. Some three of four pits have more than one planner: 27 are enough for 20 such, and 266 for 200.
+# usage: tests/replay.sh PIT [N/M] [RUNS [DAYS [SEED]]]      PIT is the path of the program; 200 pits from seed 1, and 20 of them for three days, where
+# their numbers aren't said. N/M takes the Nth of M parts of the pits. Some three of four pits have more than one planner: 27 are enough for 20 such, and
+# 266 for 200. Each pit is a case. It ends at the first that isn't well.
 set -u
 
+. "$(dirname "$0")/judge.sh"
 if [ $# -lt 1 ] || [ ! -x "$1" ]; then
-    echo "usage: $0 PIT [RUNS [DAYS]]" >&2
+    echo "usage: $0 PIT [N/M] [RUNS [DAYS [SEED]]]" >&2
     exit 2
 fi
 pit=$(realpath "$1")
-runs=${2:-200}
-wanted=${3:-20}
+again="$0 $1"
+shift
+if [[ ${1:-} == */* ]] && is_part "$1"; then
+    part=$1
+    shift
+fi
+runs=${1:-200}
+first=${3:-1}
+# Days are shared among the parts, as the pits are.
+wanted=$(((${2:-20} + ${part#*/} - ${part%/*}) / ${part#*/}))
 work=$(mktemp -d)
 trap 'rm -rf "$work"' EXIT
 cd "$work" || exit 2
@@ -59,9 +69,11 @@ draw() {
         }'
 }
 
+# fail TEXT: this pit isn't well, and the script ends.
 fail() {
-    echo "FAIL  seed $seed: $1"
-    exit 1
+    again="$again 1 1 $seed"
+    wrong "a pit of seed $seed" <<<"$1"
+    judged
 }
 
 # replay HISTORY STATUS TEXT: replays, and compares.
@@ -144,7 +156,9 @@ days() {
 entries=0
 refused=0
 carried=0
-for ((seed = 1; seed <= runs; seed++)); do
+pits=0
+for ((seed = first; seed < first + runs; seed++)); do
+    ours || continue
     planners=$(draw "$seed")
     scripts=()
     for ((p = 1; p <= planners; p++)); do scripts+=("script$p"); done
@@ -155,8 +169,14 @@ for ((seed = 1; seed <= runs; seed++)); do
         days
         carried=$((carried + 1))
     fi
+    pits=$((pits + 1))
+    passed=$((passed + 1))
 done
-[ "$carried" = "$wanted" ] || fail "three days on no more than $carried pits, wanted $wanted"
-[ "$entries" -gt "$((5 * runs))" ] || fail "no more than $entries entries"
-[ "$runs" -lt 20 ] || [ "$((2 * refused))" -lt "$runs" ] || fail "$refused of $runs starts are refused"
-echo "ok    $runs pits, $((2 * runs - refused)) plans, $entries entries replayed, each of them changed in turn; three days of 2 to 4 planners on $carried pits"
+echo "ok    pits from seed $first: $pits cases"
+# So few starts are refused, and so many histories have entries, that the draws are of use. A few pits say nothing of that.
+came_up() {
+    echo "$((2 * pits - refused)) plans, $entries entries replayed, each of them changed in turn; three days on $carried pits, wanted $wanted"
+    [ "$carried" = "$wanted" ] && [ "$entries" -gt "$((5 * pits))" ] && [ "$((2 * refused))" -lt "$pits" ]
+}
+[ "$pits" -lt 20 ] || judge 'plans, entries and days came up' came_up
+judged
