@@ -1,8 +1,8 @@
-"""Wrong bodies that no other theme refuses: of `check --all`, and of what a merge's edit was made from."""
+"""Wrong bodies that no other theme refuses: of `check --all`, of what a merge's edit was made from, and of a solution."""
 from merges import MARK_1, SHORT, commit, merged, schedule
 from merges_bases import based
 from tiny import LOADING, MODEL, PRECEDENCES
-from views import case, lines
+from views import case, fault, lines
 
 FILES = {"model": MODEL.encode(), "precedence": PRECEDENCES.encode()}
 
@@ -60,4 +60,7 @@ MERGES = [
     ),
 ]
 
-CASES = [*ALL, *MERGES]
+# The later line doesn't count in place of the first.
+REPEATED = fault("a block in two periods", "check", b"2 0\n2 1\n", b"pit: solution line 2: repeated", prec=b"")
+
+CASES = [*ALL, *MERGES, REPEATED]
