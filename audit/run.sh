@@ -42,7 +42,7 @@ esac
 wanted=" $* "
 tree=$(mktemp -d)
 trap 'rm -rf "$tree"' EXIT
-git ls-files -z --cached --others --exclude-standard | xargs -0 cp --parents -t "$tree" || exit 2
+scripts/lay_out.sh "$tree" || exit 2
 failures=0
 
 # take CRATE: what the checkout's own checks kept of the crate, and the libraries that they built. Files that rt replaces and doesn't write into are
@@ -94,15 +94,6 @@ plants() {
 tests() {
     (cd "$tree/crates/$1" && rt test ${RT_JOBS:+--jobs "$RT_JOBS"}) || fail "tests of $1"
 }
-
-# The crates that stand here alone are laid into the copy, each with the line of crates.txt that it needs: of samples first, which the others use.
-for folder in audit/tests/pit_sample audit/tests/test_*; do
-    crate=$(basename "$folder")
-    cat "$folder/needs.txt" >>"$tree/crates.txt"
-    (cd "$folder" && find . -mindepth 2 -name '*.txt') | while read -r file; do
-        install -D -m 644 "$folder/$file" "$tree/crates/$crate/${file%.txt}"
-    done
-done
 
 tried=0
 for folder in "$tree"/crates/*/src; do
