@@ -72,7 +72,7 @@ def differences(*rows):
 def into_full_files(words):
     """A command into files that are full behind each byte of what it writes, and one that takes it all."""
     status, whole, _ = wrote(words)
-    rows = [("into as many bytes as it writes", wrote(words, len(whole))[:2], (status, whole))]
+    rows = [("whether it writes", whole != b"", True), ("into as many bytes as it writes", wrote(words, len(whole))[:2], (status, whole))]
     for room in range(len(whole)):
         failed, front, error = wrote(words, room)
         rows.append((f"into {room} bytes", (failed, front, error.endswith(b"pit: cannot write\n")), (3, whole[:room], True)))
@@ -86,7 +86,7 @@ def from_slow_pipes(words):
     found = by_pipes([inputs.get(word, word) for word in words], texts)
     for name in texts:
         os.remove(name)
-    return differences(("by pipes", found, wrote(words)))
+    return differences(("whether it writes", found[1] != b"", True), ("by pipes", found, wrote(words)))
 
 
 def main():

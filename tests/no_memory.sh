@@ -153,6 +153,7 @@ each 'plan, two planners from a start' plan "$data/tiny.cpit" "$data/tiny.prec" 
 each 'plan, two planners in turn' plan --in-turn "$data/tiny.cpit" "$data/tiny.prec" one two
 each 'plan with a history' plan --history kept "$data/tiny.cpit" "$data/tiny.prec" one
 "$pit" plan --history history "${of[@]}" one >out 2>err
+[ -s history ] || { cat err >&2; exit 2; }
 cp history old
 each 'plan, a history is carried on' plan --continue kept "$data/tiny.cpit" "$data/tiny.prec" one
 each 'merge, a history is carried on' merge --continue kept --from 1 "$data/tiny.cpit" "$data/tiny.prec" "$data/early.sol" "$data/over.sol"

@@ -1,6 +1,6 @@
 """Texts and reports of a million lines, or of a million pairs."""
 import tiny
-from case import fault, says
+from case import Pipe, fault, says
 
 MILLION = 10**6
 JOB = b"begin\ncommit\n"
@@ -18,6 +18,6 @@ CASES = [
          files={
              "square": b"TYPE: CPIT\nNBLOCKS: 2000\nNPERIODS: 1\nNRESOURCE_SIDE_CONSTRAINTS: 0\nDISCOUNT_RATE: 0\n",
              "million": "".join(f"{b} 1000 {' '.join(map(str, range(1000)))}\n" for b in range(1000, 2000)).encode(),
-             "later": "".join(f"{b} 0\n" for b in range(1000, 2000)).encode(),
+             "later": Pipe("".join(f"{b} 0\n" for b in range(1000, 2000)).encode()),
          }),
 ]

@@ -76,9 +76,6 @@ edit 1 entry 2 changes 1 left 0 cause - committed 2
 edit 2 entry 3 changes 1 left 0 cause 2 refused precedence 1 0
 value 0.000000000000000000
 {SHORT}""", 1),
-    says("a history that is not there yet is carried on", f"merge --continue begun {OF} C", "3 1\n",
-         "history new\nedit 1 entry 1 changes 1 left 0 cause - committed 1\nvalue 4.545454545455000000\n",
-         left={"begun": b'{"format":1}\n{"act":"commit","job":1,"planner":1,"reads":[[3,null]],"reply":{"committed":1},"start":0,"writes":[[3,1]]}\n'}),
     says("nothing that is new", f"merge --continue begun --from 1 {OF} C C", "3 1\n",
          "edit 1 entry - changes 0 left 0 cause - nothing\nedit 2 entry - changes 0 left 0 cause - nothing\nvalue 4.545454545455000000\n",
          files={"begun": b'{"format":1}\n{"act":"commit","job":1,"planner":1,"reads":[[3,null]],"reply":{"committed":1},"start":0,"writes":[[3,1]]}\n'}),

@@ -14,7 +14,7 @@ SUM_OF_NOTHING = hashlib.sha256(b"").hexdigest()
 LOADED = "0 0\n1 0\n3 0\n"
 
 FILES = {
-    "model": MODEL.encode(), "precedence": tiny.PRECEDENCES.encode(), "blocks": tiny.PLACES.encode(), "solution": tiny.SOLUTION.encode(),
+    "model": MODEL.encode(), "precedence": tiny.PRECEDENCES.encode(), "solution": tiny.SOLUTION.encode(),
     "early": b"2 0\n", "empty": b"", "folder": Folder(), "refused": b"no model\n", "revised": REVISED.encode(), "loaded": LOADED.encode(),
     # Its block is none of this pit.
     "foreign": b'{"format":1}\n{"act":"commit","job":1,"planner":1,"reads":[],"reply":{"committed":7},"start":3,"writes":[[4,0]]}\n',
@@ -26,11 +26,9 @@ OF = "model precedence"
 SHORT = "short 0 1 0.000000 1.000000\n"
 
 CHECKS = [
-    says("a sound solution", f"check {OF} solution", f"value {VALUE}\nfine\n"),
     says("breach and shortfall", f"check {OF} early", f"value 30.000000000000000000\nprecedence 2 0\n{SHORT}", status=1),
     fault("bad precedences", "check model refused solution", "precedence line 1: bad number"),
     fault("no precedences", "check model absent solution", "cannot read precedence"),
-    says("all of it", f"check --all {OF} solution", f"value {VALUE}\nfine\n"),
     says("pairs and a load, the option behind the files", f"check {OF} wrong --all", """\
 value 46.409090909090000000
 precedence 1 0 0 1
@@ -38,15 +36,8 @@ precedence 2 0 0 1
 over 0 0 6.000000 4.000000
 broken 2 over 1 short 0
 """, status=1, files={"wrong": b"0 1\n1 0\n2 0\n3 0\n"}),
-    says("a predecessor that is not mined", f"check --all {OF} early", f"""\
-value 30.000000000000000000
-precedence 2 0 0 -
-precedence 2 1 0 -
-{SHORT}broken 2 over 0 short 1
-""", status=1),
     # Under the limit that it revised nothing is over; as a solution, under the model's own, it is.
     says("a history", f"check --all {OF} revised", f"value 15.500000000000000000\n{SHORT}broken 0 over 0 short 1\n", status=1),
-    says("its solution", f"check --all {OF} loaded", f"value 15.500000000000000000\nover 0 0 5.000000 4.000000\n{SHORT}broken 0 over 1 short 1\n", status=1),
     fault("an entry of another pit", f"check --all {OF} foreign", "schedule: illegal 1"),
     fault("a cut history", f"check --all {OF} cut", "schedule line 1: not json", files={"cut": Pipe(b' \t{"format":1')}),
     fault("a bad solution", f"check --all {OF} refused", "schedule line 1: bad number"),
@@ -64,10 +55,6 @@ precedence 2 1 0 -
 
 COLUMNS = "period,blocks,value,cumulative,load_0,lower_0,upper_0,room_0\n"
 TABLES = [
-    says("a table", "table model solution", f"""\
-{COLUMNS}0,2,10.500000000000000000,10.500000000000000000,4.000000,,4.000000,0.000000
-1,1,27.272727272730000000,37.772727272730000000,3.000000,1.000000,4.000000,1.000000
-"""),
     says("a history by a pipe", "table model history", f"""\
 {COLUMNS}0,3,15.500000000000000000,15.500000000000000000,5.000000,,5.000000,0.000000
 1,0,0.000000000000000000,15.500000000000000000,0.000000,1.000000,4.000000,4.000000
@@ -123,27 +110,8 @@ pairs 3
 roots 2
 highest 2
 """
-MISSPELT = MODEL.replace("NRESOURCE_SIDE_CONSTRAINTS: 1", "NRESOURCE_SIDE_CONSTRAINTS: 2").replace("OBJECTIVE_FUNCTION:", "Objectivé:")
 INFO = [
-    says("counts", f"info {OF}", COUNTS),
     says("counts, from pipes", f"info {OF}", COUNTS, files={"model": Pipe(MODEL.encode()), "precedence": Pipe(tiny.PRECEDENCES.encode())}),
-    says("counts with places", f"info --blocks blocks {OF}", COUNTS + "places 4\nbenches 3\n"),
-    says("a section that is misspelt", "info misspelt empty", """\
-blocks 4
-periods 2
-resources 2
-rate 0.100000
-profits 0
-coefficients 4
-lower 1
-upper 2
-pairs 0
-roots 4
-highest -
-unlimited 1
-unmeetable 0 0
-unknown 7 11 Objectiv??
-""", files={"misspelt": MISSPELT.replace("0 0 L 4\n", "0 0 L -1\n").encode()}),
     fault("a bad model", "info refused refused --blocks refused", "model line 2: missing TYPE"),
     fault("bad precedences", "info model refused --blocks refused", "precedence line 1: bad number"),
     fault("bad blocks", f"info {OF} --blocks refused", "blocks line 1: field count"),
@@ -153,12 +121,10 @@ unknown 7 11 Objectiv??
 ]
 
 SHOWN = [
-    says("a solution", "show model solution", tiny.SOLUTION),
     says("a solution of other lines", "show model lines", "0 0\n2 1\n", files={"lines": Pipe(b"2 0 1 1\n% x\n0 0 0 1.0\n1 0 0 0\n")}),
-    says("a solution before its commit", "show --at 0 model solution"),
     fault("past a solution", "show model solution --at 2", "at: 1 commits"),
     says("a history", "show model history", f"% commits 2 sum {SUM_OF_REVISED}\n{LOADED}", files={"history": Pipe(REVISED.encode())}),
-    *(says(f"a history up to a commit, {at}", ["show", "model", "revised", *at.split()], f"% commits 1 sum {SUM_OF_FIRST}\n0 0\n1 0\n") for at in ("--at=1", "--at +1")),
+    *(says(f"a history up to a commit, {at}", ["show", *at.split(), "model", "revised"], f"% commits 1 sum {SUM_OF_FIRST}\n0 0\n1 0\n") for at in ("--at=1", "--at +1")),
     says("a history before its commits", "show model revised --at 0", f"% commits 0 sum {SUM_OF_NOTHING}\n"),
     fault("past a history", "show model revised --at 3", "at: 2 commits"),
     fault("past any history", "show model revised --at 4294967295", "at: 2 commits"),
@@ -182,7 +148,6 @@ SINCE = [
 ]
 
 VALUES = [
-    says("a value", "value model solution", f"{VALUE}\n"),
     says("files behind --", "value -- model solution", f"{VALUE}\n"),
     # A word of its environment is none of its words.
     says("an environment", "value model solution", f"{VALUE}\n", environment={"PIT": "--version", "LC_ALL": "de_DE.UTF-8", "LANG": "de_DE.UTF-8"}),

@@ -86,7 +86,6 @@ GREATEST = [
 # Files that cannot be opened or read: the line has the input's word, and not the path.
 OPENED = [
     fault("no model", "value missing solution", "cannot read model"),
-    fault("no solution", "value model missing", "cannot read solution"),
     fault("neither file", "value missing missing", "cannot read model"),
     fault("check, no file at all", "check missing missing missing", "cannot read model"),
     fault("check, the model alone", "check model missing missing", "cannot read precedence"),
