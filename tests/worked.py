@@ -1,8 +1,8 @@
 #!/usr/bin/env python3
 """Has a built `pit` do worked examples, and compares status, both outputs and each file in its folder, whole.
 
-usage: tests/worked.py PIT [N/M] [THEME[:CASE]..]      the themes of tests/worked/, all where none is said, and of one a case by its number; of
-                                                      their cases the Nth of M parts, one at a time, where several parts run side by side
+usage: tests/worked.py PIT [N/M] [THEME[:CASE]..|-THEME..]      the themes of tests/worked/: these, of one a case by its number; or all but these, or all;
+                                                               of their cases the Nth of M parts, one at a time, since other parts run beside it
 
 A theme is a file of tests/worked/ with FILES, what lies in the folder that each case begins with, and CASES. Ends with status 1 where a case isn't as it
 should be, and says in which way.
@@ -252,22 +252,28 @@ def wrongs(program, case, files):
     return [f"{what}: {now!r:.{SHOWN}}, wanted {wanted!r:.{SHOWN}}" for what, (wanted, now) in said.items() if not is_well(wanted, now)]
 
 
+USAGE = f"usage: {sys.argv[0]} PIT [N/M] [THEME[:CASE]..|-THEME..]"
+
+
 def asked_for(words, known):
     """The part, and of each theme that is asked for its name and the number of a case, or None for all."""
     part = judge.part_of(words[0]) if words else None
-    themes = []
+    themes, left_out = [], set()
     for word in words[1:] if part else words:
-        name, _, number = word.partition(":")
-        if name not in known or not (number.isdigit() or word == name):
-            sys.exit(f"usage: {sys.argv[0]} PIT [N/M] [THEME[:CASE]..]      of the themes {' '.join(known)}")
-        themes.append((name, int(number) if number else None))
-    return part, themes or [(name, None) for name in known]
+        name, _, number = word.removeprefix("-").partition(":")
+        if name not in known or not (number.isdigit() or word.removeprefix("-") == name):
+            sys.exit(f"{USAGE}      of the themes {' '.join(known)}")
+        if word.startswith("-"):
+            left_out.add(name)
+        else:
+            themes.append((name, int(number) if number else None))
+    return part, themes or [(name, None) for name in known if name not in left_out]
 
 
 def main():
     known = sorted(name[:-3] for name in os.listdir(THEMES) if name.endswith(".py") and name[:-3] not in NO_THEMES)
     if len(sys.argv) < 2 or not os.access(sys.argv[1], os.X_OK):
-        sys.exit(f"usage: {sys.argv[0]} PIT [N/M] [THEME[:CASE]..]      of the themes {' '.join(known)}")
+        sys.exit(f"{USAGE}      of the themes {' '.join(known)}")
     part, themes = asked_for(sys.argv[2:], known)
     program = os.path.abspath(sys.argv[1])
     at = 0
