@@ -2,20 +2,25 @@
 # Has a built `pit` write one history's file by two programs at once, of which one does or both do, one after the other: no entry is lost. Then it is
 # killed before and behind each call that opens, locks, writes, syncs or renames a file, or sets its permissions, and at moments that are drawn: the
 # file holds the old history or the whole new one, and the next program goes on from there.
-# usage: tests/carry_on.sh PIT [ROUNDS [SEED [PART]]]      PIT is the path of the program; 50 rounds and a drawn seed, where they aren't said. PART is
-# N/M, the Nth of M parts of the cases, or the number of one case. Wants a C compiler.
+# usage: tests/carry_on.sh PIT [N/M] [ROUNDS [SEED]]      PIT is the path of the program; 50 rounds and a drawn seed, where they aren't said. N/M takes
+# the Nth of M parts of the eight cases. Wants a C compiler.
 set -u
 
 . "$(dirname "$0")/judge.sh"
-if [ $# -lt 1 ] || [ ! -x "$1" ] || ! is_part "${4:-1/1}"; then
-    echo "usage: $0 PIT [ROUNDS [SEED [PART]]]" >&2
+if [ $# -lt 1 ] || [ ! -x "$1" ]; then
+    echo "usage: $0 PIT [N/M] [ROUNDS [SEED]]" >&2
     exit 2
 fi
 pit=$(realpath "$1")
-rounds=${2:-50}
-seed=${3:-$RANDOM}
-part=${4:-1/1}
-alone="$0 $1 $rounds $seed"
+alone="$0 $1 @/8"
+shift
+if [[ ${1:-} == */* ]] && is_part "$1"; then
+    part=$1
+    shift
+fi
+rounds=${1:-50}
+seed=${2:-$RANDOM}
+alone+=" $rounds $seed"
 work=$(mktemp -d)
 trap 'rm -rf "$work"' EXIT
 cd "$work" || exit 2
@@ -189,7 +194,7 @@ kill_at_each() {
 }
 
 printf 'begin\nput 3 1\ncommit\n' >other
-"$pit" plan --history old model precedence other >out 2>err || { cat err >&2; exit 2; }
+"$pit" plan --history old model precedence other >out 2>err || { wrong 'a history to begin with' <err; judged; }
 killed 'a history is new' none --history
 killed 'a history is replaced' old --history
 killed 'a history is carried on' old --continue
@@ -204,7 +209,7 @@ jobs() {
     done
 }
 jobs 0 1 >many
-"$pit" plan --history long model precedence <(jobs 2 3) >out 2>err || { cat err >&2; exit 2; }
+"$pit" plan --history long model precedence <(jobs 2 3) >out 2>err || { wrong 'a long history' <err; judged; }
 # A pipe that nothing is written to: a wait for it ends when its time is over, with no program started.
 mkfifo silent
 exec 9<>silent

@@ -4,8 +4,8 @@
 passed=0
 failures=0
 skipped=0
-# The command that repeats a case that failed: the script with its own words. A script that is cut into parts names here what it takes before the number
-# of a case.
+# The command that repeats a case that failed: the script with its own words. A script that is cut into parts says it
+# in `alone`, where @ stands for the number of the case.
 printf -v again '%q ' "$0" "$@"
 again=${again% }
 alone=
@@ -18,7 +18,7 @@ well() {
 wrong() {
     echo "FAIL  $1"
     sed 's/^/      /'
-    if [ -n "$alone" ]; then echo "      again: $alone $at"; else echo "      again: $again"; fi
+    if [ -n "$alone" ]; then echo "      again: ${alone//@/$at}"; else echo "      again: $again"; fi
     failures=$((failures + 1))
 }
 

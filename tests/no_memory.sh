@@ -16,7 +16,7 @@ fi
 pit=$(realpath "$1")
 data=$(realpath "$2")
 part=${3:-1/1}
-alone="$0 $1 $2"
+alone="$0 $1 $2 @"
 work=$(mktemp -d)
 trap 'rm -rf "$work"' EXIT
 cd "$work" || exit 2
@@ -153,7 +153,7 @@ each 'plan, two planners from a start' plan "$data/tiny.cpit" "$data/tiny.prec" 
 each 'plan, two planners in turn' plan --in-turn "$data/tiny.cpit" "$data/tiny.prec" one two
 each 'plan with a history' plan --history kept "$data/tiny.cpit" "$data/tiny.prec" one
 "$pit" plan --history history "${of[@]}" one >out 2>err
-[ -s history ] || { cat err >&2; exit 2; }
+[ -s history ] || { wrong 'a history to begin with' <err; judged; }
 cp history old
 each 'plan, a history is carried on' plan --continue kept "$data/tiny.cpit" "$data/tiny.prec" one
 each 'merge, a history is carried on' merge --continue kept --from 1 "$data/tiny.cpit" "$data/tiny.prec" "$data/early.sol" "$data/over.sol"
