@@ -41,13 +41,12 @@ MANY = b"begin\nput 3 1\ncommit\n" * 400
 ROOM = 8192
 
 FILES = {
-    "model": tiny.MODEL.encode(), "precedence": tiny.PRECEDENCES.encode(), "blocks": tiny.PLACES.encode(), "solution": tiny.SOLUTION.encode(),
+    "model": tiny.MODEL.encode(), "precedence": tiny.PRECEDENCES.encode(), "solution": tiny.SOLUTION.encode(),
     "script": b"begin\nput 0 0\nput 1 0\ncommit\nbegin\nput 3 0\ncommit\nbegin\nput 3 1\ncommit\n",
     "work": b"begin\nput 2 1\nclear 3\ncommit\n", "nothing": b"begin\ncommit\n", "refused": b"no model\n", "empty": b"", "folder": Folder(),
     "unmeetable": tiny.MODEL.replace("0 0 L 4\n", "0 0 L -1\n").encode(),
 }
 OF = "model precedence"
-
 
 
 def writes(about, words, left, files=None, **more):

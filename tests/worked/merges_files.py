@@ -15,7 +15,7 @@ SUM_2 = "067cbacbcebf1d0897baba929209ce0b79b9c0eeebed4d67337f33960cf5fece"
 SHORT = "short 0 1 0.000000 1.000000\n"
 
 TEXTS = {
-    "A": PLAIN, "B": LOADED, "C": "3 1\n", "pair": "0 0\n1 0\n", "other": "0 0\n3 0\n", "moved": "3 0\n", "first": "0 0\n", "both": "0 0\n3 1\n",
+    "A": PLAIN, "C": "3 1\n", "pair": "0 0\n1 0\n", "other": "0 0\n3 0\n", "moved": "3 0\n", "first": "0 0\n", "both": "0 0\n3 1\n",
     "unknown": "4 0\n", "refused": "no model\n", "empty": "",
     "X": f"% commits 1 sum {SUM_1}\n{PLAIN}", "Y": f"% commits 2 sum {SUM_2}\n0 0\n1 0\n", "Z": f"% commits 1 sum {SUM_1}\n{LOADED}",
     "bare": f"% commits 1\n{PLAIN}", "none": f"% commits 0 sum {SUM_0}\n3 1\n", "one": f"% commits 1 sum {SUM_1}\n3 1\n",

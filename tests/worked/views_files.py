@@ -15,7 +15,7 @@ LOADED = "0 0\n1 0\n3 0\n"
 
 FILES = {
     "model": MODEL.encode(), "precedence": tiny.PRECEDENCES.encode(), "solution": tiny.SOLUTION.encode(),
-    "early": b"2 0\n", "empty": b"", "folder": Folder(), "refused": b"no model\n", "revised": REVISED.encode(), "loaded": LOADED.encode(),
+    "early": b"2 0\n", "empty": b"", "folder": Folder(), "refused": b"no model\n", "revised": REVISED.encode(),
     # Its block is none of this pit.
     "foreign": b'{"format":1}\n{"act":"commit","job":1,"planner":1,"reads":[],"reply":{"committed":7},"start":3,"writes":[[4,0]]}\n',
     # The same pit with another profit of block 3 and another limit: the history can be looked at, though no longer replayed.

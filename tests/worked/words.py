@@ -6,7 +6,7 @@ from case import CLOSED, NOBODY, Folder, Held, Huge, fault, refused, says
 
 VALUE = "37.772727272730000000\n"
 FILES = {
-    "model": tiny.MODEL.encode(), "precedence": tiny.PRECEDENCES.encode(), "solution": tiny.SOLUTION.encode(), "empty": b"", "folder": Folder(),
+    "model": tiny.MODEL.encode(), "precedence": tiny.PRECEDENCES.encode(), "solution": tiny.SOLUTION.encode(), "folder": Folder(),
     "refused": b"no model\n", "script": b"begin\nput 0 0\nput 1 0\ncommit\nbegin\nput 3 0\ncommit\nbegin\nput 3 1\ncommit\n", "kept": tiny.LOADING.encode(),
 }
 OF = "model precedence"
