@@ -2,7 +2,7 @@
 """Runs the tests: each Rattle test without a proof, and each shell test on a program, as many at once as there are processors and memory for.
 
 usage: scripts/test.py                  all of them, on ./pit where it is newer than its sources, else on a program that is compiled without a proof
-       scripts/test.py --shell [NAME]   the shell tests on ./pit, or the one of that name, which is also that of several parts
+       scripts/test.py --shell [NAME]   those shell tests that run a program, on ./pit; or the test of that name, which is also that of its parts
 
 Each test has a line when it has ended, and says under it what failed, and the command that repeats it alone; what was left out is named at the end. The
 last line is 'N passed, N failed, N skipped', and the status 1 where one failed. A Rattle test is one by itself, and so is each case of a shell test.
@@ -124,7 +124,8 @@ def main():
     words = sys.argv[1:]
     shell = listed()
     if words[:1] == ["--shell"] and len(words) <= 2:
-        wanted = [(name, command) for name, command in shell if len(words) == 1 or words[1] in (name, re.sub(r"-\d+$", "", name))]
+        is_wanted = lambda name, command: words[1] in (name, re.sub(r"-\d+$", "", name)) if len(words) == 2 else "{}" in command
+        wanted = [it for it in shell if is_wanted(*it)]
         if not os.access(f"{TOP}/pit", os.X_OK) or not wanted:
             names = " ".join(sorted({re.sub(r"-\d+$", "", name) for name, _ in shell}))
             sys.exit(f"usage: {sys.argv[0]} --shell [NAME]      on ./pit, which has to be there; NAME is one of {names}")
@@ -136,6 +137,7 @@ def main():
     work = tempfile.mkdtemp(prefix="pit-test-")
     try:
         tree, rt = f"{work}/tree", f"{work}/kit/bin/rt"
+        os.environ["RT"] = rt
         for step in ([f"{TOP}/scripts/kit.sh", f"{work}/kit"], [f"{TOP}/scripts/lay_out.sh", tree]):
             status, said = told(step)
             if status:

@@ -1,7 +1,7 @@
 #!/usr/bin/env bash
 # Shows that programs that drop a transaction, or end it twice, are refused before any proof, for that alone.
 # usage: tests/misuse.sh [PART]      Each program is one of tests/misuse, made into a crate over a copy of the sources. PART is N/M, the Nth of M parts of
-# them, or the number of one. It wants the kit, and nothing that is built.
+# them, or the number of one. It wants the kit, or that whose rt is named by RT, and nothing that is built.
 set -u
 
 . "$(dirname "$0")/judge.sh"
@@ -25,7 +25,7 @@ cd crates/misuse || exit 2
 # refused FAULT PROGRAM: the one fault of the program is that one, with its line and column. What is tried with a test is not proved.
 refused() {
     { cat "$programs/$2.txt" && printf '\n#[test]\nfn nothing() {}\n'; } >src/lib.rt || exit 2
-    timeout 300 rt try --test >out.txt 2>&1
+    timeout 300 "${RT:-rt}" try --test >out.txt 2>&1
     local status=$?
     cat out.txt
     echo "status $status"
