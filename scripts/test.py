@@ -24,6 +24,8 @@ LONGEST = 600
 #: The crates whose tests take longest.
 FIRST = ["test_views", "test_desk", "test_run", "test_text", "test_surface", "test_share"]
 UNPROVED = "pit-unproved"
+#: How much is shown of a line on what failed, in characters.
+SHOWN = 500
 
 
 def told(words, folder=TOP):
@@ -41,7 +43,7 @@ class Result:
     def line(self, seconds):
         """The test's line, with what failed under it."""
         counts = f"{self.passed} passed" + f", {self.failed} failed" * bool(self.failed) + f", {len(self.skipped)} skipped" * bool(self.skipped)
-        return f"{'FAIL ' if self.failed else 'ok   '} {self.name}: {counts}, {seconds:.0f} s" + "".join(f"\n      {it}" for it in self.why)
+        return f"{'FAIL ' if self.failed else 'ok   '} {self.name}: {counts}, {seconds:.0f} s" + "".join(f"\n      {it[:SHOWN]}" for it in self.why)
 
 
 def rattle_test(rt, tree, crate):

@@ -9,7 +9,6 @@ should be, and says in which way.
 """
 import concurrent.futures
 import fcntl
-import functools
 import importlib
 import os
 import pty
@@ -130,9 +129,8 @@ def is_well(wanted, now):
     return isinstance(now, bytes) and now != b"" and wanted.part.lower() in now.lower() if isinstance(wanted, Some) else wanted == now
 
 
-@functools.cache
 def copied(program):
-    """A copy of the program that anybody may run."""
+    """A copy of the program that anybody may run, under the name that its help says."""
     there = tempfile.mkdtemp()
     os.chmod(there, 0o755)
     return shutil.copy(program, os.path.join(there, "pit"))
@@ -142,7 +140,7 @@ def as_somebody(program):
     """The words by which the program runs as somebody who may not read and write every file: whoever runs this, or else somebody else. None: by none."""
     if os.geteuid() != 0:
         return [program]
-    words = ["setpriv", f"--reuid={NOBODY_ID}", "--clear-groups", copied(program)]
+    words = ["setpriv", f"--reuid={NOBODY_ID}", "--clear-groups", program]
     try:
         return words if subprocess.run([*words, "--version"], stdin=subprocess.DEVNULL, capture_output=True).returncode == 0 else None
     except FileNotFoundError:
@@ -275,7 +273,7 @@ def main():
     if len(sys.argv) < 2 or not os.access(sys.argv[1], os.X_OK):
         sys.exit(f"{USAGE}      of the themes {' '.join(known)}")
     part, themes = asked_for(sys.argv[2:], known)
-    program = os.path.abspath(sys.argv[1])
+    program = copied(sys.argv[1])
     at = 0
     with concurrent.futures.ThreadPoolExecutor(1 if part else os.cpu_count()) as pool:
         for name, only in themes:
@@ -298,8 +296,7 @@ def main():
                     done += 1
             if done:
                 judge.well(f"{name}: {done} cases", done)
-    if os.geteuid() == 0 and copied.cache_info().currsize:
-        shutil.rmtree(os.path.dirname(copied(program)))
+    shutil.rmtree(os.path.dirname(program))
     judge.judged()
 
 
