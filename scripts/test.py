@@ -19,7 +19,7 @@ import time
 TOP = os.path.dirname(os.path.dirname(os.path.abspath(__file__)))
 #: What `rt try --test` takes at most of a crate, in kilobytes.
 MEMORY_OF_TESTS = 3000000
-#: How long the tests of a crate may take once they are compiled, in seconds.
+#: How long a Rattle test may take, in seconds.
 LONGEST = 600
 #: The crates whose tests take longest.
 FIRST = ["test_views", "test_desk", "test_run", "test_text", "test_surface", "test_share"]
@@ -66,10 +66,10 @@ def shell_test(program, name, command):
     lines = said.splitlines()
     counts = re.fullmatch(r"(\d+) passed, (\d+) failed, (\d+) skipped", lines[-1]) if lines else None
     skipped = [f"{name}: {it[6:]}" for it in lines if it.startswith("skip  ")]
-    if counts and (status == 0) == (int(counts[2]) == 0):
-        passed, failed = int(counts[1]), int(counts[2])
-    else:
-        passed, failed = 0, 1
+    passed, failed = (int(counts[1]), int(counts[2])) if counts else (0, 0)
+    # One that counts nothing, or not as its status says, has come to no end.
+    if (status == 0) != (failed == 0) or not passed + failed + len(skipped):
+        failed = max(failed, 1)
     if not failed:
         return Result(name, passed, 0, [], skipped)
     at = [number for number, it in enumerate(lines) if it.startswith("FAIL")]
@@ -154,8 +154,11 @@ def main():
         made = concurrent.futures.Future()
 
         def compiled():
-            status, said = (0, "") if proved else told(["make", "--no-print-directory", UNPROVED])
-            made.set_result(status == 0)
+            status, said = 1, ""
+            try:
+                status, said = (0, "") if proved else told(["make", "--no-print-directory", UNPROVED])
+            finally:
+                made.set_result(status == 0)
             return Result("the program", int(status == 0), int(status != 0), said.splitlines()[-20:] if status else [])
 
         def on_it(it):
