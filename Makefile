@@ -83,4 +83,4 @@ audit: pit
 	tests/replay.sh ./pit 266 200
 
 clean:
-	rm -rf pit pit.new pit-unproved pit-unproved.new pit.1 pit.bash demo crates/*/out
+	rm -rf pit pit.new pit-unproved pit-unproved.* pit.1 pit.bash demo crates/*/out

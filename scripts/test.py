@@ -2,7 +2,7 @@
 """Runs the tests: each Rattle test without a proof, and each shell test on a program, as many at once as there are processors and memory for.
 
 usage: scripts/test.py                  all of them, on ./pit where it is newer than its sources, else on a program that is compiled without a proof
-       scripts/test.py --shell [NAME]   those shell tests that run a program, on ./pit; or the test of that name, which is also that of its parts
+       scripts/test.py --shell [NAME]   the shell tests on ./pit, or the one of that name, which is also that of its parts
 
 Each test has a line when it has ended, and says under it what failed, and the command that repeats it alone; what was left out is named at the end. The
 last line is 'N passed, N failed, N skipped', and the status 1 where one failed. A Rattle test is one by itself, and so is each case of a shell test.
@@ -11,6 +11,7 @@ import concurrent.futures
 import os
 import re
 import shutil
+import signal
 import subprocess
 import sys
 import tempfile
@@ -28,10 +29,41 @@ UNPROVED = "pit-unproved"
 SHOWN = 500
 
 
+#: How long a test may take at all, in seconds: one that hangs has failed.
+HANGS = 1800
+#: The commands at work, each in a session of its own.
+AT_WORK = set()
+
+
 def told(words, folder=TOP):
-    """The status of a command, and what it said."""
-    ran = subprocess.run(words, cwd=folder, stdin=subprocess.DEVNULL, stdout=subprocess.PIPE, stderr=subprocess.STDOUT, check=False)
-    return ran.returncode, ran.stdout.decode("utf-8", "replace")
+    """The status of a command, and what it said. One that hangs is ended, with all that it has begun."""
+    ran = subprocess.Popen(words, cwd=folder, stdin=subprocess.DEVNULL, stdout=subprocess.PIPE, stderr=subprocess.STDOUT, start_new_session=True)
+    AT_WORK.add(ran.pid)
+    late = ""
+    try:
+        said, _ = ran.communicate(timeout=HANGS)
+    except subprocess.TimeoutExpired:
+        os.killpg(ran.pid, signal.SIGKILL)
+        said, _ = ran.communicate()
+        late = f"\nended after {HANGS} seconds"
+    AT_WORK.discard(ran.pid)
+    return ran.returncode, said.decode("utf-8", "replace") + late
+
+
+def give_up(number, _):
+    """Ends all that is at work, and then this program: by Ctrl-C, or where it is told to end."""
+    for pid in list(AT_WORK):
+        try:
+            os.killpg(pid, signal.SIGKILL)
+        except ProcessLookupError:
+            pass
+    for folder in TO_REMOVE:
+        shutil.rmtree(folder, ignore_errors=True)
+    os._exit(128 + number)
+
+
+#: What is removed at the end, however that comes.
+TO_REMOVE = []
 
 
 class Result:
@@ -42,7 +74,7 @@ class Result:
 
     def line(self, seconds):
         """The test's line, with what failed under it."""
-        counts = f"{self.passed} passed" + f", {self.failed} failed" * bool(self.failed) + f", {len(self.skipped)} skipped" * bool(self.skipped)
+        counts = f"{self.passed} passed, {self.failed} failed, {len(self.skipped)} skipped"
         return f"{'FAIL ' if self.failed else 'ok   '} {self.name}: {counts}, {seconds:.0f} s" + "".join(f"\n      {it[:SHOWN]}" for it in self.why)
 
 
@@ -70,11 +102,12 @@ def shell_test(program, name, command):
     # One that counts nothing, or not as its status says, has come to no end.
     if (status == 0) != (failed == 0) or not passed + failed + len(skipped):
         failed = max(failed, 1)
+    seeds = [it for it in lines if it.startswith("seed ")]
     if not failed:
-        return Result(name, passed, 0, [], skipped)
+        return Result(name, passed, 0, seeds, skipped)
     at = [number for number, it in enumerate(lines) if it.startswith("FAIL")]
     shown = [it for number, it in enumerate(lines) if any(n <= number < n + 12 for n in at)][:200] or lines[-20:]
-    return Result(name, passed, failed, [*shown, f"alone: {command.replace('{}', os.path.relpath(program, TOP))}"], skipped)
+    return Result(name, passed, failed, [*seeds, *shown, f"alone: {command.replace('{}', os.path.relpath(program, TOP))}"], skipped)
 
 
 def listed():
@@ -101,18 +134,26 @@ def run_all(tests, lanes):
     return results
 
 
-def close(results, more):
+def close(results, proved):
     """Says what was left out, and the counts, and ends with the status."""
     skipped = [it for result in results for it in result.skipped]
     if skipped:
         print("Left out:")
         for it in skipped:
             print(f"skip  {it}")
-    for it in more:
-        print(it)
-    failed = sum(it.failed for it in results)
-    print(f"{sum(it.passed for it in results)} passed, {failed} failed, {len(skipped)} skipped", flush=True)
+    passed, failed = sum(it.passed for it in results), sum(it.failed for it in results)
+    if len(skipped) * 20 > passed + failed + len(skipped):
+        print("FAIL  more than 5 in 100 are left out")
+        failed += 1
+    if not proved:
+        print("Nothing is proved by this: `make gate` proves it.")
+    print(f"{passed} passed, {failed} failed, {len(skipped)} skipped", flush=True)
     sys.exit(1 if failed else 0)
+
+
+def is_new():
+    """Whether ./pit is there, and newer than its sources."""
+    return subprocess.call(["make", "-q", "pit"], cwd=TOP, stdout=subprocess.DEVNULL, stderr=subprocess.DEVNULL) == 0
 
 
 def at_once(memory):
@@ -122,21 +163,31 @@ def at_once(memory):
     return max(min(os.cpu_count(), len(os.sched_getaffinity(0)), free // memory), 1)
 
 
+def shell_alone(shell, name):
+    """The shell tests on ./pit, or the one of that name."""
+    wanted = [it for it in shell if name in (None, it[0], re.sub(r"-\d+$", "", it[0]))]
+    if not wanted:
+        sys.exit(f"{name} is none of the shell tests {' '.join(sorted({re.sub('-[0-9]+$', '', it) for it, _ in shell}))}")
+    if any("{}" in command for _, command in wanted):
+        if not os.access(f"{TOP}/pit", os.X_OK):
+            sys.exit("there is no ./pit: `make pit` or `make gate` leaves it; `make test` takes a program without a proof")
+        if not is_new():
+            print("note: a source is newer than ./pit", flush=True)
+    close(run_all([lambda it=it: shell_test(f"{TOP}/pit", *it) for it in wanted], at_once(500000)), True)
+
+
 def main():
     words = sys.argv[1:]
+    for number in (signal.SIGINT, signal.SIGTERM, signal.SIGHUP):
+        signal.signal(number, give_up)
     shell = listed()
     if words[:1] == ["--shell"] and len(words) <= 2:
-        is_wanted = lambda name, command: words[1] in (name, re.sub(r"-\d+$", "", name)) if len(words) == 2 else "{}" in command
-        wanted = [it for it in shell if is_wanted(*it)]
-        if not os.access(f"{TOP}/pit", os.X_OK) or not wanted:
-            names = " ".join(sorted({re.sub(r"-\d+$", "", name) for name, _ in shell}))
-            sys.exit(f"usage: {sys.argv[0]} --shell [NAME]      on ./pit, which has to be there; NAME is one of {names}")
-        tests = [lambda it=it: shell_test(f"{TOP}/pit", *it) for it in wanted]
-        close(run_all(tests, at_once(500000)), [])
+        shell_alone(shell, words[1] if len(words) == 2 else None)
     if words:
         sys.exit(__doc__.split("\n\n")[1])
 
     work = tempfile.mkdtemp(prefix="pit-test-")
+    TO_REMOVE.append(work)
     try:
         tree, rt = f"{work}/tree", f"{work}/kit/bin/rt"
         os.environ["RT"] = rt
@@ -147,7 +198,7 @@ def main():
         has_test = lambda crate: subprocess.call(["grep", "-rqE", r"^ *#\[test\]", f"{tree}/crates/{crate}/src"]) == 0
         crates = [it for it in sorted(os.listdir(f"{tree}/crates")) if has_test(it)]
         crates.sort(key=lambda it: FIRST.index(it) if it in FIRST else len(FIRST))
-        proved = subprocess.call(["make", "-q", "pit"], cwd=TOP, stdout=subprocess.DEVNULL, stderr=subprocess.DEVNULL) == 0
+        proved = is_new()
         program = f"{TOP}/{'pit' if proved else UNPROVED}"
         print(f"Runs the tests of {len(crates)} crates without a proof, and {len(shell)} shell tests on ./{os.path.basename(program)}.", flush=True)
 
@@ -159,15 +210,15 @@ def main():
                 status, said = (0, "") if proved else told(["make", "--no-print-directory", UNPROVED])
             finally:
                 made.set_result(status == 0)
-            return Result("the program", int(status == 0), int(status != 0), said.splitlines()[-20:] if status else [])
+            return Result("the program", 0, int(status != 0), said.splitlines()[-20:] if status else [])
 
         def on_it(it):
-            return shell_test(program, *it) if made.result() else Result(it[0], 0, 1, ["there is no program"])
+            return shell_test(program, *it) if "{}" not in it[1] or made.result() else Result(it[0], 0, 1, ["there is no program"])
 
         # The program is begun first, so no test that waits for it keeps it waiting.
         tests = [compiled, *[lambda it=it: rattle_test(rt, tree, it) for it in crates], *[lambda it=it: on_it(it) for it in shell]]
         results = run_all(tests, at_once(MEMORY_OF_TESTS))
-        close(results, ["Nothing is proved by this: `make gate` proves it."])
+        close(results, False)
     finally:
         shutil.rmtree(work, ignore_errors=True)
 

@@ -4,7 +4,7 @@
 set -uo pipefail
 cd "$(dirname "$0")/.." || exit 2
 
-# The most words that all tracked *.md may have together.
+# The most words that all *.md may have together, but those that git ignores.
 ceiling=37000
 
 work=$(mktemp -d)
@@ -12,7 +12,7 @@ trap 'rm -rf "$work"' EXIT
 . tests/judge.sh
 
 # pages: their words, each page's and then those of all.
-pages() { git ls-files -z '*.md' | LC_ALL=C wc -w --files0-from=-; }
+pages() { git ls-files -z --cached --others --exclude-standard '*.md' | LC_ALL=C wc -w --files0-from=-; }
 
 fits() {
     pages >"$work/pages" || { cat "$work/pages" && return 1; }

@@ -12,7 +12,7 @@ if [ $# -lt 1 ] || [ ! -x "$1" ]; then
     exit 2
 fi
 pit=$(realpath "$1")
-alone="$0 $1 @/8"
+alone="$0 $1 %CASE%/8"
 shift
 if [[ ${1:-} == */* ]] && is_part "$1"; then
     part=$1

@@ -4,7 +4,7 @@
 usage: tests/devices.py PIT FOLDER [CASE]      FOLDER has the small example, CASE is the number of one case
 
 A full file has the first bytes of what the same run writes elsewhere, and the run ends with status 3 and `pit: cannot write`. What comes of pipes is what
-comes of files. Ends with status 1 at the first run that isn't so.
+comes of files. Ends with status 1 where a run isn't so.
 """
 import os
 import resource

@@ -188,8 +188,8 @@ is_left() {
             fi
         done
     done
-    # the opening of the new file and its lock at least, with a history and without one
-    [ "$refused" -ge 4 ] || { echo "$refused calls refused"; false; }
+    # the opening of the new file and its lock at least, with a history and without one; and of the last number there is no call
+    [ "$refused" -ge 4 ] && [ "$status" = 2 ] || { echo "$refused calls refused, the last one ends with $status"; false; }
 }
 ln -s kept.pit-new linked
 for command in plan merge; do

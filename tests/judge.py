@@ -32,9 +32,9 @@ def skip(name, why):
 
 
 def judged():
-    """Ends the script, with status 1 where a case failed."""
+    """Ends the script, with status 1 where a case failed, or none was there."""
     print(f"{passed} passed, {failures} failed, {skipped} skipped")
-    sys.exit(1 if failures else 0)
+    sys.exit(1 if failures or not passed + skipped else 0)
 
 
 def part_of(word):

@@ -5,7 +5,7 @@ passed=0
 failures=0
 skipped=0
 # The command that repeats a case that failed: the script with its own words. A script that is cut into parts says it
-# in `alone`, where @ stands for the number of the case.
+# in `alone`, where %CASE% stands for the number of the case.
 printf -v again '%q ' "$0" "$@"
 again=${again% }
 alone=
@@ -18,7 +18,7 @@ well() {
 wrong() {
     echo "FAIL  $1"
     sed 's/^/      /'
-    if [ -n "$alone" ]; then echo "      again: ${alone//@/$at}"; else echo "      again: $again"; fi
+    if [ -n "$alone" ]; then echo "      again: ${alone//%CASE%/$at}"; else echo "      again: $again"; fi
     failures=$((failures + 1))
 }
 
@@ -41,10 +41,10 @@ skip() {
     skipped=$((skipped + 1))
 }
 
-# judged: ends the script, with status 1 where a case failed.
+# judged: ends the script, with status 1 where a case failed, or none was there.
 judged() {
     echo "$passed passed, $failures failed, $skipped skipped"
-    [ "$failures" -eq 0 ]
+    [ "$failures" -eq 0 ] && [ $((passed + skipped)) -ne 0 ]
     exit
 }
 

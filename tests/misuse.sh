@@ -10,7 +10,7 @@ if [ $# -gt 1 ] || ! is_part "${1:-1/1}"; then
     exit 2
 fi
 part=${1:-1/1}
-alone="$0 @"
+alone="$0 %CASE%"
 programs=$(realpath "$(dirname "$0")/misuse")
 cd "$(dirname "$0")/.." || exit 2
 work=$(mktemp -d)

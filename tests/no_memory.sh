@@ -16,7 +16,7 @@ fi
 pit=$(realpath "$1")
 data=$(realpath "$2")
 part=${3:-1/1}
-alone="$0 $1 $2 @"
+alone="$0 $1 $2 %CASE%"
 work=$(mktemp -d)
 trap 'rm -rf "$work"' EXIT
 cd "$work" || exit 2

@@ -13,7 +13,7 @@ if [ $# -lt 1 ] || [ ! -x "$1" ] || [ -n "$(tr ' ' '\n' <<<"$parts" | grep -vxE 
     exit 2
 fi
 pit=$(realpath "$1")
-alone="$0 $1 @"
+alone="$0 $1 %CASE%"
 top=$(realpath "$(dirname "$0")/..")
 draw=$top/share/pit-page
 hill=$top/examples/hill/hill

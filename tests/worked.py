@@ -275,7 +275,7 @@ def main():
     part, themes = asked_for(sys.argv[2:], known)
     program = copied(sys.argv[1])
     at = 0
-    with concurrent.futures.ThreadPoolExecutor(1 if part else os.cpu_count()) as pool:
+    with concurrent.futures.ThreadPoolExecutor(1 if part else len(os.sched_getaffinity(0))) as pool:
         for name, only in themes:
             theme = importlib.import_module(name)
             if not theme.CASES:
