@@ -3,3 +3,4 @@ pub mod Prefixes
 pub mod Boards
 pub mod Books
 pub mod Slots
+pub mod BoardRule

@@ -1,50 +1,50 @@
 //! What one planner sees without a lock.
-ghost use Rattle.std.specs.Prelude.{◌≡◌, ◌+◌, ◌<◌, ◌≤◌, length, MatchOption, IfSome, IfNone};
+ghost use Rattle.std.specs.Prelude.{◌≡◌, ◌+◌, ◌<◌, length, MatchOption, IfSome, IfNone};
 ghost use mathlib.Core.List.{IsPrefix};
 ghost use Rattle.pit_desk.specs.History.{commits_of};
 ghost use Rattle.pit_board.specs.Boards.{slot_of};
 ghost use Rattle.pit_board.specs.Prefixes.{AreLawful};
 
-use crate::board::Board;
 use crate::prefix::Prefix;
+use crate::reader::BoardReader;
 use crate::session::Session;
 use crate::slot::Slot;
-use left_right::ReadHandle;
+use crate::writer::BoardWriter;
 use std::alloc::Allocator;
 use std::marker::Model;
+use std::sync::Wait;
 use std::sync::ledger::{Book, Share};
 
-/// A planner's place at the board, the entries that it has seen, and its share of the count of entries. Contracts see the entries and the share's
-/// amount.
+/// A planner's place at the board, the entries that it has seen, whose commits its reader has seen too, and its share of the count of entries. Contracts
+/// see the entries and the share's amount.
 #[derive(Drop)]
 pub struct View<S: Session, A: Allocator + Copy + Drop> {
-    reader: ReadHandle<Board<S, A>, A>,
+    // it is there between any two calls
+    reader: Option<BoardReader<S, A>>,
     prefix: Prefix<S>,
     share: Share<S>,
 }
 
 impl<S: Session, A: Allocator + Copy + Drop> Model for View<S, A> {
-    ghost use Rattle.std.specs.Prelude.{◌≡◌};
+    ghost use Rattle.std.specs.Prelude.{◌≡◌, IsSomeAnd};
+    ghost use Rattle.pit_desk.specs.History.{commits_of};
     ghost use Rattle.pit_board.specs.Views.{Sight};
 
     ghost Value = { Sight };
 
     ghost view = { λ v. record { seen = v.prefix; amount = v.share.amount } };
 
-    ghost invariant = { λ v. v.share.parts ≡ 1 };
+    ghost invariant = { λ v. (v.share.parts ≡ 1) × IsSomeAnd v.reader (λ reader. reader ≡ commits_of v.prefix) };
 }
 
 impl<S: Session, A: Allocator + Copy + Drop> View<S, A> {
-    pub(crate) fn new(
-        reader: ReadHandle<Board<S, A>, A>,
-        prefix: Prefix<S>,
-        share: Share<S>,
-    ) -> View<S, A>
-        requires { share.parts ≡ 1 }
+    pub(crate) fn new(reader: BoardReader<S, A>, prefix: Prefix<S>, share: Share<S>) -> View<S, A>
+        requires part { share.parts ≡ 1 }
+        requires seen { reader ≡ commits_of prefix }
         ensures { result ≡ record { seen = prefix; amount = share.amount } }
     {
         View {
-            reader,
+            reader: Some(reader),
             prefix,
             share,
         }
@@ -83,13 +83,28 @@ impl<S: Session, A: Allocator + Copy + Drop> View<S, A> {
         total.add(&mut self.share, 1);
     }
 
-    /// From now on the planner has seen this too.
-    pub fn learn(&mut self, prefix: &Prefix<S>)
+    /// From now on the planner has seen this too, whose commits the writer has published. Where some of them are new to it, its reader gives its place
+    /// back, and another takes one and is told of them. Waits for that place.
+    pub(crate) fn learn<R: Wait + Drop, W: Wait>(
+        &mut self,
+        rt: &W,
+        prefix: &Prefix<S>,
+        writer: &mut BoardWriter<S, R, A>,
+    )
+        requires { commits_of writer.old.published ≡ commits_of prefix.now }
+        ensures writer { writer.new ≡ writer.old }
         ensures old { IsPrefix self.old.seen self.new.seen }
         ensures learnt { IsPrefix prefix.now self.new.seen }
         ensures amount { self.new.amount ≡ self.old.amount }
     {
-        self.prefix.grow(prefix);
+        if !self.prefix.begins(prefix) {
+            return;
+        }
+        if !self.prefix.has_commits_of(prefix) {
+            drop(self.reader.take());
+            self.reader = Some(writer.placed_reader(rt));
+        }
+        self.prefix = prefix.copy();
     }
 
     /// Looks at the board, and answers how many commits the planner has then seen. Where the reader isn't let in, it answers how many it had seen
@@ -105,8 +120,8 @@ impl<S: Session, A: Allocator + Copy + Drop> View<S, A> {
         self.prefix.count()
     }
 
-    /// Looks a block up at the board, after which the planner has seen what the board shows. Where the reader isn't let in, or the board is behind
-    /// what it has seen, `None` is the answer, and nothing changes. Takes no memory, and waits for nobody.
+    /// Looks a block up at the board, after which the planner has seen what the board shows. Where the reader isn't let in, `None` is the answer, and
+    /// nothing changes. Takes no memory, and waits for nobody.
     pub fn read(&mut self, block: u32) -> Option<Slot>
         requires { block < S.instance.blocks }
         ensures slot { IfSome result (λ slot. slot ≡ slot_of (commits_of self.new.seen) block) }
@@ -119,38 +134,19 @@ impl<S: Session, A: Allocator + Copy + Drop> View<S, A> {
         slot
     }
 
-    /// Takes over what the board shows, and looks a block up, if the board has a slot for it. Where the reader isn't let in, or the board is behind
-    /// what was seen, nothing changes. `begin` and `read` both go through here, so that a reader's steps are compiled once, and inlined.
+    /// Takes over what the board shows, and looks a block up, if the board has a slot for it. Where the reader isn't let in, nothing changes. `begin`
+    /// and `read` both go through here, so that a reader's steps are compiled once, and inlined.
     fn look(&mut self, block: u32) -> Option<Slot>
         ensures slot { IfSome result (λ slot. slot ≡ slot_of (commits_of self.new.seen) block) }
         ensures seen { IsPrefix self.old.seen self.new.seen }
         ensures none { block < S.instance.blocks → IfNone result (self.new.seen ≡ self.old.seen) }
         ensures amount { self.new.amount ≡ self.old.amount }
     {
-        let View { reader, prefix, .. } = self;
-        let guard = reader.enter()?;
-        shown(&guard, prefix, block)
+        let Some(reader) = self.reader.take() else {
+            unreachable!()
+        };
+        let (reader, slot) = reader.look(&mut self.prefix, block);
+        self.reader = Some(reader);
+        slot
     }
-}
-
-/// Takes over what a board shows that isn't behind, and looks a block up, if the board has a slot for it.
-fn shown<S: Session, A: Allocator + Copy + Drop>(
-    board: &Board<S, A>,
-    prefix: &mut Prefix<S>,
-    block: u32,
-) -> Option<Slot>
-    ensures slot { IfSome result (λ slot. slot ≡ slot_of (commits_of prefix.new) block) }
-    ensures seen { IsPrefix prefix.old prefix.new }
-    ensures none { block < S.instance.blocks → IfNone result (prefix.new ≡ prefix.old) }
-    ensures due { block < S.instance.blocks → length (commits_of prefix.old) ≤ length (commits_of board.now) → IfNone result ⊥ }
-{
-    if !prefix.catch_up(board.prefix()) {
-        return None;
-    }
-    let slots = board.slots();
-    let at = block as usize;
-    if at < slots.len() {
-        return Some(slots[at].slot());
-    }
-    None
 }

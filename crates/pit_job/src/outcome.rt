@@ -10,7 +10,7 @@ pub enum JobStop {
     Full,
     /// A growth was refused.
     NoMemory,
-    /// The planner wasn't let in at the board, or the board was behind what it had seen.
+    /// The planner wasn't let in at the board.
     NoEntry,
 }
 
@@ -45,7 +45,7 @@ pub enum RunEnd {
     Full { job: u32 },
     /// Before this job, since a growth was refused.
     NoMemory { job: u32 },
-    /// Before this job, since the planner wasn't let in at the board, or the board was behind what it had seen.
+    /// Before this job, since the planner wasn't let in at the board.
     NoEntry { job: u32 },
     /// No thread could be started for it.
     NoThread,

@@ -11,7 +11,7 @@ use Rattle.pit_share.specs.Planners.{TransactionState, planner_of, IsTransaction
 use Rattle.pit_share.specs.Endings.{IsStopped}
 use Rattle.pit_share.specs.Inside.Floors.{IsStoppedAt}
 use Rattle.pit_share.proofs.Looking.{kept-grows}
-use Rattle.pit_share.proofs.Prefixes.{length-prefix}
+use Rattle.pit_board.proofs.CallerLemmas.{length-prefix}
 
 -- who has seen all of a full history has seen that many entries
 pub full-seen : (max_entries : ℕ) (history seen : List Answered) → length history ≡ max_entries → IsPrefix history seen → max_entries ≤ length seen

@@ -16,7 +16,7 @@ pub enum OpenError {
 pub enum ReadStop {
     /// The block is not below the number of blocks.
     NoBlock,
-    /// The planner wasn't let in at the board, or the board was behind what it had seen.
+    /// The planner wasn't let in at the board.
     NoEntry,
     /// The block was written since the start, last by the commit of this number.
     Moved { block: u32, version: u32 },

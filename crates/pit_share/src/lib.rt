@@ -13,7 +13,6 @@ mod closed;
 mod comparing;
 mod error;
 mod floor;
-mod held;
 mod laws;
 mod log;
 mod new_session;

@@ -52,16 +52,17 @@ impl<S: Session, A: Allocator + Copy + Drop> Seat<S, A> {
 /// The seats of so many planners, each with a place at the board and a part of the count.
 pub(crate) fn seats_of<S: Session, R: Wait + Drop, A: Allocator + Copy + Drop>(
     alloc: A,
-    publisher: &Publisher<S, R, A>,
+    publisher: &mut Publisher<S, R, A>,
     rest: &mut Share<S>,
     pit: &Instance<A>,
     planners: u32,
 ) -> Result<Vec<Seat<S, A>, A>, OpenError>
-    requires publisher { publisher.now ≡ S.opening }
+    requires publisher { publisher.old ≡ S.opening }
     requires planners { planners ≡ S.planners }
     requires few { planners ≤ rest.old.parts }
     requires none_left { rest.old.amount ≡ 0 }
     requires pit { pit.now ≡ S.instance }
+    ensures publisher { publisher.new ≡ publisher.old }
     ensures seats { IfOk result (λ seats. AreSeats planners seats.items) }
     ensures parts { OnOk result (rest.new.parts + planners ≡ rest.old.parts) }
     ensures none_left { rest.new.amount ≡ 0 }
@@ -83,16 +84,17 @@ pub(crate) fn seats_of<S: Session, R: Wait + Drop, A: Allocator + Copy + Drop>(
 /// One seat, where a place at the board is left.
 fn seat_of<S: Session, R: Wait + Drop, A: Allocator + Copy + Drop>(
     alloc: A,
-    publisher: &Publisher<S, R, A>,
+    publisher: &mut Publisher<S, R, A>,
     rest: &mut Share<S>,
     pit: &Instance<A>,
     number: u32,
 ) -> Result<Seat<S, A>, OpenError>
-    requires publisher { publisher.now ≡ S.opening }
+    requires publisher { publisher.old ≡ S.opening }
     requires number { IsPlanner S.planners number }
     requires part { 0 < rest.old.parts }
     requires none_left { rest.old.amount ≡ 0 }
     requires pit { pit.now ≡ S.instance }
+    ensures publisher { publisher.new ≡ publisher.old }
     ensures seat { IfOk result (λ seat. seat ≡ number) }
     ensures parts { OnOk result (rest.new.parts + 1 ≡ rest.old.parts) }
     ensures none_left { rest.new.amount ≡ 0 }

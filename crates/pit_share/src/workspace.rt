@@ -1,5 +1,5 @@
 //! Workspaces.
-ghost use Rattle.std.specs.Prelude.{◌≡◌, ◌≤◌, ◌↔◌, IsTrue, IfOk, IfErr};
+ghost use Rattle.std.specs.Prelude.{◌≡◌, ◌↔◌, IsTrue, IfOk, IfErr};
 ghost use Rattle.pit_share.specs.Closing.{IsClosed, IsCloseError};
 ghost use Rattle.pit_share.specs.Opening.{IsPlannerCount, AreSeats, IsOpenError};
 ghost use Rattle.pit_share.specs.declared.new_session.TheConstants.{PLANNERS_MAX};
@@ -7,13 +7,11 @@ ghost use Rattle.pit_share.specs.declared.new_session.TheConstants.{PLANNERS_MAX
 use crate::closed::Closed;
 use crate::error::{CloseError, OpenError};
 use crate::floor::Floor;
-use crate::held::Held;
 use crate::log::PlannerLog;
 use crate::new_session::{NewSession, PLANNERS_MAX};
 use crate::seat::{Seat, seats_of};
-use pit_board::{EmptyList, Publisher, Session};
+use pit_board::{Publisher, Session};
 use pit_desk::Desk;
-use pit_num::NoMemory;
 use std::alloc::Allocator;
 use std::sync::{Mutex, Wait};
 
@@ -52,12 +50,13 @@ impl<S: Session, R: Wait + Drop, A: Allocator + Copy + Drop> Workspace<S, R, A> 
         }
         let (shares, list) = new_session.into_parts();
         let (total, mut rest) = shares.open::<S>();
-        let publisher = match publisher_of(rt, alloc, list, &desk, planners) {
+        // its board has a place for each planner
+        let mut publisher = match Publisher::open(rt, alloc, list, &desk, planners) {
             Ok(publisher) => publisher,
             Err(_) => return Err((desk, OpenError::NoMemory)),
         };
         let pit = desk.plan().instance();
-        let seats = match seats_of(alloc, &publisher.value, &mut rest, pit, planners) {
+        let seats = match seats_of(alloc, &mut publisher, &mut rest, pit, planners) {
             Ok(seats) => seats,
             Err(error) => return Err((desk, error)),
         };
@@ -99,23 +98,4 @@ fn is_planner_count(planners: u32) -> bool
     ensures { IsTrue result ↔ IsPlannerCount planners }
 {
     planners >= 1 && planners <= PLANNERS_MAX
-}
-
-/// The publisher of a session, whose board has a place for each planner.
-fn publisher_of<S: Session, R: Wait + Drop, A: Allocator + Copy + Drop>(
-    rt: R,
-    alloc: A,
-    list: EmptyList,
-    desk: &Desk<A>,
-    planners: u32,
-) -> Result<Held<Publisher<S, R, A>>, NoMemory>
-    requires pit { desk.now.plan.pit ≡ S.instance }
-    requires history { desk.now.history ≡ S.opening }
-    requires list { list ≡ S.book }
-    requires some { 1 ≤ planners }
-    ensures { IfOk result (λ publisher. publisher.value ≡ S.opening) }
-{
-    Ok(Held {
-        value: Publisher::open(rt, alloc, list, desk, planners)?,
-    })
 }

@@ -29,3 +29,8 @@ pub record Publishing : Type 0 where
 abbrev pub taken_in : List Answered → Option Publishing → List Answered
 taken_in shown None = shown
 taken_in shown (Some publication) = if length (commits_of shown) == length (commits_of publication.before) then publication.after else shown
+
+-- what contracts see of the board's writer: the prefix that is published, and the operations that aren't yet
+pub record WriterState : Type 0 where
+  pub published : List Answered
+  pub pending : List (Option Publishing)

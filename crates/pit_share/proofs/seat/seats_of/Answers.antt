@@ -1,4 +1,4 @@
-use Rattle.std.proofs.Common.{◌≡◌, ℕ, zero, suc, ◌+◌, ◌<◌, List, [], ◌∷◌, ◌++◌, length, subst, sym, arith}
+use Rattle.std.proofs.Common.{◌≡◌, ℕ, zero, suc, ◌+◌, ◌<◌, List, [], ◌∷◌, ◌++◌, length, subst, sym, ◌∙◌, arith}
 use Rattle.std.specs.Prelude.{slice_index}
 use Rattle.pit_share.proofs.seat.seats_of.Goals as goal
 
@@ -20,6 +20,7 @@ loop-before-preserved g c =
     let many : length seats ≡ c.loop-before.before = omega (arith, kept.many) in
     let row = row-more seats c.in-Ok.seat 1 (λ j less. omega (arith, kept.each j (omega (arith, less, many)))) (omega (arith, c.in-Ok.ensures.seat, many)) in
     record {
+      publisher = c.seat_of.ensures.publisher ∙ kept.publisher;
       parts = omega (arith, c.in-Ok.ensures.parts, kept.parts);
       none_left = c.seat_of.ensures.none_left;
       many = omega (arith, c.in-Ok-push.ensures.len, kept.many);

@@ -3,6 +3,7 @@ use Rattle.pit_share.proofs.seat.seats_of.Given as goal
 
 abbrev pub invariant-loop-before : goal.invariant-loop-before
 invariant-loop-before g l = record {
+  publisher : l.publisher ≡ l.initial.publisher;
   parts : l.rest.parts + l.before ≡ l.initial.rest.parts;
   none_left : l.rest.amount ≡ 0;
   many : vec_len l.seats ≡ l.before;
