@@ -59,7 +59,7 @@ fn say_cause<G: Given, W: fmt::Write>(
 }
 
 const WORDS: &str =
-    "A line begins with begin, read, put, clear, shift, bench, revise, commit or abort, in small letters.";
+    "A line begins with begin, read, put, clear, shift, bench, expect, cone, push, revise, commit or abort, in small letters.";
 
 fn word_at(text: &[u8], number: u64) -> Option<Word> {
     let line = line_at(text, number)?;

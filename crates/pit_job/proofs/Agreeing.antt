@@ -18,7 +18,10 @@ use Rattle.pit_script.specs.declared.step.JobEnd.{JobEnd}
 use Rattle.pit_script.specs.declared.step.JobEnd.TheVariants as ending
 use Rattle.pit_script.specs.declared.step.Step.{Step}
 use Rattle.pit_script.specs.declared.step.Step.TheVariants as step
-use Rattle.pit_job.specs.Effect.{Known, Agrees, Effect, changes, unread, nothing, no_change, seen, looked, moved_by, step_after, next, steps_after, ended, effect, whole, read_in, HasEffect, IsEffectOf}
+use Rattle.pit_job.specs.Cones.{all_led}
+use Rattle.pit_job.proofs.Cones.{both, left, right}
+use Rattle.pit_job.proofs.Walks.{cone-agrees}
+use Rattle.pit_job.specs.Effect.{Known, Agrees, Effect, changes, unread, nothing, no_change, seen, looked, moved_by, expected, carried, carry_after, members_of, all_known, is_carried, leads_to, step_after, next, steps_after, ended, effect, whole, read_in, HasEffect, IsEffectOf}
 
 pub seen-agrees : (s t : Known) (own : Commit) → Agrees s t → (b : ℕ) (v : Option ℕ) → seen s own b ≡ Some v → seen t own b ≡ Some v
 seen-agrees s t own same b v is = by (at_key nat_eq own.writes b) is
@@ -43,6 +46,23 @@ step-agrees pit s t own (step.Shift b is_back amount) same read = by (seen s own
     by None e read = absurd (read refl)
     by (Some v) e read = ap (moved_by pit.periods own b is_back amount) (seen-agrees s t own same b v e)
 step-agrees pit s t own (step.Bench height p) same read = refl
+step-agrees pit s t own (step.Expect b period) same read = by (seen s own b) refl read
+  where
+    by : (o : Option (Option ℕ)) → seen s own b ≡ o → expected own period o ≢ unread → expected own period (seen t own b) ≡ expected own period o
+    by None e read = absurd (read refl)
+    by (Some v) e read = ap (expected own period) (seen-agrees s t own same b v e)
+step-agrees pit s t own (step.Carry how b p) same read = by (all_known pit how (λ c. seen s own c) b p) refl read
+  where
+    by : (o : Bool) → all_known pit how (λ c. seen s own c) b p ≡ o → carried o own (members_of pit how (λ c. seen s own c) b p) p ≢ unread
+        → carry_after pit how (λ c. seen t own c) own b p ≡ carried o own (members_of pit how (λ c. seen s own c) b p) p
+    by false e read = absurd (read refl)
+    by true e read =
+        let known = left (is_some (seen s own b)) (all_led (λ a. is_some (seen s own a)) (leads_to pit how) (members_of pit how (λ c. seen s own c) b p)) e in
+        let led = right (is_some (seen s own b)) (all_led (λ a. is_some (seen s own a)) (leads_to pit how) (members_of pit how (λ c. seen s own c) b p)) e in
+        let more = cone-agrees pit.blocks (is_carried how p) (leads_to pit how) b (λ c. seen s own c) (λ c. seen t own c) (seen-agrees s t own same) known led in
+        ap (λ (o : Bool). carried o own (members_of pit how (λ c. seen t own c) b p) p)
+        (both (is_some (seen t own b)) (all_led (λ a. is_some (seen t own a)) (leads_to pit how) (members_of pit how (λ c. seen t own c) b p)) more.1 more.2)
+        ∙ ap (λ (ms : List ℕ). carried true own ms p) more.0
 step-agrees pit s t own (step.Revise r p upper) same read = refl
 
 pub steps-agree : (pit : Pit) (s t : Known) (own : Commit) (xs : List Step) → Agrees s t → steps_after pit s own xs ≢ unread → steps_after pit t own xs ≡ steps_after pit s own xs

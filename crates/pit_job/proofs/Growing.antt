@@ -120,18 +120,18 @@ ran-on pit task retries n old new more es o on (inr g) = inr (record {
   answer = g.answer;
 })
 
-before-on : (max_entries n : ℕ) (steps : List Step) (seen more : List Answered) (ended : RunEnd) → IsPrefix seen more → EndedBefore max_entries steps seen n ended → EndedBefore max_entries steps more n ended
-before-on max_entries n steps seen more end.Whole on stop = absurd stop
-before-on max_entries n steps seen more (end.Full job) on (is, full) = (is, omega (arith, full, ap length on.1, length-append seen on.0))
-before-on max_entries n steps seen more (end.NoMemory job) on stop = stop
-before-on max_entries n steps seen more (end.NoEntry job) on stop = stop
-before-on max_entries n steps seen more end.NoThread on stop = absurd stop
+before-on : (pit : Pit) (max_entries n : ℕ) (steps : List Step) (seen more : List Answered) (ended : RunEnd) → IsPrefix seen more → EndedBefore pit max_entries steps seen n ended → EndedBefore pit max_entries steps more n ended
+before-on pit max_entries n steps seen more end.Whole on stop = absurd stop
+before-on pit max_entries n steps seen more (end.Full job) on (is, full) = (is, omega (arith, full, ap length on.1, length-append seen on.0))
+before-on pit max_entries n steps seen more (end.NoMemory job) on stop = stop
+before-on pit max_entries n steps seen more (end.NoEntry job) on stop = stop
+before-on pit max_entries n steps seen more end.NoThread on stop = absurd stop
 
 pub all-on : (pit : Pit) (max_entries retries n : ℕ) (old new more : List Answered) (jobs : List Job) (es : List Answered) (os : List Outcome) (ended : RunEnd) → IsPrefix new more
     → RanFrom pit max_entries retries old new n jobs es os ended → RanFrom pit max_entries retries old more n jobs es os ended
 all-on pit max_entries retries n old new more [] es [] ended on (none, whole, sees) = (none, whole, prefix-trans old new more sees on)
 all-on pit max_entries retries n old new more [] es (o ∷ os) ended on ran = absurd ran
-all-on pit max_entries retries n old new more (task ∷ rest) es [] ended on (stop, left) = (before-on max_entries n task.steps new more ended on stop, left-on pit task retries n old new more es on left)
+all-on pit max_entries retries n old new more (task ∷ rest) es [] ended on (stop, left) = (before-on pit max_entries n task.steps new more ended on stop, left-on pit task retries n old new more es on left)
 all-on pit max_entries retries n old new more (task ∷ rest) es (o ∷ os) ended on (mid, mine, later, cut, ran, ahead) =
     (mid, mine, later, cut, ran, all-on pit max_entries retries (n + 1) mid new more rest later os ended on ahead)
 

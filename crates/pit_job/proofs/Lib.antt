@@ -1,8 +1,12 @@
+pub mod Cones
+pub mod Walks
 pub mod Agreeing
 pub mod Seeing
 pub mod Growing
 pub mod Noting
 pub mod Stepping
+pub mod Walking
+pub mod Carrying
 pub mod Meeting
 pub mod Trying
 pub mod Retries

@@ -68,11 +68,11 @@ told-stops (Ok x) r Is done stopped is = subst (λ (s : Result Bool StepStop). I
 told-stops (Err e) r Is done stopped is = subst (λ (s : Result Bool StepStop). IfErr s Is) (sym stopped) is
 
 -- one of the steps met it
-pub steps-meet : (xs : List Step) (i : ℕ) (d : Step) (start other : ℕ) (seen : List Answered) (s : StepStop) → i < length xs → other ≡ start
-    → Meets (λ block. IsReadBy block (get_or xs i d)) other seen s → Meets (IsRead xs) start seen s
-steps-meet xs i d start other seen (stop.Moved block version) less same meets = (
+pub steps-meet : (pit : Pit) (xs : List Step) (i : ℕ) (d : Step) (start other : ℕ) (seen : List Answered) (s : StepStop) → i < length xs → other ≡ start
+    → Meets (λ block. IsReadBy pit block (get_or xs i d)) other seen s → Meets (IsRead pit xs) start seen s
+steps-meet pit xs i d start other seen (stop.Moved block version) less same meets = (
   record { reader = get_or xs i d; among = Contains-get_or xs i d less; reads = meets.0 },
   subst (λ (n : ℕ). IsMovedBlock seen n block version) same meets.1,
 )
-steps-meet xs i d start other seen stop.NoMemory less same meets = tt
-steps-meet xs i d start other seen stop.NoEntry less same meets = (meets.0, record { reader = get_or xs i d; among = Contains-get_or xs i d less; reads = meets.1 })
+steps-meet pit xs i d start other seen stop.NoMemory less same meets = tt
+steps-meet pit xs i d start other seen stop.NoEntry less same meets = (meets.0, record { reader = get_or xs i d; among = Contains-get_or xs i d less; reads = meets.1 })

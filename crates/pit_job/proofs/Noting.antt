@@ -1,6 +1,7 @@
 -- What steps note.
 use Rattle.std.proofs.lemmas.List.Elements.{All-append, All-nil, All-cons, Contains-append_right}
 use Rattle.std.proofs.Common.{◌≡◌, ℕ, List, [], ◌∷◌, ◌++◌, get_or, Option, refl, sym, ap, ◌∙◌, arith, append-nil, append_assoc}
+use Rattle.pit_model.specs.Pit.{Pit}
 use Rattle.pit_script.specs.declared.step.Step.{Step}
 use Rattle.pit_job.specs.Outcomes.{IsReadBy, IsRead}
 use Rattle.pit_job.specs.Inside.Doing.{NotesOnly}
@@ -22,8 +23,8 @@ notes-trans P a b c f g = record {
 }
 
 -- what the first step reads, and what the others do, the steps read
-pub read-first : (s : Step) (ss : List Step) (b : ℕ) → IsReadBy b s → IsRead (s ∷ ss) b
-read-first s ss b reads = record { reader = s; among = (0, omega arith, refl); reads = reads }
+pub read-first : (pit : Pit) (s : Step) (ss : List Step) (b : ℕ) → IsReadBy pit b s → IsRead pit (s ∷ ss) b
+read-first pit s ss b reads = record { reader = s; among = (0, omega arith, refl); reads = reads }
 
-pub read-later : (s : Step) (ss : List Step) (b : ℕ) → IsRead ss b → IsRead (s ∷ ss) b
-read-later s ss b read = record { reader = read.reader; among = Contains-append_right (s ∷ []) ss read.reader read.among; reads = read.reads }
+pub read-later : (pit : Pit) (s : Step) (ss : List Step) (b : ℕ) → IsRead pit ss b → IsRead pit (s ∷ ss) b
+read-later pit s ss b read = record { reader = read.reader; among = Contains-append_right (s ∷ []) ss read.reader read.among; reads = read.reads }

@@ -101,12 +101,12 @@ each-job pit max_entries retries n old new (x ∷ xs) es (p ∷ ps) ended (mid, 
     let there : Ran pit task retries (n + suc j) old new (of_job (n + suc j) later) o = subst (λ (m : ℕ). Ran pit task retries m old new (of_job m later) o) number rest in
     subst (λ (xs : List Answered). Ran pit task retries (n + suc j) old new xs o) (sym same) there
 
-ends-after-none : (max_entries : ℕ) (seen : List Answered) (n : ℕ) (task : Job) (rest : List Job) (ended : RunEnd) → EndedBefore max_entries task.steps seen n ended → EndsAfter n (task ∷ rest) [] ended
-ends-after-none max_entries seen n task rest end.Whole stop = absurd stop
-ends-after-none max_entries seen n task rest (end.Full job) stop = (stop.0 ∙ sym (add-zero n), omega arith)
-ends-after-none max_entries seen n task rest (end.NoMemory job) stop = (stop ∙ sym (add-zero n), omega arith)
-ends-after-none max_entries seen n task rest (end.NoEntry job) stop = (stop.0 ∙ sym (add-zero n), omega arith)
-ends-after-none max_entries seen n task rest end.NoThread stop = absurd stop
+ends-after-none : (pit : Pit) (max_entries : ℕ) (seen : List Answered) (n : ℕ) (task : Job) (rest : List Job) (ended : RunEnd) → EndedBefore pit max_entries task.steps seen n ended → EndsAfter n (task ∷ rest) [] ended
+ends-after-none pit max_entries seen n task rest end.Whole stop = absurd stop
+ends-after-none pit max_entries seen n task rest (end.Full job) stop = (stop.0 ∙ sym (add-zero n), omega arith)
+ends-after-none pit max_entries seen n task rest (end.NoMemory job) stop = (stop ∙ sym (add-zero n), omega arith)
+ends-after-none pit max_entries seen n task rest (end.NoEntry job) stop = (stop.0 ∙ sym (add-zero n), omega arith)
+ends-after-none pit max_entries seen n task rest end.NoThread stop = absurd stop
 
 ends-more : (n : ℕ) (task : Job) (rest : List Job) (o : Outcome) (os : List Outcome) (ended : RunEnd) → EndsAfter (n + 1) rest os ended → EndsAfter n (task ∷ rest) (o ∷ os) ended
 ends-more n task rest o os end.Whole is = omega arith
@@ -120,7 +120,7 @@ pub ends-full : (pit : Pit) (max_entries retries n : ℕ) (old new : List Answer
     → (job : ℕ) → ended ≡ end.Full job → max_entries ≤ length new
 ends-full pit max_entries retries n old new [] es [] ended (none, whole, sees) job is = absurd (cc (whole, is))
 ends-full pit max_entries retries n old new [] es (o ∷ os) ended ran job is = absurd ran
-ends-full pit max_entries retries n old new (task ∷ rest) es [] ended (stop, left) job is = (subst (EndedBefore max_entries task.steps new n) is stop).1
+ends-full pit max_entries retries n old new (task ∷ rest) es [] ended (stop, left) job is = (subst (EndedBefore pit max_entries task.steps new n) is stop).1
 ends-full pit max_entries retries n old new (task ∷ rest) es (o ∷ os) ended (mid, mine, later, cut, ran, more) job is =
     ends-full pit max_entries retries (n + 1) mid new rest later os ended more job is
 
@@ -128,5 +128,5 @@ pub ends-after : (pit : Pit) (max_entries retries n : ℕ) (old new : List Answe
     → EndsAfter n jobs os ended
 ends-after pit max_entries retries n old new [] es [] ended (none, whole, sees) = subst (EndsAfter n [] []) (sym whole) refl
 ends-after pit max_entries retries n old new [] es (o ∷ os) ended ran = absurd ran
-ends-after pit max_entries retries n old new (task ∷ rest) es [] ended (stop, left) = ends-after-none max_entries new n task rest ended stop
+ends-after pit max_entries retries n old new (task ∷ rest) es [] ended (stop, left) = ends-after-none pit max_entries new n task rest ended stop
 ends-after pit max_entries retries n old new (task ∷ rest) es (o ∷ os) ended (mid, here, later, cut, ran, more) = ends-more n task rest o os ended (ends-after pit max_entries retries (n + 1) mid new rest later os ended more)

@@ -156,7 +156,7 @@ up_to-next pit max_entries retries old mid now jobs i n task es mine os o less a
 
 -- the run stops at a job
 pub up_to-stop : (pit : Pit) (max_entries retries : ℕ) (old mid new : List Answered) (jobs : List Job) (i n : ℕ) (task : Job) (es mine : List Answered) (os : List Outcome) (ended : RunEnd)
-    → i < length jobs → job_at jobs i ≡ task → RanUpTo pit max_entries retries old mid jobs i n es os → EndedBefore max_entries task.steps new n ended → LeftOff pit task retries n mid new mine
+    → i < length jobs → job_at jobs i ≡ task → RanUpTo pit max_entries retries old mid jobs i n es os → EndedBefore pit max_entries task.steps new n ended → LeftOff pit task retries n mid new mine
     → RanFrom pit max_entries retries old new 1 jobs (es ++ mine) os ended
 up_to-stop pit max_entries retries old mid new jobs i n task es mine os ended less at up_to stop left =
     let here : RanFrom pit max_entries retries mid new n (drop i jobs) mine [] ended =
@@ -173,10 +173,10 @@ up_to-whole pit max_entries retries old new jobs i n es os past up_to =
     let a = subst (λ (xs : List Outcome). RanFrom pit max_entries retries old new 1 jobs (es ++ []) xs end.Whole) (append-nil os) all in
     subst (λ (xs : List Answered). RanFrom pit max_entries retries old new 1 jobs xs os end.Whole) (append-nil es) a
 
-end_of-before : (max_entries : ℕ) (steps : List Step) (seen : List Answered) (s : JobStop) (n : ℕ) → IsStop max_entries steps seen s → EndedBefore max_entries steps seen n (end_of s n)
-end_of-before max_entries steps seen stop.Full n is = (refl, is)
-end_of-before max_entries steps seen stop.NoMemory n is = refl
-end_of-before max_entries steps seen stop.NoEntry n is = (refl, is)
+end_of-before : (pit : Pit) (max_entries : ℕ) (steps : List Step) (seen : List Answered) (s : JobStop) (n : ℕ) → IsStop pit max_entries steps seen s → EndedBefore pit max_entries steps seen n (end_of s n)
+end_of-before pit max_entries steps seen stop.Full n is = (refl, is)
+end_of-before pit max_entries steps seen stop.NoMemory n is = refl
+end_of-before pit max_entries steps seen stop.NoEntry n is = (refl, is)
 
 -- a job has its outcome
 pub job-done : (pit : Pit) (max_entries retries : ℕ) (jobs : List Job) (i n : ℕ) (task : Job) (a b c : PlannerState) (os outs : List Outcome) (o : Outcome) (answer : Result Outcome JobStop)
@@ -197,7 +197,7 @@ pub job-stops : (pit : Pit) (max_entries retries : ℕ) (jobs : List Job) (i n :
     → (es : List Answered) × Grows a es c × RanFrom pit max_entries retries a.seen c.seen 1 jobs es outs ended
 job-stops pit max_entries retries jobs i n task a b c os outs s answer ended less at (es, grew, up_to) (fs, grows, ran) is result same =
     let stopped = subst (RanJob pit max_entries task retries n b.seen c.seen fs) is ran in
-    let before = subst (EndedBefore max_entries task.steps c.seen n) (sym result) (end_of-before max_entries task.steps c.seen s n stopped.1) in (
+    let before = subst (EndedBefore pit max_entries task.steps c.seen n) (sym result) (end_of-before pit max_entries task.steps c.seen s n stopped.1) in (
       es ++ fs,
       grows-more a b c es fs grew grows,
       subst (λ (xs : List Outcome). RanFrom pit max_entries retries a.seen c.seen 1 jobs (es ++ fs) xs ended) (sym same)

@@ -45,10 +45,10 @@ read-rest (x ∷ xs) ys b none = by (nat_eq b x.0) (read-rest xs ys b) none
     by true later is = absurd (cc is)
     by false later is = later is
 
-Agrees-refl : (k : Known) → Agrees k k
+pub Agrees-refl : (k : Known) → Agrees k k
 Agrees-refl k b v is = is
 
-Agrees-trans : (k l m : Known) → Agrees k l → Agrees l m → Agrees k m
+pub Agrees-trans : (k l m : Known) → Agrees k l → Agrees l m → Agrees k m
 Agrees-trans k l m f g b v is = g b v (f b v is)
 
 pub same-refl : (t : TransactionState) → Same t t
@@ -124,7 +124,7 @@ pub own-does : (pit : Pit) (old new : TransactionState) (s : Step) (own : Commit
 own-does pit old new s own same reads stated is = record {
   same = same;
   does = λ known agrees. stated known ∙ ap changes (sym is);
-  noted = notes-none (λ c. IsReadBy c s) old.work.reads new.work.reads reads;
+  noted = notes-none (λ c. IsReadBy pit c s) old.work.reads new.work.reads reads;
   stays = λ no. absurd (cc no);
 }
 
@@ -198,7 +198,7 @@ shifted-as pit other is_back by t r period same is told = rw (sym same) (sym is 
 
 -- no step does nothing
 pub steps-none : (pit : Pit) (t : TransactionState) → DoesSteps pit t [] true t
-steps-none pit t = record { same = same-refl t; does = λ known agrees. refl; own = λ known agrees. refl; noted = notes-none (IsRead []) t.work.reads t.work.reads refl }
+steps-none pit t = record { same = same-refl t; does = λ known agrees. refl; own = λ known agrees. refl; noted = notes-none (IsRead pit []) t.work.reads t.work.reads refl }
 
 -- a step and then the rest
 pub steps-more : (pit : Pit) (old mid new : TransactionState) (s : Step) (ss : List Step) (goes : Bool) → DoesStep pit old s true mid → DoesSteps pit mid ss goes new → DoesSteps pit old (s ∷ ss) goes new
@@ -210,9 +210,9 @@ steps-more pit old mid new s ss goes first rest = record {
   own = λ known agrees.
       ap (λ (e : Effect). up_to (own_of old.work) e (λ after. changes_after pit known after ss)) (first.does known (Agrees-trans (read_in mid.work.reads) (read_in new.work.reads) known rest.same.reads agrees))
       ∙ rest.own known agrees;
-  noted = notes-trans (IsRead (s ∷ ss)) old.work.reads mid.work.reads new.work.reads
-      (notes-map (λ b. IsReadBy b s) (IsRead (s ∷ ss)) (read-first s ss) old.work.reads mid.work.reads first.noted)
-      (notes-map (IsRead ss) (IsRead (s ∷ ss)) (read-later s ss) mid.work.reads new.work.reads rest.noted);
+  noted = notes-trans (IsRead pit (s ∷ ss)) old.work.reads mid.work.reads new.work.reads
+      (notes-map (λ b. IsReadBy pit b s) (IsRead pit (s ∷ ss)) (read-first pit s ss) old.work.reads mid.work.reads first.noted)
+      (notes-map (IsRead pit ss) (IsRead pit (s ∷ ss)) (read-later pit s ss) mid.work.reads new.work.reads rest.noted);
 }
 
 -- a step that fails ends them
@@ -221,10 +221,10 @@ steps-fail pit old new s ss first = record {
   same = first.same;
   does = λ known agrees. ap (λ (e : Effect). next e (λ after. steps_after pit known after ss)) (first.does known agrees);
   own = λ known agrees. ap (λ (e : Effect). up_to (own_of old.work) e (λ after. changes_after pit known after ss)) (first.does known agrees) ∙ sym (first.stays refl);
-  noted = notes-map (λ b. IsReadBy b s) (IsRead (s ∷ ss)) (read-first s ss) old.work.reads new.work.reads first.noted;
+  noted = notes-map (λ b. IsReadBy pit b s) (IsRead pit (s ∷ ss)) (read-first pit s ss) old.work.reads new.work.reads first.noted;
 }
 
-drop-here : {X : Type 0} (xs : List X) (i : ℕ) (d : X) → i < length xs → drop i xs ≡ get_or xs i d ∷ drop (i + 1) xs
+pub drop-here : {X : Type 0} (xs : List X) (i : ℕ) (d : X) → i < length xs → drop i xs ≡ get_or xs i d ∷ drop (i + 1) xs
 drop-here xs i d h = rw (add-one, drop-cons xs i d)
 
 -- the step at i, and then those after it

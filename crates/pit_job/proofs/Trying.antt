@@ -37,20 +37,20 @@ use Rattle.pit_job.proofs.Seeing.{prefix-trans, sees-same, answered-moved, answe
 use Rattle.pit_job.proofs.Growing.{try-from}
 
 -- what stopped the ending of a transaction stopped the try
-try-stop : (max_entries : ℕ) (steps : List Step) (seen : List Answered) (why : JobStop) → IsStop max_entries [] seen why → IsStop max_entries steps seen why
-try-stop max_entries steps seen job_stop.Full is = is
-try-stop max_entries steps seen job_stop.NoMemory is = tt
-try-stop max_entries steps seen job_stop.NoEntry is = let none = is.1.among.1 in absurd (omega arith)
+try-stop : (pit : Pit) (max_entries : ℕ) (steps : List Step) (seen : List Answered) (why : JobStop) → IsStop pit max_entries [] seen why → IsStop pit max_entries steps seen why
+try-stop pit max_entries steps seen job_stop.Full is = is
+try-stop pit max_entries steps seen job_stop.NoMemory is = tt
+try-stop pit max_entries steps seen job_stop.NoEntry is = let none = is.1.among.1 in absurd (omega arith)
 
 -- an ending is a try's, where the call is the job's, and began after what had been seen
 pub tries-of : (pit : Pit) (max_entries : ℕ) (task : Job) (n : ℕ) (how : Act) (w : Sets) (old new : PlannerState) (es : List Answered) (t : Tried) → w.job ≡ n → length (commits_of old.seen) ≤ w.start
-    → IsCallOf pit task (work_call w how) → Grows old es new → EndsBy max_entries how w new.seen es t → Tries pit max_entries task n old.seen new.seen es t
+    → IsCallOf pit task (work_call w how) → Grows old es new → EndsBy pit max_entries how w new.seen es t → Tries pit max_entries task n old.seen new.seen es t
 tries-of pit max_entries task n how w old new es (tried.Moved block version) same after has grows (is, moved, noted) = record {
   start = w.start;
   after = after;
   sees = grows.seen;
   moved = moved;
-  read = subst (IsRead task.steps) noted.2 (All-contains (λ (read : ℕ × Option ℕ). IsRead task.steps read.0) w.reads noted.0 has.reads noted.1);
+  read = subst (IsRead pit task.steps) noted.2 (All-contains (λ (read : ℕ × Option ℕ). IsRead pit task.steps read.0) w.reads noted.0 has.reads noted.1);
   made = inl (
     record { call = work_call w how; reply = reply.Refused (refusal.Moved block version) },
     is,
@@ -59,7 +59,7 @@ tries-of pit max_entries task n how w old new es (tried.Moved block version) sam
 }
 tries-of pit max_entries task n how w old new es (tried.Answered answer) same after has grows (is, other) =
     (record { call = work_call w how; reply = answer }, is, record { job = same; call = has }, refl, other)
-tries-of pit max_entries task n how w old new es (tried.Stopped why) same after has grows (is, stop) = (is, try-stop max_entries task.steps new.seen why stop)
+tries-of pit max_entries task n how w old new es (tried.Stopped why) same after has grows (is, stop) = (is, try-stop pit max_entries task.steps new.seen why stop)
 
 -- what all steps come to, over the reads that were made
 steps-come : (pit : Pit) (task : Job) (n : ℕ) (old new : TransactionState) (goes : Bool) → IsFresh n old → DoesSteps pit old task.steps goes new
@@ -74,9 +74,9 @@ steps-changed pit task n old new goes fresh does =
     sym (subst (λ (own : Commit). changes_after pit (read_in new.work.reads) own task.steps ≡ own_of new.work) fresh.own (does.own (read_in new.work.reads) (λ b v is. is)))
 
 steps-noted : (pit : Pit) (task : Job) (n : ℕ) (old new : TransactionState) (goes : Bool) → IsFresh n old → DoesSteps pit old task.steps goes new
-    → All (λ (read : ℕ × Option ℕ). IsRead task.steps read.0) new.work.reads
+    → All (λ (read : ℕ × Option ℕ). IsRead pit task.steps read.0) new.work.reads
 steps-noted pit task n old new goes fresh does =
-    subst (All (λ (read : ℕ × Option ℕ). IsRead task.steps read.0)) (sym (does.noted.grown ∙ ap (λ (xs : List (ℕ × Option ℕ)). xs ++ does.noted.more) fresh.reads)) does.noted.each
+    subst (All (λ (read : ℕ × Option ℕ). IsRead pit task.steps read.0)) (sym (does.noted.grown ∙ ap (λ (xs : List (ℕ × Option ℕ)). xs ++ does.noted.more) fresh.reads)) does.noted.each
 
 -- so the call is the job's, where it has the job's effect
 call-of : (pit : Pit) (task : Job) (n : ℕ) (old new : TransactionState) (goes : Bool) (how : Act) → IsFresh n old → DoesSteps pit old task.steps goes new → HasEffect pit task (work_call new.work how)
@@ -105,7 +105,7 @@ failed-has pit task n old new fresh does = by task.end (steps-come pit task n ol
 
 -- a commit's answer
 pub commit-ends : (pit : Pit) (max_entries : ℕ) (w : Sets) (old seen es : List Answered) (r : Reply) → IsAnswered pit (work_call w act.Commit) (entry_reply r) old seen
-    → es ≡ record { call = work_call w act.Commit; reply = entry_reply r } ∷ [] → EndsBy max_entries act.Commit w seen es (tried_of r)
+    → es ≡ record { call = work_call w act.Commit; reply = entry_reply r } ∷ [] → EndsBy pit max_entries act.Commit w seen es (tried_of r)
 commit-ends pit max_entries w old seen es (answered.Committed number) answer is = (is, refl)
 commit-ends pit max_entries w old seen es (answered.Refused (refusal.Ahead start commits)) answer is = (is, refl)
 commit-ends pit max_entries w old seen es (answered.Refused (refusal.Moved block version)) answer is = (
@@ -135,7 +135,7 @@ tries-from pit max_entries task n less old new es (tried.Answered answer) begins
 tries-from pit max_entries task n less old new es (tried.Stopped why) begins tries = tries
 
 ends-tries : (pit : Pit) (max_entries : ℕ) (task : Job) (n : ℕ) (old new : TransactionState) (how : Act) (p : PlannerState) (t : Tried) → IsFresh n old → Same old new
-    → IsCallOf pit task (work_call new.work how) → ((es : List Answered) × Grows new.planner es p × EndsBy max_entries how new.work p.seen es t)
+    → IsCallOf pit task (work_call new.work how) → ((es : List Answered) × Grows new.planner es p × EndsBy pit max_entries how new.work p.seen es t)
     → (es : List Answered) × Grows old.planner es p × Tries pit max_entries task n old.planner.seen p.seen es t
 ends-tries pit max_entries task n old new how p t fresh same has (es, grows, ends) =
     let grew = grows-on old.planner new.planner p es same.sees grows in
@@ -148,14 +148,14 @@ tries-same pit max_entries task other n old p t same (es, grows, tries) = (es, g
 
 -- the endings of a try whose steps came to their end
 pub committed-tries : (pit : Pit) (max_entries : ℕ) (task other : Job) (n : ℕ) (old new : TransactionState) (goes : Bool) (p : PlannerState) (t : Tried) → other ≡ task → task.end ≡ ending.Commit → IsFresh n old
-    → goes ≡ true → DoesSteps pit old task.steps goes new → ((es : List Answered) × Grows new.planner es p × EndsBy max_entries act.Commit new.work p.seen es t)
+    → goes ≡ true → DoesSteps pit old task.steps goes new → ((es : List Answered) × Grows new.planner es p × EndsBy pit max_entries act.Commit new.work p.seen es t)
     → (es : List Answered) × Grows old.planner es p × Tries pit max_entries other n old.planner.seen p.seen es t
 committed-tries pit max_entries task other n old new goes p t named how fresh is does ends =
     let all = subst (λ (b : Bool). DoesSteps pit old task.steps b new) is does in
     tries-same pit max_entries task other n old.planner p t named (ends-tries pit max_entries task n old new act.Commit p t fresh all.same (call-of pit task n old new true act.Commit fresh all (commit-has pit task n old new fresh how all)) ends)
 
 pub aborted-tries : (pit : Pit) (max_entries : ℕ) (task other : Job) (n : ℕ) (old new : TransactionState) (goes : Bool) (p : PlannerState) (t : Tried) → other ≡ task → task.end ≡ ending.Abort → IsFresh n old
-    → goes ≡ true → DoesSteps pit old task.steps goes new → ((es : List Answered) × Grows new.planner es p × EndsBy max_entries act.Withdraw new.work p.seen es t)
+    → goes ≡ true → DoesSteps pit old task.steps goes new → ((es : List Answered) × Grows new.planner es p × EndsBy pit max_entries act.Withdraw new.work p.seen es t)
     → (es : List Answered) × Grows old.planner es p × Tries pit max_entries other n old.planner.seen p.seen es t
 aborted-tries pit max_entries task other n old new goes p t named how fresh is does ends =
     let all = subst (λ (b : Bool). DoesSteps pit old task.steps b new) is does in
@@ -163,7 +163,7 @@ aborted-tries pit max_entries task other n old new goes p t named how fresh is d
 
 -- and where a shift failed
 pub failed-tries : (pit : Pit) (max_entries : ℕ) (task other : Job) (n : ℕ) (old new : TransactionState) (goes : Bool) (p : PlannerState) (t : Tried) → other ≡ task → IsFresh n old
-    → goes ≡ false → DoesSteps pit old task.steps goes new → ((es : List Answered) × Grows new.planner es p × EndsBy max_entries act.Withdraw new.work p.seen es t)
+    → goes ≡ false → DoesSteps pit old task.steps goes new → ((es : List Answered) × Grows new.planner es p × EndsBy pit max_entries act.Withdraw new.work p.seen es t)
     → (es : List Answered) × Grows old.planner es p × Tries pit max_entries other n old.planner.seen p.seen es t
 failed-tries pit max_entries task other n old new goes p t named fresh is does ends =
     let some = subst (λ (b : Bool). DoesSteps pit old task.steps b new) is does in
@@ -174,7 +174,7 @@ grows-none old new sees = record { number = sees.number; items = sees.items ∙ 
 
 -- a try whose steps met a block that moved
 moved-tries : (pit : Pit) (max_entries : ℕ) (task : Job) (n : ℕ) (old : TransactionState) (p : PlannerState) (block version : ℕ) → IsFresh n old → SeesOn old.planner p
-    → Meets (IsRead task.steps) old.work.start p.seen (met.Moved block version)
+    → Meets (IsRead pit task.steps) old.work.start p.seen (met.Moved block version)
     → (es : List Answered) × Grows old.planner es p × Tries pit max_entries task n old.planner.seen p.seen es (tried.Moved block version)
 moved-tries pit max_entries task n old p block version fresh sees meets = (
   [],
@@ -186,23 +186,23 @@ pub ended-grows : (pit : Pit) (old new : PlannerState) (call : Call) (reply : En
 ended-grows pit old new call reply ended = record { number = ended.number; items = ended.items; seen = ended.seen }
 
 -- a try that stops adds nothing
-pub stopped-tries : (pit : Pit) (max_entries : ℕ) (task : Job) (n : ℕ) (old p : PlannerState) (why : JobStop) → SeesOn old p → IsStop max_entries task.steps p.seen why
+pub stopped-tries : (pit : Pit) (max_entries : ℕ) (task : Job) (n : ℕ) (old p : PlannerState) (why : JobStop) → SeesOn old p → IsStop pit max_entries task.steps p.seen why
     → (es : List Answered) × Grows old es p × Tries pit max_entries task n old.seen p.seen es (tried.Stopped why)
 stopped-tries pit max_entries task n old p why sees stop = ([], grows-none old p sees, (refl, stop))
 
 -- what stopped the steps of a try
 met-tries : (pit : Pit) (max_entries : ℕ) (task : Job) (n : ℕ) (old : TransactionState) (p : PlannerState) (s : StepStop) → IsFresh n old → SeesOn old.planner p
-    → Meets (IsRead task.steps) old.work.start p.seen s → (es : List Answered) × Grows old.planner es p × Tries pit max_entries task n old.planner.seen p.seen es (tried_at s)
+    → Meets (IsRead pit task.steps) old.work.start p.seen s → (es : List Answered) × Grows old.planner es p × Tries pit max_entries task n old.planner.seen p.seen es (tried_at s)
 met-tries pit max_entries task n old p (met.Moved block version) fresh sees meets = moved-tries pit max_entries task n old p block version fresh sees meets
 met-tries pit max_entries task n old p met.NoMemory fresh sees meets = stopped-tries pit max_entries task n old.planner p job_stop.NoMemory sees tt
 met-tries pit max_entries task n old p met.NoEntry fresh sees meets = stopped-tries pit max_entries task n old.planner p job_stop.NoEntry sees meets
 
 pub abandoned-tries : (pit : Pit) (max_entries : ℕ) (task other : Job) (n : ℕ) (old mid : TransactionState) (p : PlannerState) (s : StepStop) (t : Tried) → other ≡ task → IsFresh n old
-    → SeesOn old.planner mid.planner → Meets (IsRead task.steps) old.work.start mid.planner.seen s → p ≡ mid.planner → t ≡ tried_at s
+    → SeesOn old.planner mid.planner → Meets (IsRead pit task.steps) old.work.start mid.planner.seen s → p ≡ mid.planner → t ≡ tried_at s
     → (es : List Answered) × Grows old.planner es p × Tries pit max_entries other n old.planner.seen p.seen es t
 abandoned-tries pit max_entries task other n old mid p s t named fresh sees meets same is =
     let here = subst (SeesOn old.planner) (sym same) sees in
-    let met_here = subst (λ (q : PlannerState). Meets (IsRead task.steps) old.work.start q.seen s) (sym same) meets in
+    let met_here = subst (λ (q : PlannerState). Meets (IsRead pit task.steps) old.work.start q.seen s) (sym same) meets in
     tries-same pit max_entries task other n old.planner p t named
     (subst (λ (x : Tried). (es : List Answered) × Grows old.planner es p × Tries pit max_entries task n old.planner.seen p.seen es x) (sym is)
     (met-tries pit max_entries task n old p s fresh here met_here))
@@ -211,32 +211,32 @@ stopped-sees : (max_entries : ℕ) (old later : TransactionState) (s : Stop) →
 stopped-sees max_entries old later desk_stop.Full stopped = stopped.1
 stopped-sees max_entries old later desk_stop.NoMemory stopped = sees-same old.planner later.planner (ap (λ (t : TransactionState). t.planner) stopped)
 
-stopped-is : (max_entries : ℕ) (old later : TransactionState) (s : Stop) → IsStopped max_entries old s later → IsStop max_entries [] later.planner.seen (stop_of s)
-stopped-is max_entries old later desk_stop.Full stopped = stopped.2
-stopped-is max_entries old later desk_stop.NoMemory stopped = tt
+stopped-is : (pit : Pit) (max_entries : ℕ) (old later : TransactionState) (s : Stop) → IsStopped max_entries old s later → IsStop pit max_entries [] later.planner.seen (stop_of s)
+stopped-is pit max_entries old later desk_stop.Full stopped = stopped.2
+stopped-is pit max_entries old later desk_stop.NoMemory stopped = tt
 
 -- an ending that got no answer
-pub stopped-ends : (max_entries : ℕ) (how : Act) (old later : TransactionState) (p : PlannerState) (s : Stop) (why : JobStop) → IsStopped max_entries old s later → p ≡ later.planner → why ≡ stop_of s
-    → (es : List Answered) × Grows old.planner es p × EndsBy max_entries how old.work p.seen es (tried.Stopped why)
-stopped-ends max_entries how old later p s why stopped same is =
+pub stopped-ends : (pit : Pit) (max_entries : ℕ) (how : Act) (old later : TransactionState) (p : PlannerState) (s : Stop) (why : JobStop) → IsStopped max_entries old s later → p ≡ later.planner → why ≡ stop_of s
+    → (es : List Answered) × Grows old.planner es p × EndsBy pit max_entries how old.work p.seen es (tried.Stopped why)
+stopped-ends pit max_entries how old later p s why stopped same is =
     let sees = subst (SeesOn old.planner) (sym same) (stopped-sees max_entries old later s stopped) in
-    let here = subst (λ (q : PlannerState). IsStop max_entries [] q.seen (stop_of s)) (sym same) (stopped-is max_entries old later s stopped) in
-    ([], grows-none old.planner p sees, (refl, subst (IsStop max_entries [] p.seen) (sym is) here))
+    let here = subst (λ (q : PlannerState). IsStop pit max_entries [] q.seen (stop_of s)) (sym same) (stopped-is pit max_entries old later s stopped) in
+    ([], grows-none old.planner p sees, (refl, subst (IsStop pit max_entries [] p.seen) (sym is) here))
 
 -- a withdrawal that was answered
 pub withdrawn-ends : (pit : Pit) (max_entries : ℕ) (w : Sets) (old p : PlannerState) → IsEnded pit old (work_call w act.Withdraw) reply.Withdrawn p
-    → (es : List Answered) × Grows old es p × EndsBy max_entries act.Withdraw w p.seen es (tried.Answered reply.Withdrawn)
+    → (es : List Answered) × Grows old es p × EndsBy pit max_entries act.Withdraw w p.seen es (tried.Answered reply.Withdrawn)
 withdrawn-ends pit max_entries w old p ended =
     (record { call = work_call w act.Withdraw; reply = reply.Withdrawn } ∷ [], ended-grows pit old p (work_call w act.Withdraw) reply.Withdrawn ended, (refl, refl))
 
 -- and a commit
 pub answered-ends : (pit : Pit) (max_entries : ℕ) (w : Sets) (old p : PlannerState) (r : Reply) (t : Tried) → IsEnded pit old (work_call w act.Commit) (entry_reply r) p → t ≡ tried_of r
-    → (es : List Answered) × Grows old es p × EndsBy max_entries act.Commit w p.seen es t
+    → (es : List Answered) × Grows old es p × EndsBy pit max_entries act.Commit w p.seen es t
 answered-ends pit max_entries w old p r t ended is =
     let es : List Answered = record { call = work_call w act.Commit; reply = entry_reply r } ∷ [] in (
       es,
       ended-grows pit old p (work_call w act.Commit) (entry_reply r) ended,
-      subst (λ (x : Tried). EndsBy max_entries act.Commit w p.seen es x) (sym is) (commit-ends pit max_entries w old.seen p.seen es r ended.answer refl),
+      subst (λ (x : Tried). EndsBy pit max_entries act.Commit w p.seen es x) (sym is) (commit-ends pit max_entries w old.seen p.seen es r ended.answer refl),
     )
 
 pub begun-tries : (pit : Pit) (max_entries : ℕ) (task : Job) (n : ℕ) (old new p : PlannerState) (t : Tried) → SeesOn old new

@@ -1,7 +1,7 @@
 -- What a job does to a schedule.
-use Rattle.std.specs.Prelude.{◌≡◌, ℕ, ℤ, Bool, nat_eq, List, [], ◌∷◌, Option, Some, None, is_some, if◌then◌else◌}
+use Rattle.std.specs.Prelude.{◌≡◌, ℕ, ℤ, Bool, true, false, ◌&&◌, ◌==◌, nat_eq, nat_lt, List, [], ◌∷◌, Option, Some, None, is_some, if◌then◌else◌}
 use Rattle.pit_model.specs.Fitting.{pair_eq}
-use Rattle.pit_model.specs.Pit.{Pit}
+use Rattle.pit_model.specs.Pit.{Pit, preds_of, succs_of}
 use Rattle.pit_plan.specs.Schedule.{Commit}
 use Rattle.pit_keyed.specs.Keyed.{at_key, with_write}
 use Rattle.pit_desk.specs.History.{Call, commit_of}
@@ -13,6 +13,9 @@ use Rattle.pit_script.specs.declared.step.JobEnd.{JobEnd}
 use Rattle.pit_script.specs.declared.step.JobEnd.TheVariants as ending
 use Rattle.pit_script.specs.declared.step.Step.{Step}
 use Rattle.pit_script.specs.declared.step.Step.TheVariants as step
+use Rattle.pit_script.specs.declared.step.Way.{Way}
+use Rattle.pit_script.specs.declared.step.Way.TheVariants as way
+use Rattle.pit_job.specs.Cones.{cone_of, all_led}
 use Rattle.pit_job.specs.Shifts.{shifted}
 
 -- a finite map from blocks to a period or none: what it holds of a block, if it holds it
@@ -61,6 +64,54 @@ moved_by periods own b is_back by None = unread
 moved_by periods own b is_back by (Some None) = nothing
 moved_by periods own b is_back by (Some (Some t)) = put_at own b (shifted periods is_back by t)
 
+-- a block is read, and the job goes on where it has this period, or none
+abbrev pub same_period : Option ℕ → Option ℕ → Bool
+same_period None None = true
+same_period None (Some u) = false
+same_period (Some t) None = false
+same_period (Some t) (Some u) = t == u
+
+abbrev pub expected : Commit → Option ℕ → Option (Option ℕ) → Effect
+expected own period None = unread
+expected own period (Some held) = if same_period held period then changes own else nothing
+
+-- ---- a block with what is carried along
+
+-- late is a block that has no period or a later one, early one that has an earlier one; what isn't known is neither
+abbrev pub is_late : ℕ → Option (Option ℕ) → Bool
+is_late t None = false
+is_late t (Some None) = true
+is_late t (Some (Some held)) = nat_lt t held
+
+abbrev pub is_early : ℕ → Option (Option ℕ) → Bool
+is_early t None = false
+is_early t (Some None) = false
+is_early t (Some (Some held)) = nat_lt held t
+
+abbrev pub is_carried : Way → ℕ → Option (Option ℕ) → Bool
+is_carried way.Cone t held = is_late t held
+is_carried way.Push t held = is_early t held
+
+-- a member of a cone leads to its predecessors, one that is pushed to its successors
+abbrev pub leads_to : Pit → Way → ℕ → List ℕ
+leads_to pit way.Cone b = preds_of pit b
+leads_to pit way.Push b = succs_of pit b
+
+-- the block, where it is late, and each late predecessor of a member; or the same of what is early, and of successors; by rising block
+abbrev pub members_of : Pit → Way → Known → ℕ → ℕ → List ℕ
+members_of pit how at b t = cone_of pit.blocks (λ c. is_carried how t (at c)) (leads_to pit how) b
+
+-- the block and all that members lead to are known
+abbrev pub all_known : Pit → Way → Known → ℕ → ℕ → Bool
+all_known pit how at b t = is_some (at b) && all_led (λ a. is_some (at a)) (leads_to pit how) (members_of pit how at b t)
+
+abbrev pub carried : Bool → Commit → List ℕ → ℕ → Effect
+carried true own members t = changes (with_bench own members t)
+carried false own members t = unread
+
+abbrev pub carry_after : Pit → Way → Known → Commit → ℕ → ℕ → Effect
+carry_after pit how at own b t = carried (all_known pit how at b t) own (members_of pit how at b t) t
+
 -- what one step does after these changes
 abbrev pub step_after : Pit → Known → Commit → Step → Effect
 step_after pit known own (step.Read b) = looked own (seen known own b)
@@ -68,6 +119,8 @@ step_after pit known own (step.Put b t) = changes (with_written own b (Some t))
 step_after pit known own (step.Clear b) = changes (with_written own b None)
 step_after pit known own (step.Shift b is_back by) = moved_by pit.periods own b is_back by (seen known own b)
 step_after pit known own (step.Bench height t) = changes (with_bench own (bench_of pit height) t)
+step_after pit known own (step.Expect b period) = expected own period (seen known own b)
+step_after pit known own (step.Carry how b t) = carry_after pit how (λ c. seen known own c) own b t
 step_after pit known own (step.Revise r t upper) = changes (with_revised own r t upper)
 
 -- what comes next, where nothing ended it

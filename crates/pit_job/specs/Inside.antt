@@ -2,3 +2,4 @@
 pub mod Doing
 pub mod Outcomes
 pub mod Runs
+pub mod Walking

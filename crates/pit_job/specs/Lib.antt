@@ -1,5 +1,7 @@
 pub mod Shifts
+pub mod Cones
 pub mod Effect
+pub mod Carried
 pub mod Outcomes
 pub mod Runs
 pub mod JobByJob

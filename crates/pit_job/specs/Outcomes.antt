@@ -12,7 +12,8 @@ use Rattle.pit_share.specs.Planners.{PlannerState}
 use Rattle.pit_script.specs.Jobs.{Job}
 use Rattle.pit_script.specs.declared.step.Step.{Step}
 use Rattle.pit_script.specs.declared.step.Step.TheVariants as step
-use Rattle.pit_job.specs.Effect.{HasEffect, HasChanges}
+use Rattle.pit_job.specs.Cones.{Reaches}
+use Rattle.pit_job.specs.Effect.{HasEffect, HasChanges, leads_to}
 
 -- a block that the call read was moved
 abbrev pub is_moved_refusal : Refusal → Bool
@@ -30,25 +31,27 @@ is_moved_reply reply.Withdrawn = false
 -- ---- entries of a job
 
 -- the step reads the block
-abbrev pub IsReadBy : ℕ → Step → Type 0
-IsReadBy block (step.Read b) = block ≡ b
-IsReadBy block (step.Put b period) = ⊥
-IsReadBy block (step.Clear b) = ⊥
-IsReadBy block (step.Shift b is_back by) = block ≡ b
-IsReadBy block (step.Bench height period) = ⊥
-IsReadBy block (step.Revise resource period upper) = ⊥
+abbrev pub IsReadBy : Pit → ℕ → Step → Type 0
+IsReadBy pit block (step.Read b) = block ≡ b
+IsReadBy pit block (step.Put b period) = ⊥
+IsReadBy pit block (step.Clear b) = ⊥
+IsReadBy pit block (step.Shift b is_back by) = block ≡ b
+IsReadBy pit block (step.Bench height period) = ⊥
+IsReadBy pit block (step.Expect b period) = block ≡ b
+IsReadBy pit block (step.Carry how b period) = Reaches (leads_to pit how) b block
+IsReadBy pit block (step.Revise resource period upper) = ⊥
 
 -- one of the steps does
-pub record IsRead (steps : List Step) (block : ℕ) : Type 0 where
+pub record IsRead (pit : Pit) (steps : List Step) (block : ℕ) : Type 0 where
   pub reader : Step
   pub among : Contains steps reader
-  pub reads : IsReadBy block reader
+  pub reads : IsReadBy pit block reader
 
 -- it has the job's effect over its reads, and the changes of the job's steps; and each block that it noted, a step reads
 pub record IsCallOf (pit : Pit) (task : Job) (call : Call) : Type 0 where
   pub effect : HasEffect pit task call
   pub changes : HasChanges pit task call
-  pub reads : All (λ read. IsRead task.steps read.0) call.reads
+  pub reads : All (λ read. IsRead pit task.steps read.0) call.reads
 
 -- an entry of a job
 pub record IsItem (pit : Pit) (task : Job) (n : ℕ) (e : Answered) : Type 0 where
@@ -77,7 +80,7 @@ pub record IsMovedTry (pit : Pit) (task : Job) (n : ℕ) (old new es : List Answ
   pub after : length (commits_of old) ≤ start
   pub sees : IsPrefix old new
   pub moved : IsMovedBlock new start block version
-  pub read : IsRead task.steps block
+  pub read : IsRead pit task.steps block
   pub made : ((e : Answered) × (es ≡ e ∷ []) × IsMovedItem pit task n start block version e) ⊎ (es ≡ [])
 
 -- so many tries of a job, one after another, that ended by Moved, with their entries

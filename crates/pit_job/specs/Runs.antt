@@ -63,19 +63,19 @@ pub record LeftOff (pit : Pit) (task : Job) (retries n : ℕ) (old new es : List
 
 -- The run ended before job n, of these steps, had its outcome. Where that is since the history is full, the planner has seen so many entries; where
 -- the planner wasn't let in at the board, a step reads a block.
-abbrev pub EndedBefore : ℕ → List Step → List Answered → ℕ → RunEnd → Type 0
-EndedBefore max_entries steps seen n end.Whole = ⊥
-EndedBefore max_entries steps seen n (end.Full job) = (job ≡ n) × (max_entries ≤ length seen)
-EndedBefore max_entries steps seen n (end.NoMemory job) = job ≡ n
-EndedBefore max_entries steps seen n (end.NoEntry job) = (job ≡ n) × ((block : ℕ) × IsRead steps block)
-EndedBefore max_entries steps seen n end.NoThread = ⊥
+abbrev pub EndedBefore : Pit → ℕ → List Step → List Answered → ℕ → RunEnd → Type 0
+EndedBefore pit max_entries steps seen n end.Whole = ⊥
+EndedBefore pit max_entries steps seen n (end.Full job) = (job ≡ n) × (max_entries ≤ length seen)
+EndedBefore pit max_entries steps seen n (end.NoMemory job) = job ≡ n
+EndedBefore pit max_entries steps seen n (end.NoEntry job) = (job ≡ n) × ((block : ℕ) × IsRead pit steps block)
+EndedBefore pit max_entries steps seen n end.NoThread = ⊥
 
 -- the entries of jobs that are numbered from n, one after the other, with their outcomes, and how that ended, of a planner who had seen the old list
 -- before them, and has then seen no more than the new one
 abbrev pub RanFrom : Pit → ℕ → ℕ → List Answered → List Answered → ℕ → List Job → List Answered → List Outcome → RunEnd → Type 0
 RanFrom pit max_entries retries old new n [] es [] ended = (es ≡ []) × (ended ≡ end.Whole) × IsPrefix old new
 RanFrom pit max_entries retries old new n [] es (o ∷ os) ended = ⊥
-RanFrom pit max_entries retries old new n (task ∷ rest) es [] ended = EndedBefore max_entries task.steps new n ended × LeftOff pit task retries n old new es
+RanFrom pit max_entries retries old new n (task ∷ rest) es [] ended = EndedBefore pit max_entries task.steps new n ended × LeftOff pit task retries n old new es
 RanFrom pit max_entries retries old new n (task ∷ rest) es (o ∷ os) ended =
     (mid : List Answered) × (mine : List Answered) × (later : List Answered) × (es ≡ mine ++ later)
     × Ran pit task retries n old mid mine o × RanFrom pit max_entries retries mid new (n + 1) rest later os ended

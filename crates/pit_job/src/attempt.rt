@@ -94,7 +94,7 @@ fn withdraw<'a, S: Session, R: Wait + Drop, A: Allocator + Copy + Drop, W: Wait>
     rt: &W,
     t: Transaction<'a, S, R, A>,
 ) -> (Planner<'a, S, R, A>, Tried)
-    ensures { (es : List Answered) × Grows t.entry.planner es result.0 × EndsBy S.max_entries withdraw_act t.entry.work result.0.seen es result.1 }
+    ensures { (es : List Answered) × Grows t.entry.planner es result.0 × EndsBy S.instance S.max_entries withdraw_act t.entry.work result.0.seen es result.1 }
 {
     match t.abort(rt) {
         Ok(planner) => (planner, Tried::Answered(EntryReply::Withdrawn)),
@@ -109,7 +109,7 @@ fn commit<'a, S: Session, R: Wait + Drop, A: Allocator + Copy + Drop, W: Wait, G
     n: u32,
     gate: &G,
 ) -> (Planner<'a, S, R, A>, Tried)
-    ensures { (es : List Answered) × Grows t.entry.planner es result.0 × EndsBy S.max_entries commit_act t.entry.work result.0.seen es result.1 }
+    ensures { (es : List Answered) × Grows t.entry.planner es result.0 × EndsBy S.instance S.max_entries commit_act t.entry.work result.0.seen es result.1 }
 {
     gate.before_commit(number, n);
     let answer = t.commit(rt);

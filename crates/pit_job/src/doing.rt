@@ -3,9 +3,11 @@ ghost use Rattle.std.specs.Prelude.{◌≡◌, ◌<◌, true, IfOk, IfErr, OnOk,
 ghost use Rattle.pit_script.specs.Ranges.{IsStepIn};
 ghost use Rattle.pit_share.specs.Planners.{SeesOn};
 ghost use Rattle.pit_job.specs.Outcomes.{IsReadBy, IsRead};
+ghost use Rattle.pit_job.specs.Effect.{same_period as same_period_of};
 ghost use Rattle.pit_job.specs.Shifts.{shifted as shifted_of};
 ghost use Rattle.pit_job.specs.Inside.Doing.{LooksUp, Puts, DoesStep, DoesSteps, Meets, IsUnseen};
 
+use crate::carry::carry;
 use crate::shift::shifted;
 use pit_board::Session;
 use pit_script::{Benches, Step};
@@ -33,7 +35,7 @@ pub(crate) fn do_steps<
     requires pit { benches.now ≡ S.instance }
     requires in_range { All (IsStepIn S.instance) steps.now }
     ensures ok { IfOk result (λ goes. DoesSteps S.instance t.old steps.now goes t.new) }
-    ensures err { IfErr result (Meets (IsRead steps.now) t.old.work.start t.new.planner.seen) }
+    ensures err { IfErr result (Meets (IsRead S.instance steps.now) t.old.work.start t.new.planner.seen) }
     ensures sees { SeesOn t.old.planner t.new.planner }
 {
     for step in steps {
@@ -53,7 +55,7 @@ fn do_step<'a, S: Session, R: Wait + Drop, A: Allocator + Copy + Drop, B: Alloca
     requires pit { benches.now ≡ S.instance }
     requires in_range { IsStepIn S.instance step.now }
     ensures ok { IfOk result (λ goes. DoesStep S.instance t.old step.now goes t.new) }
-    ensures err { IfErr result (Meets (λ block. IsReadBy block step.now) t.old.work.start t.new.planner.seen) }
+    ensures err { IfErr result (Meets (λ block. IsReadBy S.instance block step.now) t.old.work.start t.new.planner.seen) }
     ensures sees { SeesOn t.old.planner t.new.planner }
 {
     match *step {
@@ -62,6 +64,8 @@ fn do_step<'a, S: Session, R: Wait + Drop, A: Allocator + Copy + Drop, B: Alloca
         Step::Clear { block } => write(t, block, None),
         Step::Shift { block, is_back, by } => shift(t, benches, block, is_back, by),
         Step::Bench { height, period } => bench(t, benches, height, period),
+        Step::Expect { block, period } => expect(t, block, period),
+        Step::Carry { way, block, period } => carry(t, benches, way, block, period),
         Step::Revise {
             resource,
             period,
@@ -81,6 +85,31 @@ fn read<'a, S: Session, R: Wait + Drop, A: Allocator + Copy + Drop>(
 {
     let _period = look(t, b)?;
     Ok(true)
+}
+
+/// Reads a block, and says whether it has this period, or none.
+fn expect<'a, S: Session, R: Wait + Drop, A: Allocator + Copy + Drop>(
+    t: &mut Transaction<'a, S, R, A>,
+    b: u32,
+    period: Option<u32>,
+) -> Result<bool, StepStop>
+    requires { b < S.instance.blocks }
+    ensures ok { IfOk result (λ goes. DoesStep S.instance t.old (Step.Expect b period) goes t.new) }
+    ensures err { IfErr result (Meets (λ block. block ≡ b) t.old.work.start t.new.planner.seen) }
+    ensures sees { SeesOn t.old.planner t.new.planner }
+{
+    let held = look(t, b)?;
+    Ok(same_period(held, period))
+}
+
+fn same_period(one: Option<u32>, other: Option<u32>) -> bool
+    ensures { result ≡ same_period_of one other }
+{
+    match (one, other) {
+        (None, None) => true,
+        (Some(t), Some(u)) => t == u,
+        _ => false,
+    }
 }
 
 fn revise<'a, S: Session, R: Wait + Drop, A: Allocator + Copy + Drop>(
@@ -150,7 +179,7 @@ fn shifted_in<B: Allocator + Copy + Drop>(
 }
 
 /// Reads a block of the pit.
-fn look<'a, S: Session, R: Wait + Drop, A: Allocator + Copy + Drop>(
+pub(crate) fn look<'a, S: Session, R: Wait + Drop, A: Allocator + Copy + Drop>(
     t: &mut Transaction<'a, S, R, A>,
     b: u32,
 ) -> Result<Option<u32>, StepStop>
@@ -169,7 +198,7 @@ fn look<'a, S: Session, R: Wait + Drop, A: Allocator + Copy + Drop>(
 }
 
 /// Writes that a block has a period, or none.
-fn write<'a, S: Session, R: Wait + Drop, A: Allocator + Copy + Drop>(
+pub(crate) fn write<'a, S: Session, R: Wait + Drop, A: Allocator + Copy + Drop>(
     t: &mut Transaction<'a, S, R, A>,
     b: u32,
     period: Option<u32>,

@@ -1,6 +1,12 @@
 //! Laws of effects and of runs, each as the contract of a function that does nothing.
-ghost use Rattle.std.specs.Prelude.{◌≡◌, ◌≢◌, ℕ, ◌+◌, ◌<◌, ◌≤◌, ℤ, List, length, slice_get, Some, All};
-ghost use Rattle.pit_model.specs.Pit.{Pit};
+ghost use Rattle.std.specs.Prelude.{◌≡◌, ◌≢◌, ℕ, ◌+◌, ◌<◌, ◌≤◌, ℤ, true, List, length, slice_get, Option, Some, All, Contains};
+ghost use Rattle.pit_model.specs.Pit.{Pit, IsSound};
+ghost use Rattle.pit_plan.specs.Schedule.{Commit};
+ghost use Rattle.pit_plan.specs.Breaches.{IsOrdered};
+ghost use Rattle.pit_script.specs.declared.step.Way.{Way};
+ghost use Rattle.pit_script.specs.declared.step.Step.TheVariants.{Carry};
+ghost use Rattle.pit_job.specs.Cones.{Reaches};
+ghost use Rattle.pit_job.specs.Carried.{laid_over, members_over, AreMembers, KeepsOrder};
 ghost use Rattle.pit_desk.specs.History.{Answered, commit_of, commits_of};
 ghost use Rattle.pit_desk.specs.OneThread.{IsOfOneThread, held_period_after};
 ghost use Rattle.pit_desk.specs.declared.reply.EntryReply.TheVariants.{Committed as committed};
@@ -11,7 +17,7 @@ ghost use Rattle.pit_job.specs.declared.outcome.Outcome.TheVariants.{Refused};
 ghost use Rattle.pit_job.specs.declared.outcome.RunEnd.{RunEnd};
 ghost use Rattle.pit_job.specs.declared.outcome.RunEnd.TheVariants.{Full};
 ghost use Rattle.pit_job.specs.declared.planner_run.TheConstants.{RETRIES_MAX};
-ghost use Rattle.pit_job.specs.Effect.{Known, Agrees, Effect, effect, changes, unread, whole, HasEffect};
+ghost use Rattle.pit_job.specs.Effect.{Known, Agrees, Effect, effect, changes, unread, whole, with_bench, is_carried, leads_to, step_after, HasEffect};
 ghost use Rattle.pit_job.specs.Runs.{RanFrom, Ran};
 ghost use Rattle.pit_job.specs.JobByJob.{of_job, HasOwnEffect, EndsAfter, IsWriter};
 
@@ -28,6 +34,24 @@ pub fn one_by_one()
         → (k number : ℕ) (e : Answered) (job : Job) → slice_get history k ≡ Some e → e.reply ≡ committed number
         → HasEffect pit job e.call
         → effect pit job (whole (held_period_after history k)) ≡ changes (commit_of e.call) }
+{}
+
+/// A law of lines that carry blocks along, over a schedule with the own writes laid over it: they put the members into the period; these are the least
+/// set that has the block, where it is late, and each late predecessor of a member (or the same of what is early, and of successors). Where the schedule
+/// is in order, they are all that is late (early) of the block and its predecessors (successors), direct and indirect. No pair is then out of order
+/// that wasn't before, and none whose block (of a push: whose predecessor) was put.
+pub fn carried_along()
+    ensures puts { (pit : Pit) (schedule : ℕ → Option ℕ) (own : Commit) (how : Way) (b t : ℕ)
+        → step_after pit (whole schedule) own (Carry how b t) ≡ changes (with_bench own (members_over pit how schedule own b t) t) }
+    ensures least { (pit : Pit) → IsSound pit → (schedule : ℕ → Option ℕ) (own : Commit) (how : Way) (b t : ℕ) → b < pit.blocks
+        → AreMembers pit how (laid_over schedule own) b t (members_over pit how schedule own b t) }
+    ensures reached { (pit : Pit) → IsSound pit → (schedule : ℕ → Option ℕ) (own : Commit) (how : Way) (b t c : ℕ)
+        → Contains (members_over pit how schedule own b t) c → Reaches (leads_to pit how) b c × (is_carried how t (Some (laid_over schedule own c)) ≡ true) }
+    ensures in_order { (pit : Pit) → IsSound pit → (schedule : ℕ → Option ℕ) (own : Commit) (how : Way) (b t : ℕ) → b < pit.blocks
+        → IsOrdered pit (laid_over schedule own) → (c : ℕ) → Reaches (leads_to pit how) b c → is_carried how t (Some (laid_over schedule own c)) ≡ true
+        → Contains (members_over pit how schedule own b t) c }
+    ensures order { (pit : Pit) → IsSound pit → (schedule : ℕ → Option ℕ) (own : Commit) (how : Way) (b t : ℕ) → b < pit.blocks
+        → KeepsOrder pit how (laid_over schedule own) (laid_over schedule (with_bench own (members_over pit how schedule own b t) t)) (members_over pit how schedule own b t) }
 {}
 
 /// A law of runs: each job's entries are settled by its outcome, each entry has its own job's effect, and the end says how many jobs have

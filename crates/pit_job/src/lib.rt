@@ -9,6 +9,7 @@
 #![tactic(auto)]
 
 mod attempt;
+mod carry;
 mod doing;
 mod gate;
 pub mod laws;

@@ -14,8 +14,8 @@ use Rattle.pit_text.specs.Stands.{◌>>=◌, StatesAfter, StandsWhole}
 use Rattle.pit_script.specs.Benches.{has_bench}
 use Rattle.pit_script.specs.Between.{lines_of_job, lines_of_jobs}
 use Rattle.pit_script.specs.Jobs.{Job, Progress, with_fact, progress_of, jobs_of, script_line, script_end}
-use Rattle.pit_script.specs.Lines.{no_field, one_field, two_fields, three_fields, in_job, below, begin_line, end_line_of, read_step, clear_step, put_step, shift_step, bench_step, revise_step, line_of_word, ranged_fact, known_bench, line_fact}
-use Rattle.pit_script.specs.Numbers.{read_as, shift_of}
+use Rattle.pit_script.specs.Lines.{no_field, one_field, two_fields, three_fields, in_job, below, begin_line, end_line_of, read_step, clear_step, put_step, shift_step, bench_step, expect_step, carry_step, below_if_some, revise_step, line_of_word, ranged_fact, known_bench, line_fact}
+use Rattle.pit_script.specs.Numbers.{read_as, shift_of, period_or_none_of}
 use Rattle.pit_script.specs.Words.{word_in}
 use Rattle.pit_script.specs.declared.error.ScriptCause.{ScriptCause}
 use Rattle.pit_script.specs.declared.error.ScriptCause.TheVariants.{FieldCount, UnknownWord, BlockRange, ResourceRange, PeriodRange, Order, NoBench, JobCount, Unended}
@@ -25,6 +25,8 @@ use Rattle.pit_script.specs.declared.step.JobEnd.{JobEnd}
 use Rattle.pit_script.specs.declared.step.JobEnd.TheVariants as ending
 use Rattle.pit_script.specs.declared.step.Step.{Step}
 use Rattle.pit_script.specs.declared.step.Step.TheVariants as step
+use Rattle.pit_script.specs.declared.step.Way.{Way}
+use Rattle.pit_script.specs.declared.step.Way.TheVariants as way
 use Rattle.pit_script.specs.declared.step.TheConstants.{JOBS_MAX}
 use Rattle.pit_script.specs.declared.word.Word.{Word}
 use Rattle.pit_script.specs.declared.word.Word.TheVariants as word
@@ -127,6 +129,18 @@ lies_bench periods o fields =
     lies_two o _ fields (λ z t. lies_in_job o _ (λ inside. lies_then o (read_as micro_of z) _ (λ height. lies_then o (read_as whole_of t) _ (λ period.
     lies_then o (below periods period PeriodRange) _ (λ m. lies_ok o (says.Does (step.Bench height m)) inside)))))
 
+lies_expect : (blocks periods : ℕ) (o : Bool) (fields : List (List ℕ)) → Lies o (expect_step blocks periods o fields)
+unfolding expect_step
+lies_expect blocks periods o fields =
+    lies_two o _ fields (λ b t. lies_in_job o _ (λ inside. lies_then o (read_as whole_of b) _ (λ block. lies_then o (read_as period_or_none_of t) _ (λ period.
+    lies_then o (below blocks block BlockRange) _ (λ n. lies_then o (below_if_some periods period) _ (λ m. lies_ok o (says.Does (step.Expect n m)) inside))))))
+
+lies_carry : (how : Way) (blocks periods : ℕ) (o : Bool) (fields : List (List ℕ)) → Lies o (carry_step how blocks periods o fields)
+unfolding carry_step
+lies_carry how blocks periods o fields =
+    lies_two o _ fields (λ b t. lies_in_job o _ (λ inside. lies_then o (read_as whole_of b) _ (λ block. lies_then o (read_as whole_of t) _ (λ period.
+    lies_then o (below blocks block BlockRange) _ (λ n. lies_then o (below periods period PeriodRange) _ (λ m. lies_ok o (says.Does (step.Carry how n m)) inside))))))
+
 lies_revise : (resources periods : ℕ) (o : Bool) (fields : List (List ℕ)) → Lies o (revise_step resources periods o fields)
 unfolding revise_step
 lies_revise resources periods o fields =
@@ -140,6 +154,9 @@ lies_word pit o jobs word.Put fields = lies_put pit.blocks pit.periods o fields
 lies_word pit o jobs word.Clear fields = lies_clear pit.blocks o fields
 lies_word pit o jobs word.Shift fields = lies_shift pit.blocks o fields
 lies_word pit o jobs word.Bench fields = lies_bench pit.periods o fields
+lies_word pit o jobs word.Expect fields = lies_expect pit.blocks pit.periods o fields
+lies_word pit o jobs word.Cone fields = lies_carry way.Cone pit.blocks pit.periods o fields
+lies_word pit o jobs word.Push fields = lies_carry way.Push pit.blocks pit.periods o fields
 lies_word pit o jobs word.Revise fields = lies_revise pit.resources pit.periods o fields
 lies_word pit o jobs word.Commit fields = lies_end ending.Commit o fields
 lies_word pit o jobs word.Abort fields = lies_end ending.Abort o fields
@@ -157,6 +174,8 @@ lies_known o pit (says.Does (step.Clear block)) may = lies_ok o (says.Does (step
 lies_known o pit (says.Does (step.Shift block is_back by)) may = lies_ok o (says.Does (step.Shift block is_back by)) may
 lies_known o pit (says.Does (step.Bench height period)) may =
     lies_if o (has_bench pit height) _ _ (lies_ok o (says.Does (step.Bench height period)) may) (lies_err o NoBench)
+lies_known o pit (says.Does (step.Expect block period)) may = lies_ok o (says.Does (step.Expect block period)) may
+lies_known o pit (says.Does (step.Carry how block period)) may = lies_ok o (says.Does (step.Carry how block period)) may
 lies_known o pit (says.Does (step.Revise resource period upper)) may = lies_ok o (says.Does (step.Revise resource period upper)) may
 lies_known o pit (says.Ends end) may = lies_ok o (says.Ends end) may
 

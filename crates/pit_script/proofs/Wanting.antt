@@ -9,8 +9,8 @@ use Rattle.pit_text.specs.Numbers.{is_ascii, or_bad}
 use Rattle.pit_text.specs.Stands.{◌>>=◌, FailsWhole}
 use Rattle.pit_script.specs.Benches.{has_bench}
 use Rattle.pit_script.specs.Jobs.{progress_of, script_line, script_end}
-use Rattle.pit_script.specs.Lines.{no_field, one_field, two_fields, three_fields, in_job, below, begin_line, end_line_of, read_step, clear_step, put_step, shift_step, bench_step, revise_step, line_of_word, ranged_fact, known_bench, line_fact}
-use Rattle.pit_script.specs.Numbers.{read_as, shift_of}
+use Rattle.pit_script.specs.Lines.{no_field, one_field, two_fields, three_fields, in_job, below, begin_line, end_line_of, read_step, clear_step, put_step, shift_step, bench_step, expect_step, carry_step, below_if_some, revise_step, line_of_word, ranged_fact, known_bench, line_fact}
+use Rattle.pit_script.specs.Numbers.{read_as, shift_of, period_or_none_of}
 use Rattle.pit_script.specs.Words.{word_of, or_unknown, word_in}
 use Rattle.pit_script.specs.declared.error.ScriptCause.{ScriptCause}
 use Rattle.pit_script.specs.declared.error.ScriptCause.TheVariants.{NotAscii, BadNumber, UnknownWord, BlockRange, ResourceRange, PeriodRange, Order, NoBench, JobCount, Unended, NoMemory}
@@ -19,6 +19,8 @@ use Rattle.pit_script.specs.declared.fact.ScriptFact.TheVariants as says
 use Rattle.pit_script.specs.declared.step.JobEnd.{JobEnd}
 use Rattle.pit_script.specs.declared.step.JobEnd.TheVariants as ending
 use Rattle.pit_script.specs.declared.step.Step.TheVariants as step
+use Rattle.pit_script.specs.declared.step.Way.{Way}
+use Rattle.pit_script.specs.declared.step.Way.TheVariants as way
 use Rattle.pit_script.specs.declared.step.TheConstants.{JOBS_MAX}
 use Rattle.pit_script.specs.declared.word.Word.{Word}
 use Rattle.pit_script.specs.declared.word.Word.TheVariants as word
@@ -148,6 +150,22 @@ own_bench_step periods is_open fields =
     own_two _ fields (λ z t. own_in_job is_open _ (own_then _ _ (own_read micro_of z) (λ height. own_then _ _ (own_read whole_of t) (λ period.
     own_then _ _ (own_below periods period PeriodRange own_period) (λ m. own_ok _)))))
 
+own_below_if_some : (periods : ℕ) (period : Option ℕ) → IsOwn (below_if_some periods period)
+own_below_if_some periods None = own_ok None
+own_below_if_some periods (Some t) = own_then _ _ (own_below periods t PeriodRange own_period) (λ m. own_ok _)
+
+own_expect_step : (blocks periods : ℕ) (is_open : Bool) (fields : List (List ℕ)) → IsOwn (expect_step blocks periods is_open fields)
+unfolding expect_step
+own_expect_step blocks periods is_open fields =
+    own_two _ fields (λ b t. own_in_job is_open _ (own_then _ _ (own_read whole_of b) (λ block. own_then _ _ (own_read period_or_none_of t) (λ period.
+    own_then _ _ (own_below blocks block BlockRange own_block) (λ n. own_then _ _ (own_below_if_some periods period) (λ m. own_ok _))))))
+
+own_carry_step : (how : Way) (blocks periods : ℕ) (is_open : Bool) (fields : List (List ℕ)) → IsOwn (carry_step how blocks periods is_open fields)
+unfolding carry_step
+own_carry_step how blocks periods is_open fields =
+    own_two _ fields (λ b t. own_in_job is_open _ (own_then _ _ (own_read whole_of b) (λ block. own_then _ _ (own_read whole_of t) (λ period.
+    own_then _ _ (own_below blocks block BlockRange own_block) (λ n. own_then _ _ (own_below periods period PeriodRange own_period) (λ m. own_ok _))))))
+
 own_revise_step : (resources periods : ℕ) (is_open : Bool) (fields : List (List ℕ)) → IsOwn (revise_step resources periods is_open fields)
 unfolding revise_step
 own_revise_step resources periods is_open fields =
@@ -161,6 +179,9 @@ own_line_of_word pit is_open jobs word.Put fields = own_put_step pit.blocks pit.
 own_line_of_word pit is_open jobs word.Clear fields = own_clear_step pit.blocks is_open fields
 own_line_of_word pit is_open jobs word.Shift fields = own_shift_step pit.blocks is_open fields
 own_line_of_word pit is_open jobs word.Bench fields = own_bench_step pit.periods is_open fields
+own_line_of_word pit is_open jobs word.Expect fields = own_expect_step pit.blocks pit.periods is_open fields
+own_line_of_word pit is_open jobs word.Cone fields = own_carry_step way.Cone pit.blocks pit.periods is_open fields
+own_line_of_word pit is_open jobs word.Push fields = own_carry_step way.Push pit.blocks pit.periods is_open fields
 own_line_of_word pit is_open jobs word.Revise fields = own_revise_step pit.resources pit.periods is_open fields
 own_line_of_word pit is_open jobs word.Commit fields = own_end ending.Commit is_open fields
 own_line_of_word pit is_open jobs word.Abort fields = own_end ending.Abort is_open fields
@@ -177,6 +198,8 @@ own_known pit (says.Does (step.Put block period)) = own_ok _
 own_known pit (says.Does (step.Clear block)) = own_ok _
 own_known pit (says.Does (step.Shift block is_back by)) = own_ok _
 own_known pit (says.Does (step.Bench height period)) = own_if (has_bench pit height) _ _ (own_ok _) own_bench
+own_known pit (says.Does (step.Expect block period)) = own_ok _
+own_known pit (says.Does (step.Carry how block period)) = own_ok _
 own_known pit (says.Does (step.Revise resource period upper)) = own_ok _
 own_known pit (says.Ends end) = own_ok _
 

@@ -1,11 +1,11 @@
 -- What one line of a script says.
-use Rattle.std.specs.Prelude.{ℕ, Bool, nat_le, if◌then◌else◌, List, [], ◌∷◌, Result, Ok, Err}
+use Rattle.std.specs.Prelude.{ℕ, Bool, nat_le, if◌then◌else◌, List, [], ◌∷◌, Option, Some, None, Result, Ok, Err}
 use Rattle.pit_num.specs.Decimal.{whole_of, micro_of}
 use Rattle.pit_model.specs.Pit.{Pit}
 use Rattle.pit_text.specs.Bounds.{upper_bound_of}
 use Rattle.pit_text.specs.Stands.{◌>>=◌}
 use Rattle.pit_script.specs.Benches.{has_bench}
-use Rattle.pit_script.specs.Numbers.{read_as, shift_of}
+use Rattle.pit_script.specs.Numbers.{read_as, shift_of, period_or_none_of}
 use Rattle.pit_script.specs.Words.{word_in}
 use Rattle.pit_script.specs.declared.error.ScriptCause.{ScriptCause}
 use Rattle.pit_script.specs.declared.error.ScriptCause.TheVariants.{UnknownWord, FieldCount, BlockRange, ResourceRange, PeriodRange, Order, NoBench, JobCount}
@@ -15,6 +15,8 @@ use Rattle.pit_script.specs.declared.step.JobEnd.{JobEnd}
 use Rattle.pit_script.specs.declared.step.JobEnd.TheVariants as ending
 use Rattle.pit_script.specs.declared.step.Step.{Step}
 use Rattle.pit_script.specs.declared.step.Step.TheVariants as step
+use Rattle.pit_script.specs.declared.step.Way.{Way}
+use Rattle.pit_script.specs.declared.step.Way.TheVariants as way
 use Rattle.pit_script.specs.declared.step.TheConstants.{JOBS_MAX}
 use Rattle.pit_script.specs.declared.word.Word.{Word}
 use Rattle.pit_script.specs.declared.word.Word.TheVariants as word
@@ -51,6 +53,10 @@ in_job is_open says = if is_open then says else Err Order
 abbrev pub below : ℕ → ℕ → ScriptCause → Result ℕ ScriptCause
 below count n cause = if nat_le count n then Err cause else Ok n
 
+abbrev pub below_if_some : ℕ → Option ℕ → Result (Option ℕ) ScriptCause
+below_if_some periods None = Ok None
+below_if_some periods (Some t) = below periods t PeriodRange >>= (λ t. Ok (Some t))
+
 abbrev pub does : Step → Result ScriptFact ScriptCause
 does done = Ok (says.Does done)
 
@@ -86,6 +92,16 @@ bench_step periods is_open fields = two_fields (λ z t. in_job is_open (
     read_as micro_of z >>= (λ height. read_as whole_of t >>= (λ period.
     below periods period PeriodRange >>= (λ period. does (step.Bench height period)))))) fields
 
+unfoldable pub expect_step : ℕ → ℕ → Bool → List (List ℕ) → Result ScriptFact ScriptCause
+expect_step blocks periods is_open fields = two_fields (λ b t. in_job is_open (
+    read_as whole_of b >>= (λ block. read_as period_or_none_of t >>= (λ period.
+    below blocks block BlockRange >>= (λ block. below_if_some periods period >>= (λ period. does (step.Expect block period))))))) fields
+
+unfoldable pub carry_step : Way → ℕ → ℕ → Bool → List (List ℕ) → Result ScriptFact ScriptCause
+carry_step how blocks periods is_open fields = two_fields (λ b t. in_job is_open (
+    read_as whole_of b >>= (λ block. read_as whole_of t >>= (λ period.
+    below blocks block BlockRange >>= (λ block. below periods period PeriodRange >>= (λ period. does (step.Carry how block period))))))) fields
+
 unfoldable pub revise_step : ℕ → ℕ → Bool → List (List ℕ) → Result ScriptFact ScriptCause
 revise_step resources periods is_open fields = three_fields (λ r t v. in_job is_open (
     read_as whole_of r >>= (λ resource. read_as whole_of t >>= (λ period. read_as upper_bound_of v >>= (λ upper.
@@ -99,6 +115,9 @@ line_of_word pit is_open jobs word.Put fields = put_step pit.blocks pit.periods 
 line_of_word pit is_open jobs word.Clear fields = clear_step pit.blocks is_open fields
 line_of_word pit is_open jobs word.Shift fields = shift_step pit.blocks is_open fields
 line_of_word pit is_open jobs word.Bench fields = bench_step pit.periods is_open fields
+line_of_word pit is_open jobs word.Expect fields = expect_step pit.blocks pit.periods is_open fields
+line_of_word pit is_open jobs word.Cone fields = carry_step way.Cone pit.blocks pit.periods is_open fields
+line_of_word pit is_open jobs word.Push fields = carry_step way.Push pit.blocks pit.periods is_open fields
 line_of_word pit is_open jobs word.Revise fields = revise_step pit.resources pit.periods is_open fields
 line_of_word pit is_open jobs word.Commit fields = end_line_of ending.Commit is_open fields
 line_of_word pit is_open jobs word.Abort fields = end_line_of ending.Abort is_open fields

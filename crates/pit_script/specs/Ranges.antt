@@ -1,10 +1,10 @@
 -- Jobs whose steps are in the ranges of a pit.
-use Rattle.std.specs.Prelude.{◌<◌, List}
+use Rattle.std.specs.Prelude.{◌<◌, List, IfSome}
 use Rattle.std.specs.List.{All}
 use Rattle.pit_model.specs.Pit.{Pit}
 use Rattle.pit_script.specs.Jobs.{Job}
 use Rattle.pit_script.specs.declared.step.Step.{Step}
-use Rattle.pit_script.specs.declared.step.Step.TheVariants.{Read, Put, Clear, Shift, Bench, Revise}
+use Rattle.pit_script.specs.declared.step.Step.TheVariants.{Read, Put, Clear, Shift, Bench, Expect, Carry, Revise}
 
 abbrev pub IsStepIn : Pit → Step → Type 0
 IsStepIn pit (Read block) = block < pit.blocks
@@ -12,6 +12,8 @@ IsStepIn pit (Put block period) = (block < pit.blocks) × (period < pit.periods)
 IsStepIn pit (Clear block) = block < pit.blocks
 IsStepIn pit (Shift block is_back by) = block < pit.blocks
 IsStepIn pit (Bench height period) = period < pit.periods
+IsStepIn pit (Expect block period) = (block < pit.blocks) × IfSome period (λ t. t < pit.periods)
+IsStepIn pit (Carry way block period) = (block < pit.blocks) × (period < pit.periods)
 IsStepIn pit (Revise resource period upper) = (resource < pit.resources) × (period < pit.periods)
 
 abbrev pub IsJobIn : Pit → Job → Type 0

@@ -6,7 +6,7 @@ use Rattle.pit_text.specs.Numbers.{is_ascii}
 use Rattle.pit_script.specs.declared.error.ScriptCause.{ScriptCause}
 use Rattle.pit_script.specs.declared.error.ScriptCause.TheVariants.{NotAscii, UnknownWord}
 use Rattle.pit_script.specs.declared.word.Word.{Word}
-use Rattle.pit_script.specs.declared.word.Word.TheVariants.{Begin, Read, Put, Clear, Shift, Bench, Revise, Commit, Abort}
+use Rattle.pit_script.specs.declared.word.Word.TheVariants.{Begin, Read, Put, Clear, Shift, Bench, Expect, Cone, Push, Revise, Commit, Abort}
 
 abbrev pub words : List (List ℕ × Word)
 words =
@@ -16,6 +16,9 @@ words =
     ∷ (codes "clear", Clear)
     ∷ (codes "shift", Shift)
     ∷ (codes "bench", Bench)
+    ∷ (codes "expect", Expect)
+    ∷ (codes "cone", Cone)
+    ∷ (codes "push", Push)
     ∷ (codes "revise", Revise)
     ∷ (codes "commit", Commit)
     ∷ (codes "abort", Abort)

@@ -20,5 +20,5 @@ pub use benches::Benches;
 pub use error::{ScriptCause, ScriptError};
 pub use fact::ScriptFact;
 pub use script::Script;
-pub use step::{JOBS_MAX, JobEnd, SHIFT_MAX, Step};
+pub use step::{JOBS_MAX, JobEnd, SHIFT_MAX, Step, Way};
 pub use word::{Word, word_of};

@@ -1,15 +1,15 @@
-ghost use Rattle.std.specs.Prelude.{◌≡◌, ◌<◌, ℕ, IfOk};
+ghost use Rattle.std.specs.Prelude.{◌≡◌, ◌<◌, ℕ, IfOk, IfSome};
 ghost use Rattle.pit_model.specs.Pit.{Pit};
 ghost use Rattle.pit_text.specs.Left.{fields_left};
 ghost use Rattle.pit_script.specs.Inside.Ranges.{IsFactIn};
-ghost use Rattle.pit_script.specs.Lines.{line_fact, ranged_fact, known_bench, line_of_word, bench_step, revise_step, begin_line, end_line_of, read_step, clear_step, put_step, shift_step, below};
+ghost use Rattle.pit_script.specs.Lines.{line_fact, ranged_fact, known_bench, line_of_word, bench_step, revise_step, begin_line, end_line_of, read_step, clear_step, put_step, shift_step, expect_step, carry_step, below, below_if_some};
 ghost use Rattle.pit_script.specs.Inside.Lines.{MayStand};
 
 use super::benches::Benches;
 use super::error::ScriptCause;
 use super::fact::ScriptFact;
-use super::number::{decimal, shift, upper, whole};
-use super::step::{JOBS_MAX, JobEnd, Step};
+use super::number::{decimal, period_or_none, shift, upper, whole};
+use super::step::{JOBS_MAX, JobEnd, Step, Way};
 use super::word::{Word, word_in};
 use pit_model::Instance;
 use pit_text::Fields;
@@ -85,6 +85,9 @@ fn line_of_word<A: Allocator + Copy + Drop>(
         Word::Clear => clear_step(fields, is_open, pit.blocks()),
         Word::Shift => shift_step(fields, is_open, pit.blocks()),
         Word::Bench => bench_step(fields, is_open, pit.periods()),
+        Word::Expect => expect_step(fields, is_open, pit.blocks(), pit.periods()),
+        Word::Cone => carry_step(fields, is_open, Way::Cone, pit.blocks(), pit.periods()),
+        Word::Push => carry_step(fields, is_open, Way::Push, pit.blocks(), pit.periods()),
         Word::Revise => revise_step(fields, is_open, pit.resources(), pit.periods()),
         Word::Commit => end_line_of(fields, is_open, JobEnd::Commit),
         Word::Abort => end_line_of(fields, is_open, JobEnd::Abort),
@@ -256,6 +259,66 @@ fn shift_step(mut fields: Fields<'_>, is_open: bool, blocks: u32) -> Result<Scri
     let (is_back, by) = shift(d)?;
     let block = below(blocks, block, ScriptCause::BlockRange)?;
     Ok(ScriptFact::Does(Step::Shift { block, is_back, by }))
+}
+
+#[tactic(auto, unfolding(crate::specs::Lines::expect_step))]
+fn expect_step(
+    mut fields: Fields<'_>,
+    is_open: bool,
+    blocks: u32,
+    periods: u32,
+) -> Result<ScriptFact, ScriptCause>
+    ensures value { result ≡ expect_step blocks periods is_open (fields_left fields.entry) }
+    ensures stands { (jobs : ℕ) → IfOk result (MayStand is_open jobs) }
+    ensures in_range { (pit : Pit) → pit.blocks ≡ blocks → pit.periods ≡ periods → IfOk result (IsFactIn pit) }
+{
+    let (Some(b), Some(t), None) = (fields.next(), fields.next(), fields.next()) else {
+        return Err(ScriptCause::FieldCount);
+    };
+    if !is_open {
+        return Err(ScriptCause::Order);
+    }
+    let block = whole(b)?;
+    let period = period_or_none(t)?;
+    let block = below(blocks, block, ScriptCause::BlockRange)?;
+    let period = below_if_some(periods, period)?;
+    Ok(ScriptFact::Does(Step::Expect { block, period }))
+}
+
+#[tactic(auto, unfolding(crate::specs::Lines::carry_step))]
+fn carry_step(
+    mut fields: Fields<'_>,
+    is_open: bool,
+    way: Way,
+    blocks: u32,
+    periods: u32,
+) -> Result<ScriptFact, ScriptCause>
+    ensures value { result ≡ carry_step way blocks periods is_open (fields_left fields.entry) }
+    ensures stands { (jobs : ℕ) → IfOk result (MayStand is_open jobs) }
+    ensures in_range { (pit : Pit) → pit.blocks ≡ blocks → pit.periods ≡ periods → IfOk result (IsFactIn pit) }
+{
+    let (Some(b), Some(t), None) = (fields.next(), fields.next(), fields.next()) else {
+        return Err(ScriptCause::FieldCount);
+    };
+    if !is_open {
+        return Err(ScriptCause::Order);
+    }
+    let block = whole(b)?;
+    let period = whole(t)?;
+    let block = below(blocks, block, ScriptCause::BlockRange)?;
+    let period = below(periods, period, ScriptCause::PeriodRange)?;
+    Ok(ScriptFact::Does(Step::Carry { way, block, period }))
+}
+
+/// A period, if it is one, that is below their count, or the cause that it isn't.
+fn below_if_some(periods: u32, period: Option<u32>) -> Result<Option<u32>, ScriptCause>
+    ensures value { result ≡ below_if_some periods period }
+    ensures below { IfOk result (λ period. IfSome period (λ t. t < periods)) }
+{
+    let Some(t) = period else {
+        return Ok(None);
+    };
+    Ok(Some(below(periods, t, ScriptCause::PeriodRange)?))
 }
 
 /// A number that is below a count, or the cause that it isn't.

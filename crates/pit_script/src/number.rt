@@ -1,7 +1,7 @@
 ghost use Rattle.std.specs.Prelude.{◌≡◌};
 ghost use Rattle.pit_num.specs.Decimal.{whole_of, micro_of, after_sign, is_negative};
 ghost use Rattle.pit_text.specs.Bounds.{upper_bound_of};
-ghost use Rattle.pit_script.specs.Numbers.{read_as, shift_of};
+ghost use Rattle.pit_script.specs.Numbers.{read_as, shift_of, is_dash, period_or_none_of};
 
 use super::error::ScriptCause;
 use super::step::SHIFT_MAX;
@@ -47,6 +47,39 @@ pub(crate) fn upper(field: &[u8]) -> Result<Option<i64>, ScriptCause>
     match upper_bound(text) {
         Ok(bound) => Ok(bound),
         Err(error) => Err(ScriptCause::BadNumber(error)),
+    }
+}
+
+/// The period in a field, or none where it is a dash.
+pub(crate) fn period_or_none(field: &[u8]) -> Result<Option<u32>, ScriptCause>
+    ensures { result ≡ read_as period_or_none_of field.now }
+{
+    if !is_ascii(field) {
+        return Err(ScriptCause::NotAscii);
+    }
+    match period_or_none_of(field) {
+        Ok(period) => Ok(period),
+        Err(error) => Err(ScriptCause::BadNumber(error)),
+    }
+}
+
+#[tactic(auto, unfolding(crate::specs::Numbers::period_or_none_of))]
+fn period_or_none_of(text: &[u8]) -> Result<Option<u32>, NumError>
+    ensures { result ≡ period_or_none_of text.now }
+{
+    if is_dash(text) {
+        return Ok(None);
+    }
+    let period = whole_from_bytes(text)?;
+    Ok(Some(period))
+}
+
+fn is_dash(text: &[u8]) -> bool
+    ensures { result ≡ is_dash text.now }
+{
+    match text {
+        [byte] => *byte == b'-',
+        _ => false,
     }
 }
 

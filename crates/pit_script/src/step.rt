@@ -31,12 +31,32 @@ pub enum Step {
         height: i64,
         period: u32,
     },
+    /// Reads a block. The job goes on where it has this period, or none.
+    Expect {
+        block: u32,
+        period: Option<u32>,
+    },
+    /// Puts a block and what is carried along with it into a period, by rising block.
+    Carry {
+        way: Way,
+        block: u32,
+        period: u32,
+    },
     /// Revises the upper limit, in millionths, of a resource in a period; none is no limit.
     Revise {
         resource: u32,
         period: u32,
         upper: Option<i64>,
     },
+}
+
+/// What is carried along with a block.
+#[derive(Clone, Copy, Debug, PartialEq, Eq)]
+pub enum Way {
+    /// What stands in its way: predecessors that have no period or a later one.
+    Cone,
+    /// What depends on it: successors that have an earlier period.
+    Push,
 }
 
 /// How a job ends.

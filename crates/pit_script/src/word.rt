@@ -19,6 +19,12 @@ pub enum Word {
     Shift,
     /// `bench Z T`: each block at a height gets a period.
     Bench,
+    /// `expect B T`, `expect B -`: a block is read, and the job goes on where it has this period, or none.
+    Expect,
+    /// `cone B T`: a block is put into a period, and what stands in its way.
+    Cone,
+    /// `push B T`: a block is put into a period, and what depends on it.
+    Push,
     /// `revise R T V`: the upper limit of a resource in a period becomes V, or none where V is infinite.
     Revise,
     /// `commit`: the job ends, and commits.
@@ -35,6 +41,9 @@ const WORDS: &[(&str, Word)] = &[
     ("clear", Word::Clear),
     ("shift", Word::Shift),
     ("bench", Word::Bench),
+    ("expect", Word::Expect),
+    ("cone", Word::Cone),
+    ("push", Word::Push),
     ("revise", Word::Revise),
     ("commit", Word::Commit),
     ("abort", Word::Abort),

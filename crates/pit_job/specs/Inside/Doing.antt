@@ -44,7 +44,7 @@ pub record LooksUp (old : TransactionState) (b : ℕ) (period : Option ℕ) (new
 pub record DoesStep (pit : Pit) (old : TransactionState) (s : Step) (goes : Bool) (new : TransactionState) : Type 0 where
   pub same : Same old new
   pub does : (known : Known) → Agrees (read_in new.work.reads) known → step_after pit known (own_of old.work) s ≡ come_to goes (own_of new.work)
-  pub noted : NotesOnly (λ block. IsReadBy block s) old.work.reads new.work.reads
+  pub noted : NotesOnly (λ block. IsReadBy pit block s) old.work.reads new.work.reads
   pub stays : goes ≡ false → own_of new.work ≡ own_of old.work
 
 -- and so for steps in order
@@ -52,13 +52,19 @@ pub record DoesSteps (pit : Pit) (old : TransactionState) (ss : List Step) (goes
   pub same : Same old new
   pub does : (known : Known) → Agrees (read_in new.work.reads) known → steps_after pit known (own_of old.work) ss ≡ come_to goes (own_of new.work)
   pub own : (known : Known) → Agrees (read_in new.work.reads) known → changes_after pit known (own_of old.work) ss ≡ own_of new.work
-  pub noted : NotesOnly (IsRead ss) old.work.reads new.work.reads
+  pub noted : NotesOnly (IsRead pit ss) old.work.reads new.work.reads
 
 -- where it is stopped as moved, the block is one of these, and has moved since the start; and where there is no entry, there is such a block
 abbrev pub Meets : (ℕ → Type 0) → ℕ → List Answered → StepStop → Type 0
 Meets IsOne start seen (stop.Moved block version) = IsOne block × IsMovedBlock seen start block version
 Meets IsOne start seen stop.NoMemory = ⊤
 Meets IsOne start seen stop.NoEntry = (block : ℕ) × IsOne block
+
+-- nothing was put, where it isn't memory that ran out
+abbrev pub NothingPut : TransactionState → StepStop → TransactionState → Type 0
+NothingPut old (stop.Moved block version) new = own_of new.work ≡ own_of old.work
+NothingPut old stop.NoMemory new = ⊤
+NothingPut old stop.NoEntry new = own_of new.work ≡ own_of old.work
 
 -- a transaction that has begun for a job, no earlier than after the commits that its planner has seen, and done nothing
 pub record IsFresh (n : ℕ) (t : TransactionState) : Type 0 where

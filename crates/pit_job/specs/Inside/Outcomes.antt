@@ -43,26 +43,26 @@ tried_at met.NoEntry = tried.Stopped stop.NoEntry
 
 -- A try of these steps stopped. Where that is since the history is full, its planner has seen so many entries; where there was no entry at the board,
 -- a step reads a block.
-abbrev pub IsStop : ℕ → List Step → List Answered → JobStop → Type 0
-IsStop max_entries steps seen stop.Full = max_entries ≤ length seen
-IsStop max_entries steps seen stop.NoMemory = ⊤
-IsStop max_entries steps seen stop.NoEntry = (block : ℕ) × IsRead steps block
+abbrev pub IsStop : Pit → ℕ → List Step → List Answered → JobStop → Type 0
+IsStop pit max_entries steps seen stop.Full = max_entries ≤ length seen
+IsStop pit max_entries steps seen stop.NoMemory = ⊤
+IsStop pit max_entries steps seen stop.NoEntry = (block : ℕ) × IsRead pit steps block
 
 -- what one try adds to the log
 abbrev pub Tries : Pit → ℕ → Job → ℕ → List Answered → List Answered → List Answered → Tried → Type 0
 Tries pit max_entries task n old new es (tried.Moved block version) = IsMovedTry pit task n old new es block version
 Tries pit max_entries task n old new es (tried.Answered answer) =
     (e : Answered) × (es ≡ e ∷ []) × IsItem pit task n e × (e.reply ≡ answer) × (is_moved_reply answer ≡ false)
-Tries pit max_entries task n old new es (tried.Stopped why) = (es ≡ []) × IsStop max_entries task.steps new why
+Tries pit max_entries task n old new es (tried.Stopped why) = (es ≡ []) × IsStop pit max_entries task.steps new why
 
 -- what the ending of a transaction with this work adds to the log
-abbrev pub EndsBy : ℕ → Act → Sets → List Answered → List Answered → Tried → Type 0
-EndsBy max_entries ending work seen es (tried.Moved block version) =
+abbrev pub EndsBy : Pit → ℕ → Act → Sets → List Answered → List Answered → Tried → Type 0
+EndsBy pit max_entries ending work seen es (tried.Moved block version) =
     (es ≡ record { call = work_call work ending; reply = reply.Refused (refusal.Moved block version) } ∷ []) × IsMovedBlock seen work.start block version
     × ((read : ℕ × Option ℕ) × Contains work.reads read × (read.0 ≡ block))
-EndsBy max_entries ending work seen es (tried.Answered answer) =
+EndsBy pit max_entries ending work seen es (tried.Answered answer) =
     (es ≡ record { call = work_call work ending; reply = answer } ∷ []) × (is_moved_reply answer ≡ false)
-EndsBy max_entries ending work seen es (tried.Stopped why) = (es ≡ []) × IsStop max_entries [] seen why
+EndsBy pit max_entries ending work seen es (tried.Stopped why) = (es ≡ []) × IsStop pit max_entries [] seen why
 
 abbrev pub tried_refused : Refusal → Tried
 tried_refused (refusal.Ahead start commits) = tried.Answered (reply.Refused (refusal.Ahead start commits))

@@ -20,7 +20,7 @@ job_numbered jobs n = job_at jobs (n - 1)
 
 abbrev pub RanJob : Pit → ℕ → Job → ℕ → ℕ → List Answered → List Answered → List Answered → Result Outcome JobStop → Type 0
 RanJob pit max_entries task retries n old new es (Ok o) = Ran pit task retries n old new es o
-RanJob pit max_entries task retries n old new es (Err why) = LeftOff pit task retries n old new es × IsStop max_entries task.steps new why
+RanJob pit max_entries task retries n old new es (Err why) = LeftOff pit task retries n old new es × IsStop pit max_entries task.steps new why
 
 abbrev pub end_of : JobStop → ℕ → RunEnd
 end_of stop.Full n = end.Full n

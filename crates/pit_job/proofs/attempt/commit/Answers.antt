@@ -8,4 +8,4 @@ returns-in-Ok g c =
 
 pub returns-in-Err : goal.returns-in-Err
 returns-in-Err g c =
-    stopped-ends g.S.Session.max_entries act.Commit c.args.t c.in-Err.t c.abandon.result c.in-Err.stop c.stop_of.result c.in-Err.ensures.stop c.abandon.ensures c.stop_of.ensures
+    stopped-ends g.S.Session.instance g.S.Session.max_entries act.Commit c.args.t c.in-Err.t c.abandon.result c.in-Err.stop c.stop_of.result c.in-Err.ensures.stop c.abandon.ensures c.stop_of.ensures

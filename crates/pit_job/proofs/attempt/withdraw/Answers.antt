@@ -7,4 +7,4 @@ returns-in-Ok g c = withdrawn-ends g.S.Session.instance g.S.Session.max_entries 
 
 pub returns-in-Err : goal.returns-in-Err
 returns-in-Err g c =
-    stopped-ends g.S.Session.max_entries act.Withdraw c.args.t c.in-Err.t c.abandon.result c.in-Err.stop c.stop_of.result c.in-Err.ensures.stop c.abandon.ensures c.stop_of.ensures
+    stopped-ends g.S.Session.instance g.S.Session.max_entries act.Withdraw c.args.t c.in-Err.t c.abandon.result c.in-Err.stop c.stop_of.result c.in-Err.ensures.stop c.abandon.ensures c.stop_of.ensures

@@ -7,3 +7,6 @@ returns-in-Put-clause-ok g c = put-told g.S.Session.instance c.args.t.now c.writ
 pub returns-in-Clear-clause-ok : goal.returns-in-Clear-clause-ok
 returns-in-Clear-clause-ok g c =
     clear-told g.S.Session.instance c.args.t.now c.write-in-Clear.new.t c.in-Clear.block c.args.step.now c.write-in-Clear.result c.in-Clear.is c.write-in-Clear.ensures.ok
+
+pub returns-in-Carry-clause-err : goal.returns-in-Carry-clause-err
+returns-in-Carry-clause-err g c = rw c.in-Carry.is c.carry.ensures.err

@@ -13,8 +13,8 @@ returns-then-not-branch-clause-ok g c =
 
 pub returns-in_err-do_step-clause-err : goal.returns-in_err-do_step-clause-err
 returns-in_err-do_step-clause-err g c =
-    stop-handed c.from_residual.result c.in_err-do_step.field-0.0 (Meets (IsRead c.args.steps.now) c.args.t.now.work.start c.do_step.new.t.planner.seen) c.from_residual.ensures.0 c.from_residual.ensures.1
-    (steps-meet c.args.steps.now c.loop-step.step-index _ c.args.t.now.work.start c.loop-step.t.work.start c.do_step.new.t.planner.seen _ (omega arith) c.loop-step.invariant.start c.in_err-do_step.ensures.err)
+    stop-handed c.from_residual.result c.in_err-do_step.field-0.0 (Meets (IsRead g.S.Session.instance c.args.steps.now) c.args.t.now.work.start c.do_step.new.t.planner.seen) c.from_residual.ensures.0 c.from_residual.ensures.1
+    (steps-meet g.S.Session.instance c.args.steps.now c.loop-step.step-index _ c.args.t.now.work.start c.loop-step.t.work.start c.do_step.new.t.planner.seen _ (omega arith) c.loop-step.invariant.start c.in_err-do_step.ensures.err)
 
 pub loop-step-preserved : goal.loop-step-preserved
 loop-step-preserved g c =

@@ -1,0 +1,18 @@
+use Rattle.std.proofs.Common.{sym, subst, nat_cmp}
+use Rattle.std.specs.List.Sorted.{IsSorted, IsPermutation}
+use Rattle.pit_job.proofs.Walking.{carry-told, carry-notes}
+use Rattle.pit_job.proofs.carry.carry.Goals as goal
+
+pub returns-clause-ok : goal.returns-clause-ok
+returns-clause-ok g c =
+    let gone = c.in_ok-walked.ensures.ok in
+    let same = sym c.deref.ensures.value in
+    carry-told g.S.Session.instance c.args.way c.args.b c.args.period c.args.t.now c.walked.new.t c.put_each.new.t c.in_ok-walked.field-0 gone.0 c.into_found-found.result.items c.deref.result.now c.put_each.result
+    gone.1 gone.2 c.into_found-found.ensures (subst (IsPermutation c.into_found-found.result.items) same c.sort_unstable.ensures.permutation) (subst (IsSorted nat_cmp) same c.sort_unstable.ensures.sorted) c.put_each.ensures.ok
+
+pub returns-clause-noted : goal.returns-clause-noted
+returns-clause-noted g c =
+    let gone = c.in_ok-walked.ensures.ok in
+    let same = sym c.deref.ensures.value in
+    carry-notes g.S.Session.instance c.args.way c.args.b c.args.period c.args.t.now c.walked.new.t c.put_each.new.t c.in_ok-walked.field-0 gone.0 c.into_found-found.result.items c.deref.result.now c.put_each.result
+    gone.1 gone.2 c.into_found-found.ensures (subst (IsPermutation c.into_found-found.result.items) same c.sort_unstable.ensures.permutation) (subst (IsSorted nat_cmp) same c.sort_unstable.ensures.sorted) c.put_each.ensures.ok

@@ -1,0 +1,53 @@
+use Rattle.std.proofs.Common.{◌≡◌, ℕ, ◌<◌, ◌≤◌, length, sym, ap, subst, refl, ◌∙◌, arith}
+use Rattle.std.specs.List.{All}
+use Rattle.pit_model.specs.Pit.{Pit}
+use Rattle.pit_job.specs.Cones.{Reaches, here}
+use Rattle.pit_job.specs.Effect.{leads_to}
+use Rattle.pit_job.specs.Inside.Doing.{Meets}
+use Rattle.pit_job.proofs.Meeting.{stop-handed}
+use Rattle.pit_job.proofs.Walking.{gone-first, gone-more, gone-few, past-found, found-within, meets-map, member-meets}
+use Rattle.pit_job.proofs.carry.walked.Goals as goal
+
+pub returns-in_err-visit-clause-err : goal.returns-in_err-visit-clause-err
+returns-in_err-visit-clause-err g c =
+    let pit : Pit = g.S.Session.instance in
+    stop-handed c.from_residual.result c.in_err-visit.field-0.0 (Meets (λ block. Reaches (leads_to pit c.args.way) c.args.b block) c.args.t.now.work.start c.visit.new.t.planner.seen)
+    c.from_residual.ensures.0 c.from_residual.ensures.1
+    (meets-map (λ block. block ≡ c.args.b) (λ block. Reaches (leads_to pit c.args.way) c.args.b block) c.args.t.now.work.start c.args.t.now.work.start c.visit.new.t.planner.seen c.in_err-visit.field-0.0
+    (λ block same. subst (λ (x : ℕ). Reaches (leads_to pit c.args.way) c.args.b x) (sym same) here) refl c.in_err-visit.ensures.err)
+
+pub loop-i-init : goal.loop-i-init
+loop-i-init g c =
+    gone-first g.S.Session.instance c.args.way c.args.b c.args.period c.args.t.now c.visit.new.t c.new-walk.result c.visit.new.walk c.requires.block c.new-walk.ensures c.in_ok-visit.ensures.ok
+
+pub returns-in_default-clause-ok : goal.returns-in_default-clause-ok
+returns-in_default-clause-ok g c = (c.loop-i.i, past-found c.loop-i.walk c.loop-i.i (sym c.member.ensures ∙ c.in_default.is), c.loop-i.invariant)
+
+pub led_by-requires : goal.led_by-requires
+led_by-requires g c =
+    subst (λ (pit : Pit). c.in-Some.m < pit.blocks) (sym c.requires.pit)
+    (found-within g.S.Session.instance c.args.way c.args.b c.args.period c.args.t.now c.loop-i.t c.loop-i.walk c.loop-i.i c.in-Some.m c.loop-i.invariant (sym c.member.ensures ∙ c.in-Some.is)).0
+
+pub returns-in_err-visit_each-clause-err : goal.returns-in_err-visit_each-clause-err
+returns-in_err-visit_each-clause-err g c =
+    let pit : Pit = g.S.Session.instance in
+    stop-handed c.from_residual-in_err-visit_each.result c.in_err-visit_each.field-0.0
+    (Meets (λ block. Reaches (leads_to pit c.args.way) c.args.b block) c.args.t.now.work.start c.visit_each.new.t.planner.seen)
+    c.from_residual-in_err-visit_each.ensures.0 c.from_residual-in_err-visit_each.ensures.1
+    (member-meets pit c.args.way c.args.b c.args.period c.args.t.now c.loop-i.t c.loop-i.walk c.loop-i.i c.in-Some.m c.led_by.result.now c.visit_each.new.t.planner.seen c.in_err-visit_each.field-0.0
+    c.loop-i.invariant (sym c.member.ensures ∙ c.in-Some.is) (c.led_by.ensures.value ∙ ap (λ (p : Pit). leads_to p c.args.way c.in-Some.m) c.requires.pit) c.in_err-visit_each.ensures.err)
+
+pub loop-i-preserved : goal.loop-i-preserved
+loop-i-preserved g c =
+    gone-more g.S.Session.instance c.args.way c.args.b c.args.period c.args.t.now c.loop-i.t c.visit_each.new.t c.loop-i.walk c.visit_each.new.walk c.loop-i.i c.in-Some.m c.led_by.result.now
+    c.loop-i.invariant (sym c.member.ensures ∙ c.in-Some.is) (c.led_by.ensures.value ∙ ap (λ (p : Pit). leads_to p c.args.way c.in-Some.m) c.requires.pit)
+    (subst (λ (p : Pit). All (λ a. a < p.blocks) c.led_by.result.now) c.requires.pit c.led_by.ensures.below) c.in_ok-visit_each.ensures.ok
+
+pub returns-clause-ok : goal.returns-clause-ok
+returns-clause-ok g c =
+    let few : length c.loop-i.walk.found ≤ g.S.Session.instance.blocks =
+    gone-few g.S.Session.instance c.args.way c.args.b c.args.period c.args.t.now c.loop-i.t c.loop-i.walk c.loop-i.i c.loop-i.invariant in
+    let count = c.blocks-i-end.ensures.count in
+    let same = ap (λ (p : Pit). p.blocks) c.requires.pit in
+    let past : length c.loop-i.walk.found ≤ c.loop-i.i = omega arith in
+    (c.loop-i.i, past, c.loop-i.invariant)

@@ -1,0 +1,218 @@
+//! A block is put into a period with what is carried along: what stands in its way, or what depends on it.
+ghost use Rattle.std.specs.Prelude.{◌≡◌, ℕ, ◌<◌, ◌≤◌, ◌++◌, ◌∷◌, [], length, true, not, slice_get, nat_eq, Some, IfOk, IfErr, OnOk, if◌then◌else◌};
+ghost use Rattle.std.specs.List.{All, Contains, list_any};
+ghost use Rattle.pit_share.specs.Planners.{SeesOn};
+ghost use Rattle.pit_job.specs.Cones.{Reaches};
+ghost use Rattle.pit_job.specs.Effect.{is_carried as is_carried_of, leads_to};
+ghost use Rattle.pit_job.specs.Inside.Doing.{DoesStep, Meets, NothingPut, own_of};
+ghost use Rattle.pit_job.specs.Inside.Walking.{Visits, VisitsEach, IsGone, NotesMembers, PutsEach};
+
+use crate::doing::{StepStop, look, write};
+use indexmap::IndexSet;
+use pit_board::Session;
+use pit_model::Instance;
+use pit_script::{Benches, Step, Way};
+use pit_share::Transaction;
+use std::alloc::Allocator;
+use std::hash::{BuildHasherDefault, FoldHasher};
+use std::marker::Model;
+use std::sync::Wait;
+
+/// The blocks that a walk has read, and of these what it has found to be carried along, each in the order of the reads. Memory grows with both.
+#[derive(Drop)]
+struct Walk<A: Allocator + Copy + Drop> {
+    visited: IndexSet<u32, BuildHasherDefault<FoldHasher>, A>,
+    found: Vec<u32, A>,
+}
+
+impl<A: Allocator + Copy + Drop> Model for Walk<A> {
+    ghost use Rattle.pit_job.specs.Inside.Walking.{WalkState};
+
+    ghost Value = { WalkState };
+
+    ghost view = { λ w. record { visited = w.visited.keys; found = w.found.items } };
+}
+
+impl<A: Allocator + Copy + Drop> Walk<A> {
+    fn new(alloc: A) -> Walk<A>
+        ensures { result ≡ record { visited = []; found = [] } }
+    {
+        Walk {
+            visited: IndexSet::new(alloc),
+            found: Vec::new(alloc),
+        }
+    }
+
+    /// Takes a block as visited, and says whether it wasn't.
+    fn enter(&mut self, b: u32) -> Result<bool, StepStop>
+        ensures fresh { IfOk result (λ is_fresh. is_fresh ≡ not (list_any (nat_eq b) self.old.visited)) }
+        ensures visited { OnOk result (self.new.visited ≡ (if list_any (nat_eq b) self.old.visited then self.old.visited else self.old.visited ++ b ∷ [])) }
+        ensures found { OnOk result (self.new.found ≡ self.old.found) }
+        ensures memory { IfErr result (λ stop. stop ≡ StepStop.NoMemory) }
+    {
+        match self.visited.insert(b) {
+            Ok(is_fresh) => Ok(is_fresh),
+            Err(_) => Err(StepStop::NoMemory),
+        }
+    }
+
+    /// Takes a block as found.
+    fn add(&mut self, b: u32) -> Result<(), StepStop>
+        ensures visited { OnOk result (self.new.visited ≡ self.old.visited) }
+        ensures found { OnOk result (self.new.found ≡ self.old.found ++ b ∷ []) }
+        ensures memory { IfErr result (λ stop. stop ≡ StepStop.NoMemory) }
+    {
+        match self.found.push(b) {
+            Ok(()) => Ok(()),
+            Err(_) => Err(StepStop::NoMemory),
+        }
+    }
+
+    /// The block that was found as number `i`.
+    fn member(&self, i: u32) -> Option<u32>
+        ensures { result ≡ slice_get self.now.found i }
+    {
+        self.found.get(i as usize).copied()
+    }
+
+    fn into_found(self) -> Vec<u32, A>
+        ensures { result.items ≡ self.found }
+    {
+        self.found
+    }
+}
+
+/// Puts a block and what is carried along with it into a period, once all that they lead to is read.
+pub(crate) fn carry<
+    'a,
+    S: Session,
+    R: Wait + Drop,
+    A: Allocator + Copy + Drop,
+    B: Allocator + Copy + Drop,
+>(
+    t: &mut Transaction<'a, S, R, A>,
+    benches: &Benches<B>,
+    way: Way,
+    b: u32,
+    period: u32,
+) -> Result<bool, StepStop>
+    requires pit { benches.now ≡ S.instance }
+    requires block { b < S.instance.blocks }
+    ensures ok { IfOk result (λ goes. DoesStep S.instance t.old (Step.Carry way b period) goes t.new) }
+    ensures noted { OnOk result (NotesMembers S.instance way b period t.old t.new) }
+    ensures err { IfErr result (Meets (λ block. Reaches (leads_to S.instance way) b block) t.old.work.start t.new.planner.seen) }
+    ensures unput { IfErr result (λ stop. NothingPut t.old stop t.new) }
+    ensures sees { SeesOn t.old.planner t.new.planner }
+{
+    let mut found = walked(t, benches.pit(), way, b, period)?.into_found();
+    found.sort_unstable();
+    put_each(t, &found, period)
+}
+
+/// Reads from a queue: the block, and then of each that is found what it leads to.
+fn walked<'a, S: Session, R: Wait + Drop, A: Allocator + Copy + Drop, B: Allocator + Copy + Drop>(
+    t: &mut Transaction<'a, S, R, A>,
+    pit: &Instance<B>,
+    way: Way,
+    b: u32,
+    period: u32,
+) -> Result<Walk<A>, StepStop>
+    requires pit { pit.now ≡ S.instance }
+    requires block { b < S.instance.blocks }
+    ensures ok { IfOk result (λ walk. (i : ℕ) × (length walk.found ≤ i) × IsGone S.instance way b period t.old t.new walk i) }
+    ensures err { IfErr result (Meets (λ block. Reaches (leads_to S.instance way) b block) t.old.work.start t.new.planner.seen) }
+    ensures own { own_of t.new.work ≡ own_of t.old.work }
+    ensures sees { SeesOn t.old.planner t.new.planner }
+{
+    let mut walk = Walk::new(*t.reads().allocator());
+    visit(t, &mut walk, way, period, b)?;
+    for i in 0..pit.blocks() {
+        let Some(m) = walk.member(i) else {
+            return Ok(walk);
+        };
+        visit_each(t, &mut walk, way, period, led_by(pit, way, m))?;
+    }
+    Ok(walk)
+}
+
+/// The predecessors of a block, or its successors.
+fn led_by<B: Allocator + Copy + Drop>(pit: &Instance<B>, way: Way, b: u32) -> &[u32]
+    requires { b < pit.now.blocks }
+    ensures value { result.now ≡ leads_to pit.now way b }
+    ensures below { All (λ a. a < pit.now.blocks) result.now }
+{
+    match way {
+        Way::Cone => pit.preds(b),
+        Way::Push => pit.succs(b),
+    }
+}
+
+fn visit_each<'a, S: Session, R: Wait + Drop, A: Allocator + Copy + Drop>(
+    t: &mut Transaction<'a, S, R, A>,
+    walk: &mut Walk<A>,
+    way: Way,
+    period: u32,
+    blocks: &[u32],
+) -> Result<(), StepStop>
+    requires { All (λ b. b < S.instance.blocks) blocks.now }
+    ensures ok { OnOk result (VisitsEach way period t.old walk.old blocks.now t.new walk.new) }
+    ensures err { IfErr result (Meets (Contains blocks.now) t.old.work.start t.new.planner.seen) }
+    ensures own { own_of t.new.work ≡ own_of t.old.work }
+    ensures sees { SeesOn t.old.planner t.new.planner }
+{
+    for b in blocks {
+        visit(t, walk, way, period, *b)?;
+    }
+    Ok(())
+}
+
+/// Reads a block that wasn't visited.
+fn visit<'a, S: Session, R: Wait + Drop, A: Allocator + Copy + Drop>(
+    t: &mut Transaction<'a, S, R, A>,
+    walk: &mut Walk<A>,
+    way: Way,
+    period: u32,
+    b: u32,
+) -> Result<(), StepStop>
+    requires { b < S.instance.blocks }
+    ensures ok { OnOk result (Visits way period t.old walk.old b t.new walk.new) }
+    ensures err { IfErr result (Meets (λ block. block ≡ b) t.old.work.start t.new.planner.seen) }
+    ensures own { own_of t.new.work ≡ own_of t.old.work }
+    ensures sees { SeesOn t.old.planner t.new.planner }
+{
+    if !walk.enter(b)? {
+        return Ok(());
+    }
+    let held = look(t, b)?;
+    if is_carried(way, period, held) {
+        walk.add(b)?;
+    }
+    Ok(())
+}
+
+/// Whether a block that holds this is carried along.
+fn is_carried(way: Way, period: u32, held: Option<u32>) -> bool
+    ensures { result ≡ is_carried_of way period (Some held) }
+{
+    match (way, held) {
+        (Way::Cone, None) => true,
+        (Way::Cone, Some(held)) => held > period,
+        (Way::Push, None) => false,
+        (Way::Push, Some(held)) => held < period,
+    }
+}
+
+fn put_each<'a, S: Session, R: Wait + Drop, A: Allocator + Copy + Drop>(
+    t: &mut Transaction<'a, S, R, A>,
+    blocks: &[u32],
+    period: u32,
+) -> Result<bool, StepStop>
+    ensures ok { IfOk result (λ goes. (goes ≡ true) × PutsEach t.old blocks.now period t.new) }
+    ensures memory { IfErr result (λ stop. stop ≡ StepStop.NoMemory) }
+    ensures sees { SeesOn t.old.planner t.new.planner }
+{
+    for b in blocks {
+        write(t, *b, Some(period))?;
+    }
+    Ok(true)
+}
