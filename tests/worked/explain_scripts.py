@@ -13,7 +13,7 @@ OF_SCRIPT = of_file("plan hill.cpit hill.prec empty amy.job", "amy.job", [
     ("a capital", b"Begin\n",
      "pit: script 2 line 1: unknown word",
      "  amy.job:1: Begin",
-     "  A line begins with begin, read, put, clear, shift, bench, revise, commit or abort, in small letters."),
+     "  A line begins with begin, read, put, clear, shift, bench, expect, cone, push, revise, commit or abort, in small letters."),
     ("a byte order mark before a script", b"\xEF\xBB\xBFbegin\n",
      "pit: script 2 line 1: not ascii",
      "  amy.job:1: ???begin",
@@ -22,7 +22,10 @@ OF_SCRIPT = of_file("plan hill.cpit hill.prec empty amy.job", "amy.job", [
        "pit: script 2 line 1: field count",
        f"  amy.job:1: {form.split()[0]} 1 2 3 4",
        f"  The line is `{form}`; a comment stands in a line of its own, which begins with %.")
-      for form in ("begin", "read B", "put B T", "clear B", "shift B D", "bench Z T", "revise R T V", "commit", "abort")],
+      for form in (
+          "begin", "read B", "put B T", "clear B", "shift B D", "bench Z T", "expect B T` or `expect B -", "cone B T", "push B T", "revise R T V",
+          "commit", "abort",
+      )],
     ("half a period", b"begin\nput 1 0.5\n",
      "pit: script 2 line 2: bad number",
      "  amy.job:2: put 1 0.5",

@@ -122,6 +122,35 @@ short 0 1 0.000000 1.000000
 {"act":"withdraw","job":3,"planner":1,"reads":[[1,null]],"reply":"withdrawn","start":1,"writes":[]}
 """),
     *plan(
+        "what stands in a block's way is put with it, and what depends on it", jobs("put 1 0", "cone 1 0", "cone 2 1", "push 0 1"), "0 0\n1 0\n2 1\n", """\
+planner 1 job 1 refused precedence 1 0 tries 1
+planner 1 job 2 committed 1 tries 1
+planner 1 job 3 committed 2 tries 1
+planner 1 job 4 refused over 0 1 7.000000 4.000000 tries 1
+value 37.772727272730000000
+""", kept="""\
+{"format":1}
+{"act":"commit","job":1,"planner":1,"reads":[],"reply":{"precedence":[1,0]},"start":0,"writes":[[1,0]]}
+{"act":"commit","job":2,"planner":1,"reads":[[1,null],[0,null]],"reply":{"committed":1},"start":0,"writes":[[0,0],[1,0]]}
+{"act":"commit","job":3,"planner":1,"reads":[[2,null],[0,0],[1,0]],"reply":{"committed":2},"start":1,"writes":[[2,1]]}
+{"act":"commit","job":4,"planner":1,"reads":[[0,0],[1,0],[2,1]],"reply":{"over":[0,1,"7000000","4000000"]},"start":2,"writes":[[0,1],[1,1]]}
+"""),
+    *plan(
+        "what stands in its way is too heavy", jobs("cone 2 1"), "",
+        "planner 1 job 1 refused over 0 1 7.000000 4.000000 tries 1\n" + NOTHING, 1, kept=EMPTY + """\
+{"act":"commit","job":1,"planner":1,"reads":[[2,null],[0,null],[1,null]],"reply":{"over":[0,1,"7000000","4000000"]},"start":0,"writes":[[0,1],[1,1],[2,1]]}
+"""),
+    *plan(
+        "a job goes on where the schedule is as it thought", jobs("expect 0 -, put 0 0", "expect 0 1, clear 0"), "0 0\n", """\
+planner 1 job 1 committed 1 tries 1
+planner 1 job 2 withdrawn tries 1
+value -10.000000000000000000
+short 0 1 0.000000 1.000000
+""", 1, kept=EMPTY + """\
+{"act":"commit","job":1,"planner":1,"reads":[[0,null]],"reply":{"committed":1},"start":0,"writes":[[0,0]]}
+{"act":"withdraw","job":2,"planner":1,"reads":[[0,0]],"reply":"withdrawn","start":1,"writes":[]}
+"""),
+    *plan(
         "from a solution, by benches", ["", jobs("bench 0 1, bench 1 1")], "0 0\n1 0\n2 1\n", """\
 planner 2 job 1 refused over 0 1 5.000000 4.000000 tries 1
 value 37.772727272730000000
