@@ -1,10 +1,15 @@
 -- What steps note.
 use Rattle.std.proofs.lemmas.List.Elements.{All-append, All-nil, All-cons, Contains-append_right}
-use Rattle.std.proofs.Common.{◌≡◌, ℕ, List, [], ◌∷◌, ◌++◌, get_or, Option, refl, sym, ap, ◌∙◌, arith, append-nil, append_assoc}
+use Rattle.std.proofs.Common.{inl, inr, ◌≡◌, ℕ, subst, Bool, List, [], ◌∷◌, ◌++◌, get_or, Option, refl, sym, ap, ◌∙◌, arith, append-nil, append_assoc}
 use Rattle.pit_model.specs.Pit.{Pit}
+use Rattle.pit_plan.specs.Schedule.{Commit}
 use Rattle.pit_script.specs.declared.step.Step.{Step}
-use Rattle.pit_job.specs.Outcomes.{IsReadBy, IsRead}
+use Rattle.pit_script.specs.declared.step.Step.TheVariants as step
+use Rattle.pit_job.specs.Cones.{Reaches, here, further}
+use Rattle.pit_job.specs.Effect.{Known, Effect, changes, unread, nothing, seen, is_carried, leads_to, step_after}
+use Rattle.pit_job.specs.Outcomes.{IfGoesOn, IsReadOver, IsReadAmong, IsReadBy, IsRead}
 use Rattle.pit_job.specs.Inside.Doing.{NotesOnly}
+use Rattle.pit_job.proofs.Cones.{cone-reached, has-cone}
 
 pub notes-none : (IsOne : ℕ → Type 0) (old new : List (ℕ × Option ℕ)) → new ≡ old → NotesOnly IsOne old new
 notes-none IsOne old new same = record { more = []; grown = same ∙ sym (append-nil old); each = All-nil (λ read. IsOne read.0) }
@@ -22,9 +27,35 @@ notes-trans P a b c f g = record {
   each = All-append (λ read. P read.0) f.more g.more f.each g.each;
 }
 
--- what the first step reads, and what the others do, the steps read
+-- what the first step may read, and what the others may, the steps may read
 pub read-first : (pit : Pit) (s : Step) (ss : List Step) (b : ℕ) → IsReadBy pit b s → IsRead pit (s ∷ ss) b
 read-first pit s ss b reads = record { reader = s; among = (0, omega arith, refl); reads = reads }
 
 pub read-later : (pit : Pit) (s : Step) (ss : List Step) (b : ℕ) → IsRead pit ss b → IsRead pit (s ∷ ss) b
 read-later pit s ss b read = record { reader = read.reader; among = Contains-append_right (s ∷ []) ss read.reader read.among; reads = read.reads }
+
+-- what a step reads over what is known, it may read
+over-read : (pit : Pit) (known : Known) (own : Commit) (s : Step) (b : ℕ) → IsReadOver pit known own s b → IsReadBy pit b s
+over-read pit known own (step.Read c) b is = is
+over-read pit known own (step.Put c t) b is = is
+over-read pit known own (step.Clear c) b is = is
+over-read pit known own (step.Shift c is_back by) b is = is
+over-read pit known own (step.Bench height t) b is = is
+over-read pit known own (step.Expect c period) b is = is
+over-read pit known own (step.Carry how c t) b (inl same) = subst (Reaches (leads_to pit how) c) (sym same) here
+over-read pit known own (step.Carry how c t) b (inr (m, among, leads)) =
+    let late : ℕ → Bool = λ x. is_carried how t (seen known own x) in
+    further m b (cone-reached pit.blocks late (leads_to pit how) c pit.blocks m (has-cone pit.blocks late (leads_to pit how) c m among).1) leads
+over-read pit known own (step.Revise r t upper) b is = is
+
+goes-on : (e : Effect) (P : Commit → Type 0) (Q : Type 0) → ((own : Commit) → P own → Q) → IfGoesOn e P → Q
+goes-on (changes own) P Q f is = f own is
+goes-on unread P Q f is = absurd is
+goes-on nothing P Q f is = absurd is
+
+-- and so for steps in order
+pub among-read : (pit : Pit) (known : Known) (ss : List Step) (own : Commit) (b : ℕ) → IsReadAmong pit known own ss b → IsRead pit ss b
+among-read pit known [] own b is = absurd is
+among-read pit known (s ∷ ss) own b (inl first) = read-first pit s ss b (over-read pit known own s b first)
+among-read pit known (s ∷ ss) own b (inr later) =
+    read-later pit s ss b (goes-on (step_after pit known own s) (λ after. IsReadAmong pit known after ss b) (IsRead pit ss b) (λ after is. among-read pit known ss after b is) later)

@@ -20,9 +20,9 @@ use Rattle.pit_job.specs.Shifts.{shifted}
 use Rattle.pit_job.specs.declared.doing.StepStop.{StepStop}
 use Rattle.pit_job.specs.declared.doing.StepStop.TheVariants as stop
 use Rattle.pit_job.proofs.Agreeing.{seen-agrees}
-use Rattle.pit_job.specs.Outcomes.{IsReadBy, IsRead}
+use Rattle.pit_job.specs.Outcomes.{IfGoesOn, IsReadOver, IsReadAmong}
 use Rattle.pit_job.specs.Inside.Doing.{own_of, Same, LooksUp, Puts, DoesStep, DoesSteps}
-use Rattle.pit_job.proofs.Noting.{notes-none, notes-one, notes-map, notes-trans, read-first, read-later}
+use Rattle.pit_job.proofs.Noting.{notes-none, notes-one, notes-map, notes-trans}
 use Rattle.pit_job.proofs.Seeing.{sees-same, sees-trans}
 
 -- ---- reads
@@ -114,7 +114,7 @@ pub read-does : (pit : Pit) (old new : TransactionState) (b : ℕ) (p : Option �
 read-does pit old new b p is = record {
   same = is.same;
   does = λ known agrees. ap (looked (own_of old.work)) (look-seen old new b p is known agrees) ∙ ap changes (sym is.own);
-  noted = is.noted;
+  noted = λ known agrees. is.noted;
   stays = λ no. absurd (cc no);
 }
 
@@ -124,7 +124,7 @@ pub own-does : (pit : Pit) (old new : TransactionState) (s : Step) (own : Commit
 own-does pit old new s own same reads stated is = record {
   same = same;
   does = λ known agrees. stated known ∙ ap changes (sym is);
-  noted = notes-none (λ c. IsReadBy pit c s) old.work.reads new.work.reads reads;
+  noted = λ known agrees. notes-none (IsReadOver pit known (own_of old.work) s) old.work.reads new.work.reads reads;
   stays = λ no. absurd (cc no);
 }
 
@@ -151,7 +151,7 @@ pub shift-none : (pit : Pit) (old new : TransactionState) (b by : ℕ) (is_back 
 shift-none pit old new b by is_back is = record {
   same = is.same;
   does = λ known agrees. ap (moved_by pit.periods (own_of old.work) b is_back by) (look-seen old new b None is known agrees);
-  noted = is.noted;
+  noted = λ known agrees. is.noted;
   stays = λ no. is.own;
 }
 
@@ -160,7 +160,7 @@ pub shift-out : (pit : Pit) (old new : TransactionState) (b by t : ℕ) (is_back
 shift-out pit old new b by t is_back is out = record {
   same = is.same;
   does = λ known agrees. ap (moved_by pit.periods (own_of old.work) b is_back by) (look-seen old new b (Some t) is known agrees) ∙ ap (put_at (own_of old.work) b) out;
-  noted = is.noted;
+  noted = λ known agrees. is.noted;
   stays = λ no. is.own;
 }
 
@@ -173,7 +173,7 @@ shift-does pit old mid new b by t u is_back goes is in_range puts = subst (λ (o
       ∙ ap (put_at (own_of old.work) b) in_range
       ∙ ap (λ (own : Commit). changes (with_written own b (Some u))) (sym is.own)
       ∙ ap changes (sym puts.own);
-  noted = notes-trans (λ c. c ≡ b) old.work.reads mid.work.reads new.work.reads is.noted (notes-none (λ c. c ≡ b) mid.work.reads new.work.reads puts.reads);
+  noted = λ known agrees. notes-trans (λ c. c ≡ b) old.work.reads mid.work.reads new.work.reads is.noted (notes-none (λ c. c ≡ b) mid.work.reads new.work.reads puts.reads);
   stays = λ no. absurd (cc no);
 }
 
@@ -198,7 +198,7 @@ shifted-as pit other is_back by t r period same is told = rw (sym same) (sym is 
 
 -- no step does nothing
 pub steps-none : (pit : Pit) (t : TransactionState) → DoesSteps pit t [] true t
-steps-none pit t = record { same = same-refl t; does = λ known agrees. refl; own = λ known agrees. refl; noted = notes-none (IsRead pit []) t.work.reads t.work.reads refl }
+steps-none pit t = record { same = same-refl t; does = λ known agrees. refl; own = λ known agrees. refl; noted = λ known agrees. notes-none (IsReadAmong pit known (own_of t.work) []) t.work.reads t.work.reads refl }
 
 -- a step and then the rest
 pub steps-more : (pit : Pit) (old mid new : TransactionState) (s : Step) (ss : List Step) (goes : Bool) → DoesStep pit old s true mid → DoesSteps pit mid ss goes new → DoesSteps pit old (s ∷ ss) goes new
@@ -210,9 +210,12 @@ steps-more pit old mid new s ss goes first rest = record {
   own = λ known agrees.
       ap (λ (e : Effect). up_to (own_of old.work) e (λ after. changes_after pit known after ss)) (first.does known (Agrees-trans (read_in mid.work.reads) (read_in new.work.reads) known rest.same.reads agrees))
       ∙ rest.own known agrees;
-  noted = notes-trans (IsRead pit (s ∷ ss)) old.work.reads mid.work.reads new.work.reads
-      (notes-map (λ b. IsReadBy pit b s) (IsRead pit (s ∷ ss)) (read-first pit s ss) old.work.reads mid.work.reads first.noted)
-      (notes-map (IsRead pit ss) (IsRead pit (s ∷ ss)) (read-later pit s ss) mid.work.reads new.work.reads rest.noted);
+  noted = λ known agrees.
+      let before : Agrees (read_in mid.work.reads) known = Agrees-trans (read_in mid.work.reads) (read_in new.work.reads) known rest.same.reads agrees in
+      notes-trans (IsReadAmong pit known (own_of old.work) (s ∷ ss)) old.work.reads mid.work.reads new.work.reads
+      (notes-map (IsReadOver pit known (own_of old.work) s) (IsReadAmong pit known (own_of old.work) (s ∷ ss)) (λ b is. inl is) old.work.reads mid.work.reads (first.noted known before))
+      (notes-map (IsReadAmong pit known (own_of mid.work) ss) (IsReadAmong pit known (own_of old.work) (s ∷ ss))
+      (λ b is. inr (subst (λ (e : Effect). IfGoesOn e (λ after. IsReadAmong pit known after ss b)) (sym (first.does known before)) is)) mid.work.reads new.work.reads (rest.noted known agrees));
 }
 
 -- a step that fails ends them
@@ -221,7 +224,8 @@ steps-fail pit old new s ss first = record {
   same = first.same;
   does = λ known agrees. ap (λ (e : Effect). next e (λ after. steps_after pit known after ss)) (first.does known agrees);
   own = λ known agrees. ap (λ (e : Effect). up_to (own_of old.work) e (λ after. changes_after pit known after ss)) (first.does known agrees) ∙ sym (first.stays refl);
-  noted = notes-map (λ b. IsReadBy pit b s) (IsRead pit (s ∷ ss)) (read-first pit s ss) old.work.reads new.work.reads first.noted;
+  noted = λ known agrees.
+      notes-map (IsReadOver pit known (own_of old.work) s) (IsReadAmong pit known (own_of old.work) (s ∷ ss)) (λ b is. inl is) old.work.reads new.work.reads (first.noted known agrees);
 }
 
 pub drop-here : {X : Type 0} (xs : List X) (i : ℕ) (d : X) → i < length xs → drop i xs ≡ get_or xs i d ∷ drop (i + 1) xs

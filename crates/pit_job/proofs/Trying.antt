@@ -30,11 +30,12 @@ use Rattle.pit_job.specs.declared.outcome.JobStop.{JobStop}
 use Rattle.pit_job.specs.declared.outcome.JobStop.TheVariants as job_stop
 use Rattle.pit_job.specs.declared.outcome.Tried.{Tried}
 use Rattle.pit_job.specs.declared.outcome.Tried.TheVariants as tried
-use Rattle.pit_job.specs.Inside.Doing.{own_of, Same, DoesSteps, Meets, IsFresh, come_to}
-use Rattle.pit_job.specs.Outcomes.{IsRead, IsCallOf, Grows}
+use Rattle.pit_job.specs.Inside.Doing.{own_of, Same, NotesOnly, DoesSteps, Meets, IsFresh, come_to}
+use Rattle.pit_job.specs.Outcomes.{IsRead, IsReadAmong, IsCallOf, Grows}
 use Rattle.pit_job.specs.Inside.Outcomes.{Tries, EndsBy, IsStop, stop_of, tried_at, tried_of}
 use Rattle.pit_job.proofs.Seeing.{prefix-trans, sees-same, answered-moved, answered-noted}
 use Rattle.pit_job.proofs.Growing.{try-from}
+use Rattle.pit_job.proofs.Noting.{among-read}
 
 -- what stopped the ending of a transaction stopped the try
 try-stop : (pit : Pit) (max_entries : ℕ) (steps : List Step) (seen : List Answered) (why : JobStop) → IsStop pit max_entries [] seen why → IsStop pit max_entries steps seen why
@@ -50,7 +51,8 @@ tries-of pit max_entries task n how w old new es (tried.Moved block version) sam
   after = after;
   sees = grows.seen;
   moved = moved;
-  read = subst (IsRead pit task.steps) noted.2 (All-contains (λ (read : ℕ × Option ℕ). IsRead pit task.steps read.0) w.reads noted.0 has.reads noted.1);
+  read = subst (IsRead pit task.steps) noted.2 (among-read pit (read_in w.reads) task.steps no_change noted.0.0
+      (All-contains (λ (read : ℕ × Option ℕ). IsReadAmong pit (read_in w.reads) no_change task.steps read.0) w.reads noted.0 has.reads noted.1));
   made = inl (
     record { call = work_call w how; reply = reply.Refused (refusal.Moved block version) },
     is,
@@ -74,9 +76,12 @@ steps-changed pit task n old new goes fresh does =
     sym (subst (λ (own : Commit). changes_after pit (read_in new.work.reads) own task.steps ≡ own_of new.work) fresh.own (does.own (read_in new.work.reads) (λ b v is. is)))
 
 steps-noted : (pit : Pit) (task : Job) (n : ℕ) (old new : TransactionState) (goes : Bool) → IsFresh n old → DoesSteps pit old task.steps goes new
-    → All (λ (read : ℕ × Option ℕ). IsRead pit task.steps read.0) new.work.reads
+    → All (λ (read : ℕ × Option ℕ). IsReadAmong pit (read_in new.work.reads) no_change task.steps read.0) new.work.reads
 steps-noted pit task n old new goes fresh does =
-    subst (All (λ (read : ℕ × Option ℕ). IsRead pit task.steps read.0)) (sym (does.noted.grown ∙ ap (λ (xs : List (ℕ × Option ℕ)). xs ++ does.noted.more) fresh.reads)) does.noted.each
+    let noted =
+    subst (λ (own : Commit). NotesOnly (IsReadAmong pit (read_in new.work.reads) own task.steps) old.work.reads new.work.reads) fresh.own (does.noted (read_in new.work.reads) (λ b v is. is)) in
+    subst (All (λ (read : ℕ × Option ℕ). IsReadAmong pit (read_in new.work.reads) no_change task.steps read.0))
+    (sym (noted.grown ∙ ap (λ (xs : List (ℕ × Option ℕ)). xs ++ noted.more) fresh.reads)) noted.each
 
 -- so the call is the job's, where it has the job's effect
 call-of : (pit : Pit) (task : Job) (n : ℕ) (old new : TransactionState) (goes : Bool) (how : Act) → IsFresh n old → DoesSteps pit old task.steps goes new → HasEffect pit task (work_call new.work how)

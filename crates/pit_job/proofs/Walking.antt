@@ -1,6 +1,6 @@
 -- A walk through a transaction.
 use Rattle.std.proofs.Common.{inl, inr, ◌≡◌, ℕ, zero, suc, nat_eq, ◌+◌, ◌<◌, ◌≤◌, length, get_or, drop, Bool, true, false, List, [], ◌∷◌, ◌++◌, Some, None, refl, sym, ap, subst, ◌∙◌, arith, append-nil, append_assoc, nat_cmp, eqb-true}
-use Rattle.std.specs.Prelude.{is_some, if◌then◌else◌, slice_get, Result, Ok, Err, IfOk, OnOk}
+use Rattle.std.specs.Prelude.{is_some, if◌then◌else◌, slice_get}
 use Rattle.std.specs.List.{All, Contains, list_any}
 use Rattle.std.specs.List.Sorted.{IsSorted, IsPermutation}
 use Rattle.std.proofs.lemmas.Bool.{cases_eq}
@@ -15,11 +15,11 @@ use Rattle.pit_share.specs.Planners.{TransactionState}
 use Rattle.pit_script.specs.declared.step.Step.TheVariants as step
 use Rattle.pit_script.specs.declared.step.Way.{Way}
 use Rattle.pit_script.specs.declared.step.Way.TheVariants as way
-use Rattle.pit_job.specs.Cones.{all_led, in_round, Reaches, here, further}
+use Rattle.pit_job.specs.Cones.{all_led, in_round, IsNextOf, Reaches, here, further}
 use Rattle.pit_job.specs.Effect.{Agrees, Known, changes, carried, read_in, seen, with_bench, is_carried, leads_to, members_of}
 use Rattle.pit_job.specs.Outcomes.{IsMovedBlock}
-use Rattle.pit_job.specs.Inside.Doing.{own_of, Same, Puts, DoesStep, Meets}
-use Rattle.pit_job.specs.Inside.Walking.{IsNextOf, IsWalk, WalkState, Visits, VisitsEach, IsGoing, IsGone, NotesMembers, PutsEach}
+use Rattle.pit_job.specs.Inside.Doing.{own_of, NotesOnly, Same, Puts, DoesStep, Meets}
+use Rattle.pit_job.specs.Inside.Walking.{IsWalk, WalkState, Visits, VisitsEach, IsGoing, IsGone, PutsEach}
 use Rattle.pit_job.specs.declared.doing.StepStop.{StepStop}
 use Rattle.pit_job.specs.declared.doing.StepStop.TheVariants as stop
 use Rattle.pit_job.proofs.Agreeing.{seen-agrees}
@@ -235,55 +235,54 @@ puts-whole old new bs i t past so_far = record {
   reads = so_far.reads;
 }
 
-pub carry-does : (pit : Pit) (how : Way) (b t : ℕ) (old mid new : TransactionState) (w : WalkState) (i : ℕ) (sorted : List ℕ) (goes : Bool) → length w.found ≤ i → IsGone pit how b t old mid w i
-    → IsPermutation w.found sorted → IsSorted nat_cmp sorted → goes ≡ true → PutsEach mid sorted t new → DoesStep pit old (step.Carry how b t) goes new
-carry-does pit how b t old mid new w i sorted goes past gone moved up is puts = subst (λ (o : Bool). DoesStep pit old (step.Carry how b t) o new) (sym is) record {
-  same = same-trans old mid new gone.going.same puts.same;
-  does = λ known agrees.
-      let before : Agrees (read_in mid.work.reads) known = Agrees-trans (read_in mid.work.reads) (read_in new.work.reads) known puts.same.reads agrees in
-      let more : Agrees (λ c. known_of mid.work c) (λ c. seen known (own_of old.work) c) =
-      subst (λ (o : Commit). Agrees (λ c. known_of mid.work c) (λ c. seen known o c)) gone.going.own (known-seen mid known before) in
-      let all = walk-whole pit.blocks (is_carried how t) (never-carried how t) (leads_to pit how) b (λ c. known_of mid.work c) (λ c. seen known (own_of old.work) c) w.visited w.found sorted gone.going.walk more gone.first
-      (λ m a among leads. led-visited m a among leads) moved up in
-      ap (λ (o : Bool). carried o (own_of old.work) (members_of pit how (λ c. seen known (own_of old.work) c) b t) t)
-      (both (is_some (seen known (own_of old.work) b)) (all_led (λ a. is_some (seen known (own_of old.work) a)) (leads_to pit how) (members_of pit how (λ c. seen known (own_of old.work) c) b t)) all.1 all.2)
-      ∙ ap (λ (ms : List ℕ). changes (with_bench (own_of old.work) ms t)) all.0
-      ∙ ap (λ (o : Commit). changes (with_bench o sorted t)) (sym gone.going.own)
-      ∙ ap changes (sym puts.own);
-  noted = notes-trans (Reaches (leads_to pit how) b) old.work.reads mid.work.reads new.work.reads
-      (notes-map (Contains w.visited) (Reaches (leads_to pit how) b) (λ c among. visited-reached pit how b t old mid w gone.going c among) old.work.reads mid.work.reads gone.going.noted)
-      (notes-none (Reaches (leads_to pit how) b) mid.work.reads new.work.reads puts.reads);
-  stays = λ no. absurd (cc no);
-}
+-- over whatever holds the reads, these are the members, and all that was visited they lead to
+pub carry-finds : (pit : Pit) (how : Way) (b t : ℕ) (old mid new : TransactionState) (w : WalkState) (i : ℕ) (sorted : List ℕ) → length w.found ≤ i → IsGone pit how b t old mid w i
+    → IsPermutation w.found sorted → IsSorted nat_cmp sorted → PutsEach mid sorted t new → (known : Known) → Agrees (read_in new.work.reads) known
+    → (members_of pit how (λ c. seen known (own_of old.work) c) b t ≡ sorted) × (is_some (seen known (own_of old.work) b) ≡ true)
+    × (all_led (λ a. is_some (seen known (own_of old.work) a)) (leads_to pit how) (members_of pit how (λ c. seen known (own_of old.work) c) b t) ≡ true)
+carry-finds pit how b t old mid new w i sorted past gone moved up puts known agrees =
+    let before : Agrees (read_in mid.work.reads) known = Agrees-trans (read_in mid.work.reads) (read_in new.work.reads) known puts.same.reads agrees in
+    let more : Agrees (λ c. known_of mid.work c) (λ c. seen known (own_of old.work) c) =
+    subst (λ (o : Commit). Agrees (λ c. known_of mid.work c) (λ c. seen known o c)) gone.going.own (known-seen mid known before) in
+    walk-whole pit.blocks (is_carried how t) (never-carried how t) (leads_to pit how) b (λ c. known_of mid.work c) (λ c. seen known (own_of old.work) c) w.visited w.found sorted gone.going.walk more gone.first
+    (λ m a among leads. led-visited m a among leads) moved up
   where
     led-visited : (m a : ℕ) → Contains w.found m → Contains (leads_to pit how m) a → Contains w.visited a
     led-visited m a (k, within, at) leads =
         gone.done k a (omega (arith, within, past)) within (subst (λ (c : ℕ). Contains (leads_to pit how c) a) (sym (sym (get_or_default w.found k m 0 within) ∙ at)) leads)
 
-pub carry-told : (pit : Pit) (how : Way) (b t : ℕ) (old mid new : TransactionState) (w : WalkState) (i : ℕ) (found sorted : List ℕ) (r : Result Bool StepStop) → length w.found ≤ i → IsGone pit how b t old mid w i
-    → found ≡ w.found → IsPermutation found sorted → IsSorted nat_cmp sorted → IfOk r (λ goes. (goes ≡ true) × PutsEach mid sorted t new) → IfOk r (λ goes. DoesStep pit old (step.Carry how b t) goes new)
-carry-told pit how b t old mid new w i found sorted (Ok goes) past gone is moved up puts =
-    carry-does pit how b t old mid new w i sorted goes past gone (subst (λ (xs : List ℕ). IsPermutation xs sorted) is moved) up puts.0 puts.1
-carry-told pit how b t old mid new w i found sorted (Err e) past gone is moved up puts = tt
+carry-notes : (pit : Pit) (how : Way) (b t : ℕ) (old mid new : TransactionState) (w : WalkState) (i : ℕ) (sorted members : List ℕ) → IsGone pit how b t old mid w i
+    → IsPermutation w.found sorted → PutsEach mid sorted t new → members ≡ sorted → NotesOnly (IsNextOf (leads_to pit how) b members) old.work.reads new.work.reads
+carry-notes pit how b t old mid new w i sorted members gone moved puts same =
+    let kept : (m : ℕ) → Contains w.found m → Contains members m = λ m among. subst (λ (xs : List ℕ). Contains xs m) (sym same) (Contains-permutation w.found sorted m moved among) in
+    notes-trans (IsNextOf (leads_to pit how) b members) old.work.reads mid.work.reads new.work.reads
+    (notes-map (Contains w.visited) (IsNextOf (leads_to pit how) b members)
+    (λ c among. next-kept (leads_to pit how) b w.found members kept c (All-contains (IsNextOf (leads_to pit how) b w.found) w.visited c gone.going.walk.led among)) old.work.reads mid.work.reads gone.going.noted)
+    (notes-none (IsNextOf (leads_to pit how) b members) mid.work.reads new.work.reads puts.reads)
 
-pub carry-notes : (pit : Pit) (how : Way) (b t : ℕ) (old mid new : TransactionState) (w : WalkState) (i : ℕ) (found sorted : List ℕ) (r : Result Bool StepStop) → length w.found ≤ i → IsGone pit how b t old mid w i
-    → found ≡ w.found → IsPermutation found sorted → IsSorted nat_cmp sorted → IfOk r (λ goes. (goes ≡ true) × PutsEach mid sorted t new) → OnOk r (NotesMembers pit how b t old new)
-carry-notes pit how b t old mid new w i found sorted (Ok goes) past gone is moved up puts =
-    let more : Agrees (λ c. known_of mid.work c) (λ c. seen (read_in new.work.reads) (own_of old.work) c) =
-    subst (λ (o : Commit). Agrees (λ c. known_of mid.work c) (λ c. seen (read_in new.work.reads) o c)) gone.going.own (known-seen mid (read_in new.work.reads) puts.1.same.reads) in
-    let all = walk-whole pit.blocks (is_carried how t) (never-carried how t) (leads_to pit how) b (λ c. known_of mid.work c) (λ c. seen (read_in new.work.reads) (own_of old.work) c) w.visited found sorted
-    (subst (IsWalk pit.blocks (is_carried how t) (leads_to pit how) b (λ c. known_of mid.work c) w.visited) (sym is) gone.going.walk) more gone.first
-    (λ m a among leads. led-of m a (subst (λ (xs : List ℕ). Contains xs m) is among) leads) moved up in
-    let members : (m : ℕ) → Contains w.found m → Contains (members_of pit how (λ c. seen (read_in new.work.reads) (own_of old.work) c) b t) m = λ m among.
-    subst (λ (xs : List ℕ). Contains xs m) (sym all.0) (Contains-permutation found sorted m moved (subst (λ (xs : List ℕ). Contains xs m) (sym is) among)) in
-    let IsOne : ℕ → Type 0 = IsNextOf (leads_to pit how) b (members_of pit how (λ c. seen (read_in new.work.reads) (own_of old.work) c) b t) in
-    notes-trans IsOne old.work.reads mid.work.reads new.work.reads
-    (notes-map (Contains w.visited) IsOne
-    (λ c among. next-kept (leads_to pit how) b w.found (members_of pit how (λ c. seen (read_in new.work.reads) (own_of old.work) c) b t) members c
-    (All-contains (IsNextOf (leads_to pit how) b w.found) w.visited c gone.going.walk.led among)) old.work.reads mid.work.reads gone.going.noted)
-    (notes-none IsOne mid.work.reads new.work.reads puts.1.reads)
-  where
-    led-of : (m a : ℕ) → Contains w.found m → Contains (leads_to pit how m) a → Contains w.visited a
-    led-of m a (k, within, at) leads =
-        gone.done k a (omega (arith, within, past)) within (subst (λ (c : ℕ). Contains (leads_to pit how c) a) (sym (sym (get_or_default w.found k m 0 within) ∙ at)) leads)
-carry-notes pit how b t old mid new w i found sorted (Err e) past gone is moved up puts = tt
+pub carry-does : (pit : Pit) (how : Way) (b t : ℕ) (old mid new : TransactionState) (w : WalkState) (i : ℕ) (sorted : List ℕ) → length w.found ≤ i → IsGone pit how b t old mid w i
+    → IsPermutation w.found sorted → IsSorted nat_cmp sorted → PutsEach mid sorted t new → DoesStep pit old (step.Carry how b t) true new
+carry-does pit how b t old mid new w i sorted past gone moved up puts = record {
+  same = same-trans old mid new gone.going.same puts.same;
+  does = λ known agrees.
+      let all = carry-finds pit how b t old mid new w i sorted past gone moved up puts known agrees in
+      ap (λ (o : Bool). carried o (own_of old.work) (members_of pit how (λ c. seen known (own_of old.work) c) b t) t)
+      (both (is_some (seen known (own_of old.work) b)) (all_led (λ a. is_some (seen known (own_of old.work) a)) (leads_to pit how) (members_of pit how (λ c. seen known (own_of old.work) c) b t)) all.1 all.2)
+      ∙ ap (λ (ms : List ℕ). changes (with_bench (own_of old.work) ms t)) all.0
+      ∙ ap (λ (o : Commit). changes (with_bench o sorted t)) (sym gone.going.own)
+      ∙ ap changes (sym puts.own);
+  noted = λ known agrees.
+      carry-notes pit how b t old mid new w i sorted (members_of pit how (λ c. seen known (own_of old.work) c) b t) gone moved puts
+      (carry-finds pit how b t old mid new w i sorted past gone moved up puts known agrees).0;
+  stays = λ no. absurd (cc no);
+}
+
+-- the same of the vector that was sorted
+pub carry-told : (pit : Pit) (how : Way) (b t : ℕ) (old mid new : TransactionState) (w : WalkState) (i : ℕ) (found sorted : List ℕ) → length w.found ≤ i → IsGone pit how b t old mid w i
+    → found ≡ w.found → IsPermutation found sorted → IsSorted nat_cmp sorted → PutsEach mid sorted t new
+    → DoesStep pit old (step.Carry how b t) true new × (sorted ≡ members_of pit how (λ c. seen (read_in new.work.reads) (own_of old.work) c) b t)
+carry-told pit how b t old mid new w i found sorted past gone is moved up puts =
+    let from : IsPermutation w.found sorted = subst (λ (xs : List ℕ). IsPermutation xs sorted) is moved in (
+      carry-does pit how b t old mid new w i sorted past gone from up puts,
+      sym (carry-finds pit how b t old mid new w i sorted past gone from up puts (read_in new.work.reads) (λ c v is. is)).0,
+    )

@@ -10,9 +10,9 @@ use Rattle.std.proofs.lemmas.List.Kept.{AllPairs-from_increasing}
 use Rattle.std.proofs.lemmas.List.Sorted.{All-permutation, Contains-permutation, IsNonDecreasingBy-from_sort}
 use Rattle.std.proofs.lemmas.Map.Keys.{IsDistinct-push, IsDistinct-IsPermutation, IsStrictlyIncreasing-from_distinct}
 use Rattle.std.proofs.lemmas.Map.Steps.{length-le_from_distinct_below}
-use Rattle.pit_job.specs.Cones.{in_round, cone_of, all_led}
+use Rattle.pit_job.specs.Cones.{in_round, cone_of, all_led, IsNextOf}
 use Rattle.pit_job.specs.Effect.{Known, Agrees}
-use Rattle.pit_job.specs.Inside.Walking.{IsWalk, IsNextOf}
+use Rattle.pit_job.specs.Inside.Walking.{IsWalk}
 use Rattle.pit_job.proofs.Cones.{both, left, right, same-from, any-some, some-any, is_in-from, from-is_in, all-range, filter-on, round-least, cone-closed, cone-starts, cone-has, has-cone}
 
 -- ---- tests of all elements

@@ -1,5 +1,5 @@
 -- What a line takes along: a start, and what leads on from it.
-use Rattle.std.specs.Prelude.{ℕ, zero, suc, ◌==◌, ◌&&◌, ◌||◌, Bool, List}
+use Rattle.std.specs.Prelude.{◌≡◌, ◌⊎◌, ℕ, zero, suc, ◌==◌, ◌&&◌, ◌||◌, Bool, List}
 use Rattle.std.specs.List.{Contains, filter, list_any, list_all, range_with_len}
 
 module _ (blocks : ℕ) (late : ℕ → Bool) (next : ℕ → List ℕ) (start : ℕ) where
@@ -16,6 +16,10 @@ module _ (blocks : ℕ) (late : ℕ → Bool) (next : ℕ → List ℕ) (start :
 -- each of these leads to nothing but what passes
 abbrev pub all_led : (ℕ → Bool) → (ℕ → List ℕ) → List ℕ → Bool
 all_led passes next members = list_all (λ m. list_all passes (next m)) members
+
+-- the start, or what one of these leads to
+abbrev pub IsNextOf : (ℕ → List ℕ) → ℕ → List ℕ → ℕ → Type 0
+IsNextOf next start found b = (b ≡ start) ⊎ ((m : ℕ) × Contains found m × Contains (next m) b)
 
 -- the start leads there, over any number of blocks, itself among them
 pub data Reaches (next : ℕ → List ℕ) (start : ℕ) : ℕ → Type 0 where

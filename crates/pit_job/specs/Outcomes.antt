@@ -2,7 +2,7 @@
 use Rattle.std.specs.Prelude.{◌≡◌, ℕ, zero, suc, ◌<◌, ◌≤◌, ◌⊎◌, Bool, true, false, List, [], ◌∷◌, ◌++◌, length, All, Contains}
 use mathlib.Core.List.{IsPrefix}
 use Rattle.pit_model.specs.Pit.{Pit}
-use Rattle.pit_plan.specs.Schedule.{last_number}
+use Rattle.pit_plan.specs.Schedule.{Commit, last_number}
 use Rattle.pit_desk.specs.History.{Answered, Call, commits_of}
 use Rattle.pit_desk.specs.declared.reply.Refusal.{Refusal}
 use Rattle.pit_desk.specs.declared.reply.Refusal.TheVariants as refusal
@@ -12,8 +12,8 @@ use Rattle.pit_share.specs.Planners.{PlannerState}
 use Rattle.pit_script.specs.Jobs.{Job}
 use Rattle.pit_script.specs.declared.step.Step.{Step}
 use Rattle.pit_script.specs.declared.step.Step.TheVariants as step
-use Rattle.pit_job.specs.Cones.{Reaches}
-use Rattle.pit_job.specs.Effect.{HasEffect, HasChanges, leads_to}
+use Rattle.pit_job.specs.Cones.{IsNextOf, Reaches}
+use Rattle.pit_job.specs.Effect.{Known, Effect, changes, unread, nothing, no_change, read_in, seen, leads_to, members_of, step_after, HasEffect, HasChanges}
 
 -- a block that the call read was moved
 abbrev pub is_moved_refusal : Refusal → Bool
@@ -30,7 +30,30 @@ is_moved_reply reply.Withdrawn = false
 
 -- ---- entries of a job
 
--- the step reads the block
+-- over what is known, with the own writes laid over it, the step reads the block
+abbrev pub IsReadOver : Pit → Known → Commit → Step → ℕ → Type 0
+IsReadOver pit known own (step.Read b) block = block ≡ b
+IsReadOver pit known own (step.Put b period) block = ⊥
+IsReadOver pit known own (step.Clear b) block = ⊥
+IsReadOver pit known own (step.Shift b is_back by) block = block ≡ b
+IsReadOver pit known own (step.Bench height period) block = ⊥
+IsReadOver pit known own (step.Expect b period) block = block ≡ b
+IsReadOver pit known own (step.Carry how b period) block = IsNextOf (leads_to pit how) b (members_of pit how (λ c. seen known own c) b period) block
+IsReadOver pit known own (step.Revise resource period upper) block = ⊥
+
+-- it goes on, and this is so of the changes so far
+abbrev pub IfGoesOn : Effect → (Commit → Type 0) → Type 0
+IfGoesOn (changes own) P = P own
+IfGoesOn unread P = ⊥
+IfGoesOn nothing P = ⊥
+
+-- one of the steps does, after those before it
+abbrev pub IsReadAmong : Pit → Known → Commit → List Step → ℕ → Type 0
+IsReadAmong pit known own [] block = ⊥
+IsReadAmong pit known own (s ∷ steps) block =
+    IsReadOver pit known own s block ⊎ IfGoesOn (step_after pit known own s) (λ after. IsReadAmong pit known after steps block)
+
+-- the step may read the block, whatever is known
 abbrev pub IsReadBy : Pit → ℕ → Step → Type 0
 IsReadBy pit block (step.Read b) = block ≡ b
 IsReadBy pit block (step.Put b period) = ⊥
@@ -41,17 +64,17 @@ IsReadBy pit block (step.Expect b period) = block ≡ b
 IsReadBy pit block (step.Carry how b period) = Reaches (leads_to pit how) b block
 IsReadBy pit block (step.Revise resource period upper) = ⊥
 
--- one of the steps does
+-- one of the steps may
 pub record IsRead (pit : Pit) (steps : List Step) (block : ℕ) : Type 0 where
   pub reader : Step
   pub among : Contains steps reader
   pub reads : IsReadBy pit block reader
 
--- it has the job's effect over its reads, and the changes of the job's steps; and each block that it noted, a step reads
+-- it has the job's effect over its reads, and the changes of the job's steps; and each block that it noted, a step reads over these reads
 pub record IsCallOf (pit : Pit) (task : Job) (call : Call) : Type 0 where
   pub effect : HasEffect pit task call
   pub changes : HasChanges pit task call
-  pub reads : All (λ read. IsRead pit task.steps read.0) call.reads
+  pub reads : All (λ read. IsReadAmong pit (read_in call.reads) no_change task.steps read.0) call.reads
 
 -- an entry of a job
 pub record IsItem (pit : Pit) (task : Job) (n : ℕ) (e : Answered) : Type 0 where

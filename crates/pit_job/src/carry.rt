@@ -3,9 +3,9 @@ ghost use Rattle.std.specs.Prelude.{◌≡◌, ℕ, ◌<◌, ◌≤◌, ◌++◌
 ghost use Rattle.std.specs.List.{All, Contains, list_any};
 ghost use Rattle.pit_share.specs.Planners.{SeesOn};
 ghost use Rattle.pit_job.specs.Cones.{Reaches};
-ghost use Rattle.pit_job.specs.Effect.{is_carried as is_carried_of, leads_to};
+ghost use Rattle.pit_job.specs.Effect.{is_carried as is_carried_of, leads_to, members_of, read_in, seen};
 ghost use Rattle.pit_job.specs.Inside.Doing.{DoesStep, Meets, NothingPut, own_of};
-ghost use Rattle.pit_job.specs.Inside.Walking.{Visits, VisitsEach, IsGone, NotesMembers, PutsEach};
+ghost use Rattle.pit_job.specs.Inside.Walking.{Visits, VisitsEach, IsGone, PutsEach};
 
 use crate::doing::{StepStop, look, write};
 use indexmap::IndexSet;
@@ -82,7 +82,7 @@ impl<A: Allocator + Copy + Drop> Walk<A> {
     }
 }
 
-/// Puts a block and what is carried along with it into a period, once all that they lead to is read.
+/// Puts a block and what is carried along with it into a period, once all that they lead to is read. Tells what it put, rising.
 pub(crate) fn carry<
     'a,
     S: Session,
@@ -95,18 +95,21 @@ pub(crate) fn carry<
     way: Way,
     b: u32,
     period: u32,
-) -> Result<bool, StepStop>
+) -> Result<Vec<u32, A>, StepStop>
     requires pit { benches.now ≡ S.instance }
     requires block { b < S.instance.blocks }
-    ensures ok { IfOk result (λ goes. DoesStep S.instance t.old (Step.Carry way b period) goes t.new) }
-    ensures noted { OnOk result (NotesMembers S.instance way b period t.old t.new) }
+    ensures ok { OnOk result (DoesStep S.instance t.old (Step.Carry way b period) true t.new) }
+    ensures members { IfOk result (λ put. put.items ≡ members_of S.instance way (λ c. seen (read_in t.new.work.reads) (own_of t.old.work) c) b period) }
     ensures err { IfErr result (Meets (λ block. Reaches (leads_to S.instance way) b block) t.old.work.start t.new.planner.seen) }
     ensures unput { IfErr result (λ stop. NothingPut t.old stop t.new) }
     ensures sees { SeesOn t.old.planner t.new.planner }
 {
     let mut found = walked(t, benches.pit(), way, b, period)?.into_found();
     found.sort_unstable();
-    put_each(t, &found, period)
+    let Ok(()) = put_each(t, &found, period) else {
+        return Err(StepStop::NoMemory);
+    };
+    Ok(found)
 }
 
 /// Reads from a queue: the block, and then of each that is found what it leads to.
@@ -206,13 +209,13 @@ fn put_each<'a, S: Session, R: Wait + Drop, A: Allocator + Copy + Drop>(
     t: &mut Transaction<'a, S, R, A>,
     blocks: &[u32],
     period: u32,
-) -> Result<bool, StepStop>
-    ensures ok { IfOk result (λ goes. (goes ≡ true) × PutsEach t.old blocks.now period t.new) }
+) -> Result<(), StepStop>
+    ensures ok { OnOk result (PutsEach t.old blocks.now period t.new) }
     ensures memory { IfErr result (λ stop. stop ≡ StepStop.NoMemory) }
     ensures sees { SeesOn t.old.planner t.new.planner }
 {
     for b in blocks {
         write(t, *b, Some(period))?;
     }
-    Ok(true)
+    Ok(())
 }

@@ -3,14 +3,15 @@ ghost use Rattle.std.specs.Prelude.{◌≡◌, ◌<◌, true, IfOk, IfErr, OnOk,
 ghost use Rattle.pit_script.specs.Ranges.{IsStepIn};
 ghost use Rattle.pit_share.specs.Planners.{SeesOn};
 ghost use Rattle.pit_job.specs.Outcomes.{IsReadBy, IsRead};
-ghost use Rattle.pit_job.specs.Effect.{same_period as same_period_of};
+ghost use Rattle.pit_job.specs.Cones.{Reaches};
+ghost use Rattle.pit_job.specs.Effect.{leads_to, same_period as same_period_of};
 ghost use Rattle.pit_job.specs.Shifts.{shifted as shifted_of};
 ghost use Rattle.pit_job.specs.Inside.Doing.{LooksUp, Puts, DoesStep, DoesSteps, Meets, IsUnseen};
 
 use crate::carry::carry;
 use crate::shift::shifted;
 use pit_board::Session;
-use pit_script::{Benches, Step};
+use pit_script::{Benches, Step, Way};
 use pit_share::{ReadStop, Transaction};
 use pit_tx::WorkError;
 use std::alloc::Allocator;
@@ -65,7 +66,7 @@ fn do_step<'a, S: Session, R: Wait + Drop, A: Allocator + Copy + Drop, B: Alloca
         Step::Shift { block, is_back, by } => shift(t, benches, block, is_back, by),
         Step::Bench { height, period } => bench(t, benches, height, period),
         Step::Expect { block, period } => expect(t, block, period),
-        Step::Carry { way, block, period } => carry(t, benches, way, block, period),
+        Step::Carry { way, block, period } => carry_along(t, benches, way, block, period),
         Step::Revise {
             resource,
             period,
@@ -100,6 +101,30 @@ fn expect<'a, S: Session, R: Wait + Drop, A: Allocator + Copy + Drop>(
 {
     let held = look(t, b)?;
     Ok(same_period(held, period))
+}
+
+/// Puts a block into a period with what is carried along.
+fn carry_along<
+    'a,
+    S: Session,
+    R: Wait + Drop,
+    A: Allocator + Copy + Drop,
+    B: Allocator + Copy + Drop,
+>(
+    t: &mut Transaction<'a, S, R, A>,
+    benches: &Benches<B>,
+    way: Way,
+    b: u32,
+    period: u32,
+) -> Result<bool, StepStop>
+    requires pit { benches.now ≡ S.instance }
+    requires block { b < S.instance.blocks }
+    ensures ok { IfOk result (λ goes. DoesStep S.instance t.old (Step.Carry way b period) goes t.new) }
+    ensures err { IfErr result (Meets (λ block. Reaches (leads_to S.instance way) b block) t.old.work.start t.new.planner.seen) }
+    ensures sees { SeesOn t.old.planner t.new.planner }
+{
+    let _put = carry(t, benches, way, b, period)?;
+    Ok(true)
 }
 
 fn same_period(one: Option<u32>, other: Option<u32>) -> bool

@@ -7,7 +7,7 @@ use Rattle.pit_desk.specs.History.{Answered, commits_of}
 use Rattle.pit_script.specs.declared.step.Step.{Step}
 use Rattle.pit_share.specs.Planners.{TransactionState, SeesOn}
 use Rattle.pit_job.specs.Effect.{Agrees, Known, Effect, changes, nothing, read_in, with_written, step_after, steps_after, changes_after}
-use Rattle.pit_job.specs.Outcomes.{IsMovedBlock, IsReadBy, IsRead}
+use Rattle.pit_job.specs.Outcomes.{IsMovedBlock, IsReadOver, IsReadAmong}
 use Rattle.pit_job.specs.declared.doing.StepStop.{StepStop}
 use Rattle.pit_job.specs.declared.doing.StepStop.TheVariants as stop
 
@@ -40,11 +40,11 @@ pub record LooksUp (old : TransactionState) (b : ℕ) (period : Option ℕ) (new
   pub known : known_of new.work b ≡ Some period
   pub noted : NotesOnly (λ block. block ≡ b) old.work.reads new.work.reads
 
--- over whatever holds the reads, the step does what was done; it notes what it reads, and changes nothing where it fails
+-- over whatever holds the reads, the step does what was done, and reads what it noted; it changes nothing where it fails
 pub record DoesStep (pit : Pit) (old : TransactionState) (s : Step) (goes : Bool) (new : TransactionState) : Type 0 where
   pub same : Same old new
   pub does : (known : Known) → Agrees (read_in new.work.reads) known → step_after pit known (own_of old.work) s ≡ come_to goes (own_of new.work)
-  pub noted : NotesOnly (λ block. IsReadBy pit block s) old.work.reads new.work.reads
+  pub noted : (known : Known) → Agrees (read_in new.work.reads) known → NotesOnly (IsReadOver pit known (own_of old.work) s) old.work.reads new.work.reads
   pub stays : goes ≡ false → own_of new.work ≡ own_of old.work
 
 -- and so for steps in order
@@ -52,7 +52,7 @@ pub record DoesSteps (pit : Pit) (old : TransactionState) (ss : List Step) (goes
   pub same : Same old new
   pub does : (known : Known) → Agrees (read_in new.work.reads) known → steps_after pit known (own_of old.work) ss ≡ come_to goes (own_of new.work)
   pub own : (known : Known) → Agrees (read_in new.work.reads) known → changes_after pit known (own_of old.work) ss ≡ own_of new.work
-  pub noted : NotesOnly (IsRead pit ss) old.work.reads new.work.reads
+  pub noted : (known : Known) → Agrees (read_in new.work.reads) known → NotesOnly (IsReadAmong pit known (own_of old.work) ss) old.work.reads new.work.reads
 
 -- where it is stopped as moved, the block is one of these, and has moved since the start; and where there is no entry, there is such a block
 abbrev pub Meets : (ℕ → Type 0) → ℕ → List Answered → StepStop → Type 0

@@ -5,13 +5,9 @@ use Rattle.pit_model.specs.Pit.{Pit}
 use Rattle.pit_tx.specs.Sets.{known_of}
 use Rattle.pit_share.specs.Planners.{TransactionState}
 use Rattle.pit_script.specs.declared.step.Way.{Way}
-use Rattle.pit_job.specs.Cones.{in_round}
-use Rattle.pit_job.specs.Effect.{Known, is_carried, leads_to, members_of, read_in, seen, with_bench}
+use Rattle.pit_job.specs.Cones.{in_round, IsNextOf}
+use Rattle.pit_job.specs.Effect.{Known, is_carried, leads_to, with_bench}
 use Rattle.pit_job.specs.Inside.Doing.{own_of, Same, LooksUp, NotesOnly}
-
--- where a walk goes on: the start, or what one that was found leads to
-abbrev pub IsNextOf : (ℕ → List ℕ) → ℕ → List ℕ → ℕ → Type 0
-IsNextOf next start found b = (b ≡ start) ⊎ ((m : ℕ) × Contains found m × Contains (next m) b)
 
 -- Visited are blocks that are known, found the members among them: all that are wanted, each once. No block is visited but the start and what is led to.
 pub record IsWalk (blocks : ℕ) (wanted : Option (Option ℕ) → Bool) (next : ℕ → List ℕ) (start : ℕ) (known : Known) (visited found : List ℕ) : Type 0 where
@@ -58,11 +54,6 @@ pub record IsGone (pit : Pit) (how : Way) (start t : ℕ) (old : TransactionStat
   pub going : IsGoing pit how start t old new walk
   pub first : Contains walk.visited start
   pub done : (j a : ℕ) → j < i → j < length walk.found → Contains (leads_to pit how (slice_index_or walk.found j 0)) a → Contains walk.visited a
-
--- It has noted the block and what its members lead to, as far as these weren't known, and nothing else. These are the members over what is then known.
-abbrev pub NotesMembers : Pit → Way → ℕ → ℕ → TransactionState → TransactionState → Type 0
-NotesMembers pit how b t old new =
-    NotesOnly (IsNextOf (leads_to pit how) b (members_of pit how (λ c. seen (read_in new.work.reads) (own_of old.work) c) b t)) old.work.reads new.work.reads
 
 -- all these are put into a period, one after another, and nothing is read
 pub record PutsEach (old : TransactionState) (blocks : List ℕ) (t : ℕ) (new : TransactionState) : Type 0 where

@@ -1,18 +1,21 @@
-use Rattle.std.proofs.Common.{sym, subst, nat_cmp}
+use Rattle.std.proofs.Common.{sym, subst, ◌∙◌, nat_cmp}
 use Rattle.std.specs.List.Sorted.{IsSorted, IsPermutation}
-use Rattle.pit_job.proofs.Walking.{carry-told, carry-notes}
+use Rattle.pit_job.proofs.Walking.{carry-told}
 use Rattle.pit_job.proofs.carry.carry.Goals as goal
 
 pub returns-clause-ok : goal.returns-clause-ok
 returns-clause-ok g c =
     let gone = c.in_ok-walked.ensures.ok in
     let same = sym c.deref.ensures.value in
-    carry-told g.S.Session.instance c.args.way c.args.b c.args.period c.args.t.now c.walked.new.t c.put_each.new.t c.in_ok-walked.field-0 gone.0 c.into_found-found.result.items c.deref.result.now c.put_each.result
-    gone.1 gone.2 c.into_found-found.ensures (subst (IsPermutation c.into_found-found.result.items) same c.sort_unstable.ensures.permutation) (subst (IsSorted nat_cmp) same c.sort_unstable.ensures.sorted) c.put_each.ensures.ok
+    (carry-told g.S.Session.instance c.args.way c.args.b c.args.period c.args.t.now c.walked.new.t c.put_each.new.t c.in_ok-walked.field-0 gone.0 c.into_found-found.result.items c.deref.result.now
+    gone.1 gone.2 c.into_found-found.ensures (subst (IsPermutation c.into_found-found.result.items) same c.sort_unstable.ensures.permutation) (subst (IsSorted nat_cmp) same c.sort_unstable.ensures.sorted)
+    (rw c.in-Ok.is at c.put_each.ensures.ok)).0
 
-pub returns-clause-noted : goal.returns-clause-noted
-returns-clause-noted g c =
+pub returns-clause-members : goal.returns-clause-members
+returns-clause-members g c =
     let gone = c.in_ok-walked.ensures.ok in
     let same = sym c.deref.ensures.value in
-    carry-notes g.S.Session.instance c.args.way c.args.b c.args.period c.args.t.now c.walked.new.t c.put_each.new.t c.in_ok-walked.field-0 gone.0 c.into_found-found.result.items c.deref.result.now c.put_each.result
-    gone.1 gone.2 c.into_found-found.ensures (subst (IsPermutation c.into_found-found.result.items) same c.sort_unstable.ensures.permutation) (subst (IsSorted nat_cmp) same c.sort_unstable.ensures.sorted) c.put_each.ensures.ok
+    same
+    ∙ (carry-told g.S.Session.instance c.args.way c.args.b c.args.period c.args.t.now c.walked.new.t c.put_each.new.t c.in_ok-walked.field-0 gone.0 c.into_found-found.result.items c.deref.result.now
+    gone.1 gone.2 c.into_found-found.ensures (subst (IsPermutation c.into_found-found.result.items) same c.sort_unstable.ensures.permutation) (subst (IsSorted nat_cmp) same c.sort_unstable.ensures.sorted)
+    (rw c.in-Ok.is at c.put_each.ensures.ok)).1

@@ -9,4 +9,4 @@ returns-in-Clear-clause-ok g c =
     clear-told g.S.Session.instance c.args.t.now c.write-in-Clear.new.t c.in-Clear.block c.args.step.now c.write-in-Clear.result c.in-Clear.is c.write-in-Clear.ensures.ok
 
 pub returns-in-Carry-clause-err : goal.returns-in-Carry-clause-err
-returns-in-Carry-clause-err g c = rw c.in-Carry.is c.carry.ensures.err
+returns-in-Carry-clause-err g c = rw c.in-Carry.is c.carry_along.ensures.err
