@@ -10,7 +10,9 @@ pub use Rattle.pit_script.specs.Jobs
 pub use Rattle.pit_script.specs.Ranges
 pub use Rattle.pit_script.specs.Scripts
 pub use Rattle.pit_job.specs.Shifts
+pub use Rattle.pit_job.specs.Cones
 pub use Rattle.pit_job.specs.Effect
+pub use Rattle.pit_job.specs.Carried
 pub use Rattle.pit_job.specs.Outcomes
 pub use Rattle.pit_job.specs.Runs
 pub use Rattle.pit_job.specs.JobByJob

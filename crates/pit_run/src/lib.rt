@@ -18,7 +18,7 @@ mod threads;
 pub use in_turn::run_in_turn;
 pub use pit_job::{Gate, Open, Outcome, RETRIES_MAX, RunEnd, laws as job_laws, run_script};
 pub use pit_script::{
-    Benches, JOBS_MAX, JobEnd, SHIFT_MAX, Script, ScriptCause, ScriptError, Step, Word,
+    Benches, JOBS_MAX, JobEnd, SHIFT_MAX, Script, ScriptCause, ScriptError, Step, Way, Word,
     laws as script_laws,
 };
 pub use planner_run::PlannerRun;
