@@ -11,7 +11,7 @@ set -eu
 . "$(dirname "$(realpath "$0")")/program.sh"
 words n:b:t: 100000 "$@"
 named "${others[@]}"
-made_of share pit_book pit_cli pit_model pit_num pit_share pit_text pit_tx
+made_of share pit_book pit_model pit_num pit_share pit_step pit_text pit_tx
 
 # script NAME SEED: a planner's transactions, in the words of the twin.
 script() {
