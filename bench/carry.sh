@@ -16,13 +16,17 @@ run_on "${others[0]}" "${others[1]}" "${others[3]}"
 large=${names[0]}
 small=${names[1]}
 
-# small_cones NAME KEY: JOBS jobs, each a cone of a block with at most nine predecessors, none of which has one.
+# small_cones NAME KEY: JOBS jobs, each a cone of a block with at most nine predecessors, none of which has one. Of all such blocks about a thousand are
+# taken, far apart.
 small_cones() {
     tac "$1.prec" | awk -v jobs="$count" '
         $2 == 0 { is_top[$1] = 1; next }
         $2 <= 9 { for (i = 3; i <= NF; i++) if (!($i in is_top)) next; block[n++] = $1 }
-        n >= 1000 { exit }
-        END { for (i = 0; i < jobs; i++) print "begin\ncone", block[i % n], "0\nabort" }' >"$work/small.$2"
+        END {
+            if (!n) exit 1
+            step = int(n / 1000) + 1
+            for (i = 0; i < jobs; i++) print "begin\ncone", block[i * step % n], "0\nabort"
+        }' >"$work/small.$2"
 }
 
 : >"$work/none"
@@ -37,7 +41,11 @@ awk -v block="$block" '
         for (b in period) if (period[b] > 0 && members-- > 0) print "shift", b, "-1"
     }' "$large.sol" "$large.prec" >"$work/shifted"
 members=$(head -n 1 "$work/shifted")
-{ echo begin; tail -n +2 "$work/shifted"; echo abort; } >"$work/shifts"
+{ echo begin; tail -n +2 "$work/shifted" | sort -k 2n; echo abort; } >"$work/shifts"
+if [ "$(wc -l <"$work/shifts")" -ne $((members + 2)) ]; then
+    echo "$large.sol has too few blocks that are mined later than in period 0" >&2
+    exit 1
+fi
 small_cones "$large" large
 small_cones "$small" small
 held=(plan "$large.cpit" "$large.prec" --start "$large.sol")
@@ -54,7 +62,7 @@ done
 # own KEY: of each round the seconds less those of no job.
 own() { awk '{ print $1 - $3 }' "$work/$1"; }
 
-echo "${large##*/}, a cone of $members blocks and $(($(wc -l <"$work/shifts") - 2)) shifts"
+echo "${large##*/}, a cone of $members blocks"
 for key in cone shifts large small; do
     printf '%-8s %8.3f s beside no job, %8d KB\n' "$key" "$(own "$key" | middle)" "$(middle_of "$key" '$2')"
 done

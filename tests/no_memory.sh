@@ -148,8 +148,10 @@ each 'check' check "$data/tiny.cpit" "$data/tiny.prec" "$data/tiny.sol"
 each 'check, breach and shortfall' check "$data/tiny.cpit" "$data/tiny.prec" "$data/over.sol"
 printf 'begin\nput 0 0\nput 1 0\ncommit\nbegin\nread 0\nrevise 0 0 inf\ncommit\nbegin\nshift 1 1\nabort\n' >one
 printf 'begin\nread 3\nabort\n' >two
+printf 'begin\nexpect 3 -\ncone 2 1\npush 0 1\nabort\n' >carried
 each 'plan' plan "$data/tiny.cpit" "$data/tiny.prec" one
 each 'plan, two planners from a start' plan "$data/tiny.cpit" "$data/tiny.prec" --start "$data/tiny.sol" --retries 0 one two
+each 'plan, blocks are carried along' plan "$data/tiny.cpit" "$data/tiny.prec" carried
 each 'plan, two planners in turn' plan --in-turn "$data/tiny.cpit" "$data/tiny.prec" one two
 each 'plan with a history' plan --history kept "$data/tiny.cpit" "$data/tiny.prec" one
 "$pit" plan --history history "${of[@]}" one >out 2>err

@@ -1,4 +1,6 @@
 """Scripts of planners, and what they leave."""
+import os
+
 import tiny
 from case import Case
 from tiny import EMPTY, LOADING, PRECEDENCES, REVISING, UNENDED
@@ -83,6 +85,10 @@ def refused(about, line, scripts, **more):
     return plan(about, scripts, "", line + "\n", 2, **{"kept": more.get("onto"), **more})
 
 
+# An example of a cone.
+with open(os.path.join(os.path.dirname(__file__), "../../examples/tiny/cone.script"), encoding="ascii") as text:
+    CONE = text.read()
+
 # Three jobs, of which the second is too heavy, the solution that they leave, and their report.
 THREE = jobs("put 0 0, put 1 0", "put 3 0", "put 3 1")
 THREE_LEFT = "0 0\n1 0\n3 1\n"
@@ -135,6 +141,12 @@ value 37.772727272730000000
 {"act":"commit","job":3,"planner":1,"reads":[[2,null],[0,0],[1,0]],"reply":{"committed":2},"start":1,"writes":[[2,1]]}
 {"act":"commit","job":4,"planner":1,"reads":[[0,0],[1,0],[2,1]],"reply":{"over":[0,1,"7000000","4000000"]},"start":2,"writes":[[0,1],[1,1]]}
 """),
+    *plan("a block that is refused alone", CONE, "0 0\n1 0\n", """\
+planner 1 job 1 refused precedence 1 0 tries 1
+planner 1 job 2 committed 1 tries 1
+value 10.500000000000000000
+short 0 1 0.000000 1.000000
+""", 1),
     *plan(
         "what stands in its way is too heavy", jobs("cone 2 1"), "",
         "planner 1 job 1 refused over 0 1 7.000000 4.000000 tries 1\n" + NOTHING, 1, kept=EMPTY + """\
