@@ -47,9 +47,9 @@ one thread does them, planner after planner. A job is lines between `begin` and 
   read B      reads block B             put B T     puts block B into period T
   clear B     takes block B out         shift B D   moves block B by D periods, or aborts the job
   bench Z T   puts each block at height Z into period T
-  expect B T  reads block B, and aborts the job where it isn't in period T, or `-` for in none
-  cone B T    puts block B into period T, with its predecessors that have no period or a later one
-  push B T    puts block B into period T, with its successors that have an earlier one
+  expect B T  reads block B, and aborts the job where it isn't in period T; `-` for T is no period
+  cone B T    brings block B to period T, unless it is there or earlier, with what stands in its way
+  push B T    puts block B off to period T, where it is in an earlier one, with what depends on it
   revise R T V  limits resource R in period T to at most V; `inf` is no limit
 A job is committed as a whole, where it read what the schedule then held and breaks no precedence
 and no upper limit; else it is refused, and one that met a change of another planner is repeated.
