@@ -20,7 +20,7 @@ use Rattle.pit_script.specs.declared.step.Way.{Way}
 use Rattle.pit_script.specs.declared.step.Way.TheVariants as way
 use Rattle.pit_job.specs.Cones.{in_round, cone_of, all_led, Reaches, here, further}
 use Rattle.pit_job.specs.Effect.{changes, carried, seen, whole, with_written, with_bench, is_late, is_early, is_carried, leads_to, step_after}
-use Rattle.pit_job.specs.Carried.{laid_over, members_over, AreMembers, KeepsOrder}
+use Rattle.pit_job.specs.Carried.{laid_over, members_over, AreMembers, IsPlaced, KeepsOrder}
 use Rattle.pit_job.proofs.Cones.{both, same-from, is_in-from, from-is_in, all-range, round-least, round-late, cone-starts, cone-closed, cone-has, has-cone, cone-reached, cone-ancestors, filter-has, range-has}
 use Rattle.pit_job.proofs.Walks.{led-from}
 
@@ -192,6 +192,31 @@ reached-members pit sound schedule own how b t less ordered c reaches is =
     reached-below : (c : ℕ) → Reaches (leads_to pit how) b c → c < pit.blocks
     reached-below c here = less
     reached-below c (further m c' before leads) = (leads-inside pit sound how m c leads).1
+
+-- ---- the block itself
+
+placed-at : (how : Way) (t : ℕ) → IsPlaced how t (Some t)
+placed-at way.Cone t = omega arith
+placed-at way.Push t = omega arith
+
+-- where it isn't carried along
+placed-else : (how : Way) (t : ℕ) (x : Option ℕ) → is_carried how t (Some x) ≡ false → IsPlaced how t x
+placed-else way.Cone t None is = absurd (false≢true (sym is))
+placed-else way.Cone t (Some u) is = grind (arith, nat_tests, is)
+placed-else way.Push t None is = tt
+placed-else way.Push t (Some u) is = grind (arith, nat_tests, is)
+
+pub carry-places : (pit : Pit) → IsSound pit → (schedule : ℕ → Option ℕ) (own : Commit) (how : Way) (b t : ℕ) → b < pit.blocks
+    → IsPlaced how t (laid_over schedule (with_bench own (members_over pit how schedule own b t) t) b)
+carry-places pit sound schedule own how b t less =
+    subst (IsPlaced how t) (sym (laid-benched schedule own (members_over pit how schedule own b t) t b)) (by (list_any (λ m. eqb m b) (members_over pit how schedule own b t)) refl)
+  where
+    by : (c : Bool) → list_any (λ m. eqb m b) (members_over pit how schedule own b t) ≡ c → IsPlaced how t (cond c (Some t) (laid_over schedule own b))
+    by true e = placed-at how t
+    by false e = elim (cases_Bool (is_carried how t (Some (laid_over schedule own b)))) [
+      | inl is ↦ absurd (false≢true (sym e ∙ is_in-from b (members_over pit how schedule own b t) ((are-members pit sound schedule own how b t less).begins is)))
+      | inr is ↦ placed-else how t (laid_over schedule own b) is
+    ]
 
 -- ---- pairs
 

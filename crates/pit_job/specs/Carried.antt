@@ -1,5 +1,5 @@
 -- What is carried along with a block, over a schedule.
-use Rattle.std.specs.Prelude.{◌≡◌, ℕ, Bool, true, false, nat_eq, List, Option, Some, unwrap_or}
+use Rattle.std.specs.Prelude.{◌≡◌, ℕ, ◌≤◌, Bool, true, false, nat_eq, List, Option, Some, None, unwrap_or, ⊤}
 use Rattle.std.specs.List.{All, Contains}
 use Rattle.std.specs.List.Sorted.{IsStrictlyIncreasing}
 use Rattle.pit_model.specs.Pit.{Pit}
@@ -26,6 +26,13 @@ pub record AreMembers (pit : Pit) (how : Way) (held : ℕ → Option ℕ) (b t :
   pub least : (other : ℕ → Bool) → (is_carried how t (Some (held b)) ≡ true → other b ≡ true)
       → ((m a : ℕ) → other m ≡ true → Contains (leads_to pit how m) a → is_carried how t (Some (held a)) ≡ true → other a ≡ true)
       → All (λ m. other m ≡ true) members
+
+-- in the period or before; or, of a push, in no period before it
+abbrev pub IsPlaced : Way → ℕ → Option ℕ → Type 0
+IsPlaced way.Cone t None = ⊥
+IsPlaced way.Cone t (Some held) = held ≤ t
+IsPlaced way.Push t None = ⊤
+IsPlaced way.Push t (Some held) = t ≤ held
 
 -- of a block and its predecessor, the one that the line puts
 abbrev pub put_of : Way → ℕ → ℕ → ℕ

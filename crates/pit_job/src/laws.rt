@@ -6,7 +6,7 @@ ghost use Rattle.pit_plan.specs.Breaches.{IsOrdered};
 ghost use Rattle.pit_script.specs.declared.step.Way.{Way};
 ghost use Rattle.pit_script.specs.declared.step.Step.TheVariants.{Carry};
 ghost use Rattle.pit_job.specs.Cones.{Reaches};
-ghost use Rattle.pit_job.specs.Carried.{laid_over, members_over, AreMembers, KeepsOrder};
+ghost use Rattle.pit_job.specs.Carried.{laid_over, members_over, AreMembers, IsPlaced, KeepsOrder};
 ghost use Rattle.pit_desk.specs.History.{Answered, commit_of, commits_of};
 ghost use Rattle.pit_desk.specs.OneThread.{IsOfOneThread, held_period_after};
 ghost use Rattle.pit_desk.specs.declared.reply.EntryReply.TheVariants.{Committed as committed};
@@ -38,8 +38,9 @@ pub fn one_by_one()
 
 /// A law of lines that carry blocks along, over a schedule with the own writes laid over it: they put the members into the period; these are the least
 /// set that has the block, where it is late, and each late predecessor of a member (or the same of what is early, and of successors). Where the schedule
-/// is in order, they are all that is late (early) of the block and its predecessors (successors), direct and indirect. No pair is then out of order
-/// that wasn't before, and none whose block (of a push: whose predecessor) was put.
+/// is in order, they are all that is late (early) of the block and its predecessors (successors), direct and indirect. On any, the block is
+/// afterwards in the period or before (of a push: in no period before it), no pair is out of order that wasn't before, and none whose block (of a push:
+/// whose predecessor) was put.
 pub fn carried_along()
     ensures puts { (pit : Pit) (schedule : ℕ → Option ℕ) (own : Commit) (how : Way) (b t : ℕ)
         → step_after pit (whole schedule) own (Carry how b t) ≡ changes (with_bench own (members_over pit how schedule own b t) t) }
@@ -50,6 +51,8 @@ pub fn carried_along()
     ensures in_order { (pit : Pit) → IsSound pit → (schedule : ℕ → Option ℕ) (own : Commit) (how : Way) (b t : ℕ) → b < pit.blocks
         → IsOrdered pit (laid_over schedule own) → (c : ℕ) → Reaches (leads_to pit how) b c → is_carried how t (Some (laid_over schedule own c)) ≡ true
         → Contains (members_over pit how schedule own b t) c }
+    ensures placed { (pit : Pit) → IsSound pit → (schedule : ℕ → Option ℕ) (own : Commit) (how : Way) (b t : ℕ) → b < pit.blocks
+        → IsPlaced how t (laid_over schedule (with_bench own (members_over pit how schedule own b t) t) b) }
     ensures order { (pit : Pit) → IsSound pit → (schedule : ℕ → Option ℕ) (own : Commit) (how : Way) (b t : ℕ) → b < pit.blocks
         → KeepsOrder pit how (laid_over schedule own) (laid_over schedule (with_bench own (members_over pit how schedule own b t) t)) (members_over pit how schedule own b t) }
 {}
