@@ -14,8 +14,8 @@ use Rattle.pit_job.proofs.Cones.{cone-reached, has-cone}
 pub notes-none : (IsOne : ℕ → Type 0) (old new : List (ℕ × Option ℕ)) → new ≡ old → NotesOnly IsOne old new
 notes-none IsOne old new same = record { more = []; grown = same ∙ sym (append-nil old); each = All-nil (λ read. IsOne read.0) }
 
-pub notes-one : (b : ℕ) (p : Option ℕ) (old new : List (ℕ × Option ℕ)) → new ≡ old ++ (b, p) ∷ [] → NotesOnly (λ c. c ≡ b) old new
-notes-one b p old new is = record { more = (b, p) ∷ []; grown = is; each = All-cons (λ read. read.0 ≡ b) (b, p) [] refl (All-nil (λ read. read.0 ≡ b)) }
+pub notes-one : (IsOne : ℕ → Type 0) (b : ℕ) (p : Option ℕ) (old new : List (ℕ × Option ℕ)) → IsOne b → new ≡ old ++ (b, p) ∷ [] → NotesOnly IsOne old new
+notes-one IsOne b p old new one is = record { more = (b, p) ∷ []; grown = is; each = All-cons (λ read. IsOne read.0) (b, p) [] one (All-nil (λ read. IsOne read.0)) }
 
 pub notes-map : (P Q : ℕ → Type 0) → ((b : ℕ) → P b → Q b) → (old new : List (ℕ × Option ℕ)) → NotesOnly P old new → NotesOnly Q old new
 notes-map P Q f old new notes = record { more = notes.more; grown = notes.grown; each = λ k d less. f (get_or notes.more k d).0 (notes.each k d less) }
@@ -36,14 +36,14 @@ read-later pit s ss b read = record { reader = read.reader; among = Contains-app
 
 -- what a step reads over what is known, it may read
 over-read : (pit : Pit) (known : Known) (own : Commit) (s : Step) (b : ℕ) → IsReadOver pit known own s b → IsReadBy pit b s
-over-read pit known own (step.Read c) b is = is
+over-read pit known own (step.Read c) b is = is.0
 over-read pit known own (step.Put c t) b is = is
 over-read pit known own (step.Clear c) b is = is
-over-read pit known own (step.Shift c is_back by) b is = is
+over-read pit known own (step.Shift c is_back by) b is = is.0
 over-read pit known own (step.Bench height t) b is = is
-over-read pit known own (step.Expect c period) b is = is
-over-read pit known own (step.Carry how c t) b (inl same) = subst (Reaches (leads_to pit how) c) (sym same) here
-over-read pit known own (step.Carry how c t) b (inr (m, among, leads)) =
+over-read pit known own (step.Expect c period) b is = is.0
+over-read pit known own (step.Carry how c t) b (inl same, _) = subst (Reaches (leads_to pit how) c) (sym same) here
+over-read pit known own (step.Carry how c t) b (inr (m, among, leads), _) =
     let late : ℕ → Bool = λ x. is_carried how t (seen known own x) in
     further m b (cone-reached pit.blocks late (leads_to pit how) c pit.blocks m (has-cone pit.blocks late (leads_to pit how) c m among).1) leads
 over-read pit known own (step.Revise r t upper) b is = is

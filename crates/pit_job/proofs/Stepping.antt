@@ -20,7 +20,7 @@ use Rattle.pit_job.specs.Shifts.{shifted}
 use Rattle.pit_job.specs.declared.doing.StepStop.{StepStop}
 use Rattle.pit_job.specs.declared.doing.StepStop.TheVariants as stop
 use Rattle.pit_job.proofs.Agreeing.{seen-agrees}
-use Rattle.pit_job.specs.Outcomes.{IfGoesOn, IsReadOver, IsReadAmong}
+use Rattle.pit_job.specs.Outcomes.{IfGoesOn, HasNoWrite, IsReadOver, IsReadAmong}
 use Rattle.pit_job.specs.Inside.Doing.{own_of, Same, LooksUp, Puts, DoesStep, DoesSteps}
 use Rattle.pit_job.proofs.Noting.{notes-none, notes-one, notes-map, notes-trans}
 use Rattle.pit_job.proofs.Seeing.{sees-same, sees-trans}
@@ -68,7 +68,7 @@ looks-known old new b period same known = record {
   same = subst (λ (t : TransactionState). Same old t) (sym same) (same-refl old);
   own = ap (λ (t : TransactionState). own_of t.work) same;
   known = ap (λ (t : TransactionState). known_of t.work b) same ∙ known;
-  noted = notes-none (λ c. c ≡ b) old.work.reads new.work.reads (ap (λ (t : TransactionState). t.work.reads) same);
+  noted = notes-none (λ c. (c ≡ b) × HasNoWrite (own_of old.work) c) old.work.reads new.work.reads (ap (λ (t : TransactionState). t.work.reads) same);
 }
 
 unwritten : (o p : Option (Option ℕ)) → (if is_some o then o else p) ≡ None → o ≡ None
@@ -100,7 +100,9 @@ looks-noted old new b period sees unknown noted = record {
       ∙ ap (λ (o : Option (Option ℕ)). if is_some o then o else read_in (old.work.reads ++ (b, period) ∷ []) b) (unwritten (at_key nat_eq old.work.writes b) (read_in old.work.reads b) unknown)
       ∙ read-rest old.work.reads ((b, period) ∷ []) b (unread-before (at_key nat_eq old.work.writes b) (read_in old.work.reads b) unknown)
       ∙ same-key b period;
-  noted = notes-one b period old.work.reads new.work.reads (ap (λ (w : Sets). w.reads) noted.work);
+  noted =
+      notes-one (λ c. (c ≡ b) × HasNoWrite (own_of old.work) c) b period old.work.reads new.work.reads (refl, unwritten (at_key nat_eq old.work.writes b) (read_in old.work.reads b) unknown)
+      (ap (λ (w : Sets). w.reads) noted.work);
 }
 
 -- ---- steps
@@ -173,7 +175,9 @@ shift-does pit old mid new b by t u is_back goes is in_range puts = subst (λ (o
       ∙ ap (put_at (own_of old.work) b) in_range
       ∙ ap (λ (own : Commit). changes (with_written own b (Some u))) (sym is.own)
       ∙ ap changes (sym puts.own);
-  noted = λ known agrees. notes-trans (λ c. c ≡ b) old.work.reads mid.work.reads new.work.reads is.noted (notes-none (λ c. c ≡ b) mid.work.reads new.work.reads puts.reads);
+  noted = λ known agrees.
+      notes-trans (λ c. (c ≡ b) × HasNoWrite (own_of old.work) c) old.work.reads mid.work.reads new.work.reads is.noted
+      (notes-none (λ c. (c ≡ b) × HasNoWrite (own_of old.work) c) mid.work.reads new.work.reads puts.reads);
   stays = λ no. absurd (cc no);
 }
 

@@ -17,7 +17,7 @@ use Rattle.pit_script.specs.declared.step.Way.{Way}
 use Rattle.pit_script.specs.declared.step.Way.TheVariants as way
 use Rattle.pit_job.specs.Cones.{all_led, in_round, IsNextOf, Reaches, here, further}
 use Rattle.pit_job.specs.Effect.{Agrees, Known, changes, carried, read_in, seen, with_bench, is_carried, leads_to, members_of}
-use Rattle.pit_job.specs.Outcomes.{IsMovedBlock}
+use Rattle.pit_job.specs.Outcomes.{IsMovedBlock, HasNoWrite}
 use Rattle.pit_job.specs.Inside.Doing.{own_of, NotesOnly, Same, Puts, DoesStep, Meets}
 use Rattle.pit_job.specs.Inside.Walking.{IsWalk, WalkState, Visits, VisitsEach, IsGoing, IsGone, PutsEach}
 use Rattle.pit_job.specs.declared.doing.StepStop.{StepStop}
@@ -98,9 +98,12 @@ visit-goes pit how start t old mid new w after b going less leads (inl (same, is
 visit-goes pit how start t old mid new w after b going less leads (inr v) = record {
   same = same-trans old mid new going.same v.looks.same;
   own = v.looks.own ∙ going.own;
-  noted = notes-trans (Contains after.visited) old.work.reads mid.work.reads new.work.reads
-      (notes-map (Contains w.visited) (Contains after.visited) (λ c among. subst (λ (xs : List ℕ). Contains xs c) (sym v.visited) (Contains-append_left w.visited (b ∷ []) c among)) old.work.reads mid.work.reads going.noted)
-      (notes-map (λ c. c ≡ b) (Contains after.visited) (λ c same. subst (Contains after.visited) (sym same) (subst (λ (xs : List ℕ). Contains xs b) (sym v.visited) (Contains-push w.visited b))) mid.work.reads new.work.reads v.looks.noted);
+  noted = notes-trans (λ c. Contains after.visited c × HasNoWrite (own_of old.work) c) old.work.reads mid.work.reads new.work.reads
+      (notes-map (λ c. Contains w.visited c × HasNoWrite (own_of old.work) c) (λ c. Contains after.visited c × HasNoWrite (own_of old.work) c)
+      (λ c is. (subst (λ (xs : List ℕ). Contains xs c) (sym v.visited) (Contains-append_left w.visited (b ∷ []) c is.0), is.1)) old.work.reads mid.work.reads going.noted)
+      (notes-map (λ c. (c ≡ b) × HasNoWrite (own_of mid.work) c) (λ c. Contains after.visited c × HasNoWrite (own_of old.work) c)
+      (λ c is. (subst (Contains after.visited) (sym is.0) (subst (λ (xs : List ℕ). Contains xs b) (sym v.visited) (Contains-push w.visited b)), subst (λ (own : Commit). HasNoWrite own c) going.own is.1))
+      mid.work.reads new.work.reads v.looks.noted);
   walk =
       subst (λ (xs : List ℕ). IsWalk pit.blocks (is_carried how t) (leads_to pit how) start (λ c. known_of new.work c) xs after.found) (sym v.visited)
       (subst (λ (xs : List ℕ). IsWalk pit.blocks (is_carried how t) (leads_to pit how) start (λ c. known_of new.work c) (w.visited ++ b ∷ []) xs) (sym v.found)
@@ -137,7 +140,7 @@ gone-first pit how start t old new w after less none visits =
     let begins : IsGoing pit how start t old old w = subst (IsGoing pit how start t old old) (sym none) (record {
       same = same-refl old;
       own = refl;
-      noted = notes-none (Contains []) old.work.reads old.work.reads refl;
+      noted = notes-none (λ c. Contains [] c × HasNoWrite (own_of old.work) c) old.work.reads old.work.reads refl;
       walk = walk-none pit.blocks (is_carried how t) (never-carried how t) (leads_to pit how) start (λ c. known_of old.work c);
     }) in
     record {
@@ -252,13 +255,13 @@ carry-finds pit how b t old mid new w i sorted past gone moved up puts known agr
         gone.done k a (omega (arith, within, past)) within (subst (λ (c : ℕ). Contains (leads_to pit how c) a) (sym (sym (get_or_default w.found k m 0 within) ∙ at)) leads)
 
 carry-notes : (pit : Pit) (how : Way) (b t : ℕ) (old mid new : TransactionState) (w : WalkState) (i : ℕ) (sorted members : List ℕ) → IsGone pit how b t old mid w i
-    → IsPermutation w.found sorted → PutsEach mid sorted t new → members ≡ sorted → NotesOnly (IsNextOf (leads_to pit how) b members) old.work.reads new.work.reads
+    → IsPermutation w.found sorted → PutsEach mid sorted t new → members ≡ sorted → NotesOnly (λ c. IsNextOf (leads_to pit how) b members c × HasNoWrite (own_of old.work) c) old.work.reads new.work.reads
 carry-notes pit how b t old mid new w i sorted members gone moved puts same =
     let kept : (m : ℕ) → Contains w.found m → Contains members m = λ m among. subst (λ (xs : List ℕ). Contains xs m) (sym same) (Contains-permutation w.found sorted m moved among) in
-    notes-trans (IsNextOf (leads_to pit how) b members) old.work.reads mid.work.reads new.work.reads
-    (notes-map (Contains w.visited) (IsNextOf (leads_to pit how) b members)
-    (λ c among. next-kept (leads_to pit how) b w.found members kept c (All-contains (IsNextOf (leads_to pit how) b w.found) w.visited c gone.going.walk.led among)) old.work.reads mid.work.reads gone.going.noted)
-    (notes-none (IsNextOf (leads_to pit how) b members) mid.work.reads new.work.reads puts.reads)
+    notes-trans (λ c. IsNextOf (leads_to pit how) b members c × HasNoWrite (own_of old.work) c) old.work.reads mid.work.reads new.work.reads
+    (notes-map (λ c. Contains w.visited c × HasNoWrite (own_of old.work) c) (λ c. IsNextOf (leads_to pit how) b members c × HasNoWrite (own_of old.work) c)
+    (λ c is. (next-kept (leads_to pit how) b w.found members kept c (All-contains (IsNextOf (leads_to pit how) b w.found) w.visited c gone.going.walk.led is.0), is.1)) old.work.reads mid.work.reads gone.going.noted)
+    (notes-none (λ c. IsNextOf (leads_to pit how) b members c × HasNoWrite (own_of old.work) c) mid.work.reads new.work.reads puts.reads)
 
 pub carry-does : (pit : Pit) (how : Way) (b t : ℕ) (old mid new : TransactionState) (w : WalkState) (i : ℕ) (sorted : List ℕ) → length w.found ≤ i → IsGone pit how b t old mid w i
     → IsPermutation w.found sorted → IsSorted nat_cmp sorted → PutsEach mid sorted t new → DoesStep pit old (step.Carry how b t) true new

@@ -1,8 +1,9 @@
 -- What becomes of jobs.
-use Rattle.std.specs.Prelude.{◌≡◌, ℕ, zero, suc, ◌<◌, ◌≤◌, ◌⊎◌, Bool, true, false, List, [], ◌∷◌, ◌++◌, length, All, Contains}
+use Rattle.std.specs.Prelude.{◌≡◌, ℕ, zero, suc, nat_eq, ◌<◌, ◌≤◌, ◌⊎◌, Bool, true, false, List, [], ◌∷◌, ◌++◌, length, None, All, Contains}
 use mathlib.Core.List.{IsPrefix}
 use Rattle.pit_model.specs.Pit.{Pit}
 use Rattle.pit_plan.specs.Schedule.{Commit, last_number}
+use Rattle.pit_keyed.specs.Keyed.{at_key}
 use Rattle.pit_desk.specs.History.{Answered, Call, commits_of}
 use Rattle.pit_desk.specs.declared.reply.Refusal.{Refusal}
 use Rattle.pit_desk.specs.declared.reply.Refusal.TheVariants as refusal
@@ -30,15 +31,20 @@ is_moved_reply reply.Withdrawn = false
 
 -- ---- entries of a job
 
--- over what is known, with the own writes laid over it, the step reads the block
+-- the changes have nothing of the block; what they have of one answers a read of it, and that isn't noted
+abbrev pub HasNoWrite : Commit → ℕ → Type 0
+HasNoWrite own block = at_key nat_eq own.writes block ≡ None
+
+-- over what is known, with the own writes laid over it, the step reads the block, which isn't among the own writes
 abbrev pub IsReadOver : Pit → Known → Commit → Step → ℕ → Type 0
-IsReadOver pit known own (step.Read b) block = block ≡ b
+IsReadOver pit known own (step.Read b) block = (block ≡ b) × HasNoWrite own block
 IsReadOver pit known own (step.Put b period) block = ⊥
 IsReadOver pit known own (step.Clear b) block = ⊥
-IsReadOver pit known own (step.Shift b is_back by) block = block ≡ b
+IsReadOver pit known own (step.Shift b is_back by) block = (block ≡ b) × HasNoWrite own block
 IsReadOver pit known own (step.Bench height period) block = ⊥
-IsReadOver pit known own (step.Expect b period) block = block ≡ b
-IsReadOver pit known own (step.Carry how b period) block = IsNextOf (leads_to pit how) b (members_of pit how (λ c. seen known own c) b period) block
+IsReadOver pit known own (step.Expect b period) block = (block ≡ b) × HasNoWrite own block
+IsReadOver pit known own (step.Carry how b period) block =
+    IsNextOf (leads_to pit how) b (members_of pit how (λ c. seen known own c) b period) block × HasNoWrite own block
 IsReadOver pit known own (step.Revise resource period upper) block = ⊥
 
 -- it goes on, and this is so of the changes so far

@@ -7,7 +7,7 @@ use Rattle.pit_desk.specs.History.{Answered, commits_of}
 use Rattle.pit_script.specs.declared.step.Step.{Step}
 use Rattle.pit_share.specs.Planners.{TransactionState, SeesOn}
 use Rattle.pit_job.specs.Effect.{Agrees, Known, Effect, changes, nothing, read_in, with_written, step_after, steps_after, changes_after}
-use Rattle.pit_job.specs.Outcomes.{IsMovedBlock, IsReadOver, IsReadAmong}
+use Rattle.pit_job.specs.Outcomes.{IsMovedBlock, HasNoWrite, IsReadOver, IsReadAmong}
 use Rattle.pit_job.specs.declared.doing.StepStop.{StepStop}
 use Rattle.pit_job.specs.declared.doing.StepStop.TheVariants as stop
 
@@ -33,12 +33,12 @@ pub record NotesOnly (IsOne : ℕ → Type 0) (old new : List (ℕ × Option ℕ
   pub grown : new ≡ old ++ more
   pub each : All (λ read. IsOne read.0) more
 
--- a block was looked up: it is then known, and nothing else changed
+-- a block was looked up: it is then known, and nothing else changed; it was noted at most where it isn't among the own writes
 pub record LooksUp (old : TransactionState) (b : ℕ) (period : Option ℕ) (new : TransactionState) : Type 0 where
   pub same : Same old new
   pub own : own_of new.work ≡ own_of old.work
   pub known : known_of new.work b ≡ Some period
-  pub noted : NotesOnly (λ block. block ≡ b) old.work.reads new.work.reads
+  pub noted : NotesOnly (λ block. (block ≡ b) × HasNoWrite (own_of old.work) block) old.work.reads new.work.reads
 
 -- over whatever holds the reads, the step does what was done, and reads what it noted; it changes nothing where it fails
 pub record DoesStep (pit : Pit) (old : TransactionState) (s : Step) (goes : Bool) (new : TransactionState) : Type 0 where

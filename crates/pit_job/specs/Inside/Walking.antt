@@ -7,6 +7,7 @@ use Rattle.pit_share.specs.Planners.{TransactionState}
 use Rattle.pit_script.specs.declared.step.Way.{Way}
 use Rattle.pit_job.specs.Cones.{in_round, IsNextOf}
 use Rattle.pit_job.specs.Effect.{Known, is_carried, leads_to, with_bench}
+use Rattle.pit_job.specs.Outcomes.{HasNoWrite}
 use Rattle.pit_job.specs.Inside.Doing.{own_of, Same, LooksUp, NotesOnly}
 
 -- Visited are blocks that are known, found the members among them: all that are wanted, each once. No block is visited but the start and what is led to.
@@ -42,11 +43,11 @@ VisitsEach how t old walk [] new after = (new ≡ old) × (after ≡ walk)
 VisitsEach how t old walk (b ∷ bs) new after =
     (mid : TransactionState) × (between : WalkState) × Visits how t old walk b mid between × VisitsEach how t mid between bs new after
 
--- Of a transaction that changes nothing meanwhile: what it has noted is of blocks that were visited.
+-- Of a transaction that changes nothing meanwhile: what it has noted is of blocks that were visited, and not among the own writes.
 pub record IsGoing (pit : Pit) (how : Way) (start t : ℕ) (old new : TransactionState) (now : WalkState) : Type 0 where
   pub same : Same old new
   pub own : own_of new.work ≡ own_of old.work
-  pub noted : NotesOnly (Contains now.visited) old.work.reads new.work.reads
+  pub noted : NotesOnly (λ c. Contains now.visited c × HasNoWrite (own_of old.work) c) old.work.reads new.work.reads
   pub walk : IsWalk pit.blocks (is_carried how t) (leads_to pit how) start (λ c. known_of new.work c) now.visited now.found
 
 -- it has begun, and visited all that the first i that it found lead to
