@@ -21,7 +21,7 @@ use Rattle.pit_script.specs.declared.step.Way.TheVariants as way
 use Rattle.pit_job.specs.Cones.{in_round, cone_of, all_led, Reaches, here, further}
 use Rattle.pit_job.specs.Effect.{changes, carried, seen, whole, with_written, with_bench, is_late, is_early, is_carried, leads_to, step_after}
 use Rattle.pit_job.specs.Carried.{laid_over, members_over, AreMembers, IsPlaced, KeepsOrder}
-use Rattle.pit_job.proofs.Cones.{both, same-from, is_in-from, from-is_in, all-range, round-least, round-late, cone-starts, cone-closed, cone-has, has-cone, cone-reached, cone-ancestors, filter-has, range-has}
+use Rattle.pit_job.proofs.Cones.{both, same-from, is_in-from, from-is_in, all-range, round-least, round-wanted, cone-starts, cone-closed, cone-has, has-cone, cone-reached, cone-ancestors, filter-has, range-has}
 use Rattle.pit_job.proofs.Walks.{led-from}
 
 -- ---- writes
@@ -142,7 +142,7 @@ are-members pit sound schedule own how b t less =
     record {
       rising = rising-cone pit.blocks (λ c. is_carried how t (seen (whole schedule) own c)) (leads_to pit how) b;
       each = each-of (λ m. is_carried how t (Some (laid_over schedule own m)) ≡ true) (members_over pit how schedule own b t) (λ m among.
-          sym (late-over schedule own how t m) ∙ round-late pit.blocks late (leads_to pit how) b pit.blocks m (has-cone pit.blocks late (leads_to pit how) b m among).1);
+          sym (late-over schedule own how t m) ∙ round-wanted pit.blocks late (leads_to pit how) b pit.blocks m (has-cone pit.blocks late (leads_to pit how) b m among).1);
       begins = λ is. cone-has pit.blocks late (leads_to pit how) b b less (cone-starts pit.blocks late (leads_to pit how) b (late-over schedule own how t b ∙ is));
       closed = λ m a among leads is.
           let inside = leads-inside pit sound how m a leads in
@@ -178,7 +178,7 @@ pub members-reached : (pit : Pit) → IsSound pit → (schedule : ℕ → Option
 members-reached pit sound schedule own how b t c among =
     let late : ℕ → Bool = λ x. is_carried how t (seen (whole schedule) own x) in
     let found = (has-cone pit.blocks late (leads_to pit how) b c among).1 in
-    (cone-reached pit.blocks late (leads_to pit how) b pit.blocks c found, sym (late-over schedule own how t c) ∙ round-late pit.blocks late (leads_to pit how) b pit.blocks c found)
+    (cone-reached pit.blocks late (leads_to pit how) b pit.blocks c found, sym (late-over schedule own how t c) ∙ round-wanted pit.blocks late (leads_to pit how) b pit.blocks c found)
 
 pub reached-members : (pit : Pit) → IsSound pit → (schedule : ℕ → Option ℕ) (own : Commit) (how : Way) (b t : ℕ) → b < pit.blocks → IsOrdered pit (laid_over schedule own) → (c : ℕ)
     → Reaches (leads_to pit how) b c → is_carried how t (Some (laid_over schedule own c)) ≡ true → Contains (members_over pit how schedule own b t) c

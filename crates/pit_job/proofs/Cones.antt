@@ -130,69 +130,69 @@ pub filter-on : (p q : ℕ → Bool) (xs : List ℕ) → All (λ x. p x ≡ q x)
 filter-on p q [] same = refl
 filter-on p q (x ∷ xs) same = rw (All-head (λ x. p x ≡ q x) x xs same, filter-on p q xs (All-tail (λ x. p x ≡ q x) x xs same)) refl
 
-module _ (blocks : ℕ) (late : ℕ → Bool) (next : ℕ → List ℕ) (start : ℕ) where
+module _ (blocks : ℕ) (wanted : ℕ → Bool) (next : ℕ → List ℕ) (start : ℕ) where
   abbrev led : ℕ → ℕ → ℕ → Bool
-  led n b m = in_round blocks late next start n m && list_any (λ a. eqb a b) (next m)
+  led n b m = in_round blocks wanted next start n m && list_any (λ a. eqb a b) (next m)
 
-  pub round-start : late start ≡ true → in_round blocks late next start zero start ≡ true
+  pub round-start : wanted start ≡ true → in_round blocks wanted next start zero start ≡ true
   unfolding in_round
-  round-start is = both (eqb start start) (late start) (eq-eqb start start refl) is
+  round-start is = both (eqb start start) (wanted start) (eq-eqb start start refl) is
 
-  pub round-more : (n b : ℕ) → in_round blocks late next start n b ≡ true → in_round blocks late next start (suc n) b ≡ true
+  pub round-more : (n b : ℕ) → in_round blocks wanted next start n b ≡ true → in_round blocks wanted next start (suc n) b ≡ true
   unfolding in_round
-  round-more n b is = or-left (in_round blocks late next start n b) (late b && list_any (led n b) (range_with_len 0 blocks)) is
+  round-more n b is = or-left (in_round blocks wanted next start n b) (wanted b && list_any (led n b) (range_with_len 0 blocks)) is
 
-  pub round-step : (n b m : ℕ) → late b ≡ true → m < blocks → Contains (next m) b → in_round blocks late next start n m ≡ true → in_round blocks late next start (suc n) b ≡ true
+  pub round-step : (n b m : ℕ) → wanted b ≡ true → m < blocks → Contains (next m) b → in_round blocks wanted next start n m ≡ true → in_round blocks wanted next start (suc n) b ≡ true
   unfolding in_round
   round-step n b m is less among in_it =
-      or-right (in_round blocks late next start n b) (late b && list_any (led n b) (range_with_len 0 blocks))
-      (both (late b) (list_any (led n b) (range_with_len 0 blocks)) is
-      (some-any (led n b) (range_with_len 0 blocks) m (range-has blocks m less) (both (in_round blocks late next start n m) (list_any (λ a. eqb a b) (next m)) in_it (is_in-from b (next m) among))))
+      or-right (in_round blocks wanted next start n b) (wanted b && list_any (led n b) (range_with_len 0 blocks))
+      (both (wanted b) (list_any (led n b) (range_with_len 0 blocks)) is
+      (some-any (led n b) (range_with_len 0 blocks) m (range-has blocks m less) (both (in_round blocks wanted next start n m) (list_any (λ a. eqb a b) (next m)) in_it (is_in-from b (next m) among))))
 
-  pub round-first : (b : ℕ) → in_round blocks late next start zero b ≡ true → (b ≡ start) × (late b ≡ true)
+  pub round-first : (b : ℕ) → in_round blocks wanted next start zero b ≡ true → (b ≡ start) × (wanted b ≡ true)
   unfolding in_round
-  round-first b is = (eqb-true b start (left (eqb b start) (late b) is), right (eqb b start) (late b) is)
+  round-first b is = (eqb-true b start (left (eqb b start) (wanted b) is), right (eqb b start) (wanted b) is)
 
   -- a later one has a block of an earlier round before it
   pub record IsLed (n b : ℕ) : Type 0 where
-    pub is : late b ≡ true
+    pub is : wanted b ≡ true
     pub by : ℕ
     pub less : by < blocks
     pub among : Contains (next by) b
-    pub found : in_round blocks late next start n by ≡ true
+    pub found : in_round blocks wanted next start n by ≡ true
 
-  pub round-cases : (n b : ℕ) → in_round blocks late next start (suc n) b ≡ true → (in_round blocks late next start n b ≡ true) ⊎ IsLed n b
+  pub round-cases : (n b : ℕ) → in_round blocks wanted next start (suc n) b ≡ true → (in_round blocks wanted next start n b ≡ true) ⊎ IsLed n b
   unfolding in_round
-  round-cases n b is = elim (either (in_round blocks late next start n b) (late b && list_any (led n b) (range_with_len 0 blocks)) is) [
+  round-cases n b is = elim (either (in_round blocks wanted next start n b) (wanted b && list_any (led n b) (range_with_len 0 blocks)) is) [
     | inl before ↦ inl before
     | inr now ↦
-        let m = any-some (led n b) (range_with_len 0 blocks) (right (late b) (list_any (led n b) (range_with_len 0 blocks)) now) in
+        let m = any-some (led n b) (range_with_len 0 blocks) (right (wanted b) (list_any (led n b) (range_with_len 0 blocks)) now) in
         inr record {
-          is = left (late b) (list_any (led n b) (range_with_len 0 blocks)) now;
+          is = left (wanted b) (list_any (led n b) (range_with_len 0 blocks)) now;
           by = m.0;
           less = in-range blocks m.0 m.1;
-          among = from-is_in b (next m.0) (right (in_round blocks late next start n m.0) (list_any (λ a. eqb a b) (next m.0)) m.2);
-          found = left (in_round blocks late next start n m.0) (list_any (λ a. eqb a b) (next m.0)) m.2;
+          among = from-is_in b (next m.0) (right (in_round blocks wanted next start n m.0) (list_any (λ a. eqb a b) (next m.0)) m.2);
+          found = left (in_round blocks wanted next start n m.0) (list_any (λ a. eqb a b) (next m.0)) m.2;
         }
   ]
 
-  -- any set that has the start, where it is late, and whatever is late and that a member leads to, has all rounds
-  pub round-least : (X : ℕ → Type 0) → (late start ≡ true → X start) → ((b m : ℕ) → late b ≡ true → m < blocks → Contains (next m) b → X m → X b)
-      → (n b : ℕ) → in_round blocks late next start n b ≡ true → X b
-  round-least X first more zero b is = let h = round-first b is in subst X (sym h.0) (first (subst (λ c. late c ≡ true) h.0 h.1))
+  -- any set that has the start, where it is wanted, and whatever is wanted and that a member leads to, has all rounds
+  pub round-least : (X : ℕ → Type 0) → (wanted start ≡ true → X start) → ((b m : ℕ) → wanted b ≡ true → m < blocks → Contains (next m) b → X m → X b)
+      → (n b : ℕ) → in_round blocks wanted next start n b ≡ true → X b
+  round-least X first more zero b is = let h = round-first b is in subst X (sym h.0) (first (subst (λ c. wanted c ≡ true) h.0 h.1))
   round-least X first more (suc n) b is = elim (round-cases n b is) [
     | inl before ↦ round-least X first more n b before
     | inr now ↦ more b now.by now.is now.less now.among (round-least X first more n now.by now.found)
   ]
 
-  pub round-late : (n b : ℕ) → in_round blocks late next start n b ≡ true → late b ≡ true
-  round-late n b is = round-least (λ c. late c ≡ true) (λ h. h) (λ b m h less among before. h) n b is
+  pub round-wanted : (n b : ℕ) → in_round blocks wanted next start n b ≡ true → wanted b ≡ true
+  round-wanted n b is = round-least (λ c. wanted c ≡ true) (λ h. h) (λ b m h less among before. h) n b is
 
   -- ---- they come to an end
 
   -- nothing below so many blocks is new
   abbrev pub Stable : ℕ → Type 0
-  Stable n = (b : ℕ) → b < blocks → in_round blocks late next start (suc n) b ≡ true → in_round blocks late next start n b ≡ true
+  Stable n = (b : ℕ) → b < blocks → in_round blocks wanted next start (suc n) b ≡ true → in_round blocks wanted next start n b ≡ true
 
   stable-more : (n : ℕ) → Stable n → Stable (suc n)
   stable-more n stable b less is = elim (round-cases (suc n) b is) [
@@ -200,13 +200,13 @@ module _ (blocks : ℕ) (late : ℕ → Bool) (next : ℕ → List ℕ) (start :
     | inr now ↦ round-step n b now.by now.is now.less now.among (stable now.by now.less now.found)
   ]
 
-  grows-or-stays : (n : ℕ) → (n ≤ length (filter (λ b. in_round blocks late next start n b) (range_with_len 0 blocks))) ⊎ Stable n
+  grows-or-stays : (n : ℕ) → (n ≤ length (filter (λ b. in_round blocks wanted next start n b) (range_with_len 0 blocks))) ⊎ Stable n
   grows-or-stays zero = inl (omega arith)
   grows-or-stays (suc n) = elim (grows-or-stays n) [
     | inr stable ↦ inr (stable-more n stable)
-    | inl so_far ↦ elim (kept-more (λ b. in_round blocks late next start n b) (λ b. in_round blocks late next start (suc n) b) (round-more n) (range_with_len 0 blocks)) [
+    | inl so_far ↦ elim (kept-more (λ b. in_round blocks wanted next start n b) (λ b. in_round blocks wanted next start (suc n) b) (round-more n) (range_with_len 0 blocks)) [
       | inl same ↦ inr (stable-more n
-          (λ b less. at-range (λ x. in_round blocks late next start (suc n) x ≡ true → in_round blocks late next start n x ≡ true) blocks b same.0 less))
+          (λ b less. at-range (λ x. in_round blocks wanted next start (suc n) x ≡ true → in_round blocks wanted next start n x ≡ true) blocks b same.0 less))
       | inr more ↦ inl (omega (arith, so_far, more))
     ]
   ]
@@ -215,45 +215,45 @@ module _ (blocks : ℕ) (late : ℕ → Bool) (next : ℕ → List ℕ) (start :
   pub all-found : Stable blocks
   all-found = elim (grows-or-stays blocks) [
     | inr stable ↦ stable
-    | inl many ↦ λ b less is. at-range (λ x. in_round blocks late next start blocks x ≡ true) blocks b
-        (kept-all (λ b. in_round blocks late next start blocks b) (range_with_len 0 blocks) (let long = length-range_with_len 0 blocks in omega (arith, many))) less
+    | inl many ↦ λ b less is. at-range (λ x. in_round blocks wanted next start blocks x ≡ true) blocks b
+        (kept-all (λ b. in_round blocks wanted next start blocks b) (range_with_len 0 blocks) (let long = length-range_with_len 0 blocks in omega (arith, many))) less
   ]
 
   -- so the set is closed
-  pub cone-closed : (b m : ℕ) → b < blocks → late b ≡ true → m < blocks → Contains (next m) b → in_round blocks late next start blocks m ≡ true → in_round blocks late next start blocks b ≡ true
+  pub cone-closed : (b m : ℕ) → b < blocks → wanted b ≡ true → m < blocks → Contains (next m) b → in_round blocks wanted next start blocks m ≡ true → in_round blocks wanted next start blocks b ≡ true
   cone-closed b m less is before among in_it = all-found b less (round-step blocks b m is before among in_it)
 
-  round-up : (n : ℕ) → in_round blocks late next start zero start ≡ true → in_round blocks late next start n start ≡ true
+  round-up : (n : ℕ) → in_round blocks wanted next start zero start ≡ true → in_round blocks wanted next start n start ≡ true
   round-up zero is = is
   round-up (suc n) is = round-more n start (round-up n is)
 
-  pub cone-starts : late start ≡ true → in_round blocks late next start blocks start ≡ true
+  pub cone-starts : wanted start ≡ true → in_round blocks wanted next start blocks start ≡ true
   cone-starts is = round-up blocks (round-start is)
 
   -- ---- the members
 
-  pub cone-has : (b : ℕ) → b < blocks → in_round blocks late next start blocks b ≡ true → Contains (cone_of blocks late next start) b
+  pub cone-has : (b : ℕ) → b < blocks → in_round blocks wanted next start blocks b ≡ true → Contains (cone_of blocks wanted next start) b
   unfolding cone_of
-  cone-has b less is = filter-has (λ b. in_round blocks late next start blocks b) (range_with_len 0 blocks) b (range-has blocks b less) is
+  cone-has b less is = filter-has (λ b. in_round blocks wanted next start blocks b) (range_with_len 0 blocks) b (range-has blocks b less) is
 
-  pub has-cone : (b : ℕ) → Contains (cone_of blocks late next start) b → (b < blocks) × (in_round blocks late next start blocks b ≡ true)
+  pub has-cone : (b : ℕ) → Contains (cone_of blocks wanted next start) b → (b < blocks) × (in_round blocks wanted next start blocks b ≡ true)
   unfolding cone_of
   has-cone b among = (
-    All-contains (λ x. x < blocks) (filter (λ b. in_round blocks late next start blocks b) (range_with_len 0 blocks)) b
-        (All-filter (λ b. in_round blocks late next start blocks b) (λ x. x < blocks) (range_with_len 0 blocks) (all-range (λ x. x < blocks) blocks (λ b less. less))) among,
-    All-contains (λ x. in_round blocks late next start blocks x ≡ true) (filter (λ b. in_round blocks late next start blocks b) (range_with_len 0 blocks)) b
-        (filter_passes (λ b. in_round blocks late next start blocks b) (range_with_len 0 blocks)) among,
+    All-contains (λ x. x < blocks) (filter (λ b. in_round blocks wanted next start blocks b) (range_with_len 0 blocks)) b
+        (All-filter (λ b. in_round blocks wanted next start blocks b) (λ x. x < blocks) (range_with_len 0 blocks) (all-range (λ x. x < blocks) blocks (λ b less. less))) among,
+    All-contains (λ x. in_round blocks wanted next start blocks x ≡ true) (filter (λ b. in_round blocks wanted next start blocks b) (range_with_len 0 blocks)) b
+        (filter_passes (λ b. in_round blocks wanted next start blocks b) (range_with_len 0 blocks)) among,
   )
 
   -- ---- what a planner is told of it
 
   -- the start reaches each member
-  pub cone-reached : (n b : ℕ) → in_round blocks late next start n b ≡ true → Reaches next start b
+  pub cone-reached : (n b : ℕ) → in_round blocks wanted next start n b ≡ true → Reaches next start b
   cone-reached n b is = round-least (Reaches next start) (λ h. here) (λ b m h less among before. further m b before among) n b is
 
-  -- where whatever leads to something late is late itself, the members are all that is late and that the start reaches
-  pub cone-ancestors : ((m b : ℕ) → Contains (next m) b → late b ≡ true → late m ≡ true) → ((m b : ℕ) → Contains (next m) b → (m < blocks) × (b < blocks)) → (b : ℕ) → Reaches next start b
-      → late b ≡ true → in_round blocks late next start blocks b ≡ true
+  -- where whatever leads to something wanted is wanted itself, the members are all that is wanted and that the start reaches
+  pub cone-ancestors : ((m b : ℕ) → Contains (next m) b → wanted b ≡ true → wanted m ≡ true) → ((m b : ℕ) → Contains (next m) b → (m < blocks) × (b < blocks)) → (b : ℕ) → Reaches next start b
+      → wanted b ≡ true → in_round blocks wanted next start blocks b ≡ true
   cone-ancestors down inside b here is = cone-starts is
   cone-ancestors down inside b (further m b' before among) is =
       cone-closed b m (inside m b among).1 is (inside m b among).0 among (cone-ancestors down inside m before (down m b among is))

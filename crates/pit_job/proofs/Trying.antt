@@ -99,7 +99,7 @@ abort-has : (pit : Pit) (task : Job) (n : ℕ) (old new : TransactionState) → 
 unfolding effect
 abort-has pit task n old new fresh is does = rw is (ap (ended ending.Abort) (steps-come pit task n old new true fresh does))
 
--- and where a shift failed
+-- and where a step failed
 failed-has : (pit : Pit) (task : Job) (n : ℕ) (old new : TransactionState) → IsFresh n old → DoesSteps pit old task.steps false new → HasEffect pit task (work_call new.work act.Withdraw)
 unfolding effect
 failed-has pit task n old new fresh does = by task.end (steps-come pit task n old new false fresh does)
@@ -166,7 +166,7 @@ aborted-tries pit max_entries task other n old new goes p t named how fresh is d
     let all = subst (λ (b : Bool). DoesSteps pit old task.steps b new) is does in
     tries-same pit max_entries task other n old.planner p t named (ends-tries pit max_entries task n old new act.Withdraw p t fresh all.same (call-of pit task n old new true act.Withdraw fresh all (abort-has pit task n old new fresh how all)) ends)
 
--- and where a shift failed
+-- and where a step failed
 pub failed-tries : (pit : Pit) (max_entries : ℕ) (task other : Job) (n : ℕ) (old new : TransactionState) (goes : Bool) (p : PlannerState) (t : Tried) → other ≡ task → IsFresh n old
     → goes ≡ false → DoesSteps pit old task.steps goes new → ((es : List Answered) × Grows new.planner es p × EndsBy pit max_entries act.Withdraw new.work p.seen es t)
     → (es : List Answered) × Grows old.planner es p × Tries pit max_entries other n old.planner.seen p.seen es t

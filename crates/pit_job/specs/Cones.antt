@@ -2,12 +2,12 @@
 use Rattle.std.specs.Prelude.{◌≡◌, ◌⊎◌, ℕ, zero, suc, ◌==◌, ◌&&◌, ◌||◌, Bool, List}
 use Rattle.std.specs.List.{Contains, filter, list_any, list_all, range_with_len}
 
-module _ (blocks : ℕ) (late : ℕ → Bool) (next : ℕ → List ℕ) (start : ℕ) where
-  -- Found in no round more than n: the start, where it is late, and in each further round whatever is late and among what a block leads to that was
+module _ (blocks : ℕ) (wanted : ℕ → Bool) (next : ℕ → List ℕ) (start : ℕ) where
+  -- Found in no round more than n: the start, where it is wanted, and in each further round whatever is wanted and among what a block leads to that was
   -- found before.
   unfoldable pub in_round : ℕ → ℕ → Bool
-  in_round zero b = (b == start) && late b
-  in_round (suc n) b = in_round n b || (late b && list_any (λ m. in_round n m && list_any (λ a. a == b) (next m)) (range_with_len 0 blocks))
+  in_round zero b = (b == start) && wanted b
+  in_round (suc n) b = in_round n b || (wanted b && list_any (λ m. in_round n m && list_any (λ a. a == b) (next m)) (range_with_len 0 blocks))
 
   -- The members, rising. In as many rounds as there are blocks all are found.
   unfoldable pub cone_of : List ℕ

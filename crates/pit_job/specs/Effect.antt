@@ -22,8 +22,8 @@ use Rattle.pit_job.specs.Shifts.{shifted}
 abbrev pub Known : Type 0
 Known = ℕ → Option (Option ℕ)
 
--- what steps come to: the writes and revisions so far, each in the order of first use; or they read a block that isn't known; or a shift failed,
--- or the job gives up
+-- what steps come to: the writes and revisions so far, each in the order of first use; or they read a block that isn't known; or a shift or
+-- an expectation failed, or the job gives up
 pub data Effect : Type 0 where
   changes : Commit → Effect
   unread : Effect
@@ -64,7 +64,7 @@ moved_by periods own b is_back by None = unread
 moved_by periods own b is_back by (Some None) = nothing
 moved_by periods own b is_back by (Some (Some t)) = put_at own b (shifted periods is_back by t)
 
--- a block is read, and the job goes on where it has this period, or none
+-- a block is read, and the job goes on only where what it holds is just this: a period, or none
 abbrev pub same_period : Option ℕ → Option ℕ → Bool
 same_period None None = true
 same_period None (Some u) = false

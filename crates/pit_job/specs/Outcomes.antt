@@ -102,7 +102,7 @@ pub record IsMovedItem (pit : Pit) (task : Job) (n start block version : ℕ) (e
   pub begun : e.call.start ≡ start
   pub answer : e.reply ≡ reply.Refused (refusal.Moved block version)
 
--- A try that ended by Moved, of a block that a step reads: it made one entry, which was refused so, or none. The commit of this number has then been
+-- A try that ended by Moved, of a block that a step may read: it made one entry, which was refused so, or none. The commit of this number has then been
 -- seen, and is past the start of the try, which began after no fewer commits than had been seen before.
 pub record IsMovedTry (pit : Pit) (task : Job) (n : ℕ) (old new es : List Answered) (block version : ℕ) : Type 0 where
   pub start : ℕ

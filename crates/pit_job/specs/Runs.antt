@@ -62,7 +62,7 @@ pub record LeftOff (pit : Pit) (task : Job) (retries n : ℕ) (old new es : List
   pub few : before ≤ retries
 
 -- The run ended before job n, of these steps, had its outcome. Where that is since the history is full, the planner has seen so many entries; where
--- the planner wasn't let in at the board, a step reads a block.
+-- the planner wasn't let in at the board, a step may read a block.
 abbrev pub EndedBefore : Pit → ℕ → List Step → List Answered → ℕ → RunEnd → Type 0
 EndedBefore pit max_entries steps seen n end.Whole = ⊥
 EndedBefore pit max_entries steps seen n (end.Full job) = (job ≡ n) × (max_entries ≤ length seen)

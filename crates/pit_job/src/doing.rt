@@ -25,7 +25,7 @@ pub(crate) enum StepStop {
     NoEntry,
 }
 
-/// Does the steps in order, and says whether all of them were done. Where not, a shift failed.
+/// Does the steps in order, and says whether all of them were done. Where not, a shift or an expectation failed.
 pub(crate) fn do_steps<
     'a,
     S: Session,
@@ -47,7 +47,7 @@ pub(crate) fn do_steps<
     Ok(true)
 }
 
-/// Does a step, and says whether it was done. Where not, a shift failed.
+/// Does a step, and says whether it was done. Where not, a shift or an expectation failed.
 fn do_step<'a, S: Session, R: Wait + Drop, A: Allocator + Copy + Drop, B: Allocator + Copy + Drop>(
     t: &mut Transaction<'a, S, R, A>,
     benches: &Benches<B>,
@@ -88,7 +88,7 @@ fn read<'a, S: Session, R: Wait + Drop, A: Allocator + Copy + Drop>(
     Ok(true)
 }
 
-/// Reads a block, and says whether it has this period, or none.
+/// Reads a block, and says whether what it holds is just this: a period, or none.
 fn expect<'a, S: Session, R: Wait + Drop, A: Allocator + Copy + Drop>(
     t: &mut Transaction<'a, S, R, A>,
     b: u32,

@@ -30,7 +30,7 @@ pub enum Tried {
 pub enum Outcome {
     /// Its last try made the commit of this number, counted from 1.
     Committed { number: u32, tries: u32 },
-    /// It ends by `abort`, or a shift of it failed.
+    /// It ends by `abort`, or a shift or an expectation of it failed.
     Withdrawn { tries: u32 },
     /// Its last try was refused, for this reason: Moved only where no retry was left.
     Refused { refusal: Refusal, tries: u32 },

@@ -42,7 +42,7 @@ tried_at met.NoMemory = tried.Stopped stop.NoMemory
 tried_at met.NoEntry = tried.Stopped stop.NoEntry
 
 -- A try of these steps stopped. Where that is since the history is full, its planner has seen so many entries; where there was no entry at the board,
--- a step reads a block.
+-- a step may read a block.
 abbrev pub IsStop : Pit → ℕ → List Step → List Answered → JobStop → Type 0
 IsStop pit max_entries steps seen stop.Full = max_entries ≤ length seen
 IsStop pit max_entries steps seen stop.NoMemory = ⊤
