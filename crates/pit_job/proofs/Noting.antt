@@ -5,8 +5,9 @@ use Rattle.pit_model.specs.Pit.{Pit}
 use Rattle.pit_plan.specs.Schedule.{Commit}
 use Rattle.pit_script.specs.declared.step.Step.{Step}
 use Rattle.pit_script.specs.declared.step.Step.TheVariants as step
-use Rattle.pit_job.specs.Cones.{Reaches, here, further}
-use Rattle.pit_job.specs.Effect.{Known, Effect, changes, unread, nothing, seen, is_carried, leads_to, step_after}
+use Rattle.pit_script.specs.declared.step.Way.{Way}
+use Rattle.pit_job.specs.Cones.{IsNextOf, Reaches, here, further}
+use Rattle.pit_job.specs.Effect.{Known, Effect, changes, unread, nothing, seen, is_carried, leads_to, members_of, step_after}
 use Rattle.pit_job.specs.Outcomes.{IfGoesOn, IsReadOver, IsReadAmong, IsReadBy, IsRead}
 use Rattle.pit_job.specs.Inside.Doing.{NotesOnly}
 use Rattle.pit_job.proofs.Cones.{cone-reached, has-cone}
@@ -34,6 +35,13 @@ read-first pit s ss b reads = record { reader = s; among = (0, omega arith, refl
 pub read-later : (pit : Pit) (s : Step) (ss : List Step) (b : ℕ) → IsRead pit ss b → IsRead pit (s ∷ ss) b
 read-later pit s ss b read = record { reader = read.reader; among = Contains-append_right (s ∷ []) ss read.reader read.among; reads = read.reads }
 
+-- what a line reads over what is known, its block leads to
+pub next-reached : (pit : Pit) (how : Way) (at : Known) (c t b : ℕ) → IsNextOf (leads_to pit how) c (members_of pit how at c t) b → Reaches (leads_to pit how) c b
+next-reached pit how at c t b (inl same) = subst (Reaches (leads_to pit how) c) (sym same) here
+next-reached pit how at c t b (inr (m, among, leads)) =
+    let wanted : ℕ → Bool = λ x. is_carried how t (at x) in
+    further m b (cone-reached pit.blocks wanted (leads_to pit how) c pit.blocks m (has-cone pit.blocks wanted (leads_to pit how) c m among).1) leads
+
 -- what a step reads over what is known, it may read
 over-read : (pit : Pit) (known : Known) (own : Commit) (s : Step) (b : ℕ) → IsReadOver pit known own s b → IsReadBy pit b s
 over-read pit known own (step.Read c) b is = is.0
@@ -42,10 +50,7 @@ over-read pit known own (step.Clear c) b is = is
 over-read pit known own (step.Shift c is_back by) b is = is.0
 over-read pit known own (step.Bench height t) b is = is
 over-read pit known own (step.Expect c period) b is = is.0
-over-read pit known own (step.Carry how c t) b (inl same, _) = subst (Reaches (leads_to pit how) c) (sym same) here
-over-read pit known own (step.Carry how c t) b (inr (m, among, leads), _) =
-    let late : ℕ → Bool = λ x. is_carried how t (seen known own x) in
-    further m b (cone-reached pit.blocks late (leads_to pit how) c pit.blocks m (has-cone pit.blocks late (leads_to pit how) c m among).1) leads
+over-read pit known own (step.Carry how c t) b is = next-reached pit how (λ x. seen known own x) c t b is.0
 over-read pit known own (step.Revise r t upper) b is = is
 
 goes-on : (e : Effect) (P : Commit → Type 0) (Q : Type 0) → ((own : Commit) → P own → Q) → IfGoesOn e P → Q

@@ -21,7 +21,7 @@ use Rattle.pit_job.specs.declared.doing.StepStop.{StepStop}
 use Rattle.pit_job.specs.declared.doing.StepStop.TheVariants as stop
 use Rattle.pit_job.proofs.Agreeing.{seen-agrees}
 use Rattle.pit_job.specs.Outcomes.{IfGoesOn, HasNoWrite, IsReadOver, IsReadAmong}
-use Rattle.pit_job.specs.Inside.Doing.{own_of, Same, LooksUp, Puts, DoesStep, DoesSteps}
+use Rattle.pit_job.specs.Inside.Doing.{own_of, Same, LooksUp, Puts, DoesStep, DoesSteps, IsUnseen}
 use Rattle.pit_job.proofs.Noting.{notes-none, notes-one, notes-map, notes-trans}
 use Rattle.pit_job.proofs.Seeing.{sees-same, sees-trans}
 
@@ -61,6 +61,12 @@ same-trans a b c f g = record {
   start = g.start ∙ f.start;
   reads = Agrees-trans (read_in a.work.reads) (read_in b.work.reads) (read_in c.work.reads) f.reads g.reads;
 }
+
+-- a look that was refused leaves what was noted
+pub unseen-reads : (old new : TransactionState) (b : ℕ) (s : StepStop) → IsUnseen old b s new → Agrees (read_in old.work.reads) (read_in new.work.reads)
+unseen-reads old new b (stop.Moved block version) same = subst (λ (w : Sets). Agrees (read_in old.work.reads) (read_in w.reads)) (sym same) (Agrees-refl (read_in old.work.reads))
+unseen-reads old new b stop.NoMemory same = subst (λ (w : Sets). Agrees (read_in old.work.reads) (read_in w.reads)) (sym same.1) (Agrees-refl (read_in old.work.reads))
+unseen-reads old new b stop.NoEntry same = subst (λ (t : TransactionState). Agrees (read_in old.work.reads) (read_in t.work.reads)) (sym same) (Agrees-refl (read_in old.work.reads))
 
 -- a block that was known
 pub looks-known : (old new : TransactionState) (b : ℕ) (period : Option ℕ) → new ≡ old → known_of old.work b ≡ Some period → LooksUp old b period new

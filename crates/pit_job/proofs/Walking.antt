@@ -1,6 +1,6 @@
 -- A walk through a transaction.
 use Rattle.std.proofs.Common.{inl, inr, ◌≡◌, ℕ, zero, suc, nat_eq, ◌+◌, ◌<◌, ◌≤◌, length, get_or, drop, Bool, true, false, List, [], ◌∷◌, ◌++◌, Some, None, refl, sym, ap, subst, ◌∙◌, arith, append-nil, append_assoc, nat_cmp, eqb-true}
-use Rattle.std.specs.Prelude.{is_some, if◌then◌else◌, slice_get}
+use Rattle.std.specs.Prelude.{is_some, if◌then◌else◌, slice_get, Result, Ok, Err, IfErr}
 use Rattle.std.specs.List.{All, Contains, list_any}
 use Rattle.std.specs.List.Sorted.{IsSorted, IsPermutation}
 use Rattle.std.proofs.lemmas.Bool.{cases_eq}
@@ -15,16 +15,16 @@ use Rattle.pit_share.specs.Planners.{TransactionState}
 use Rattle.pit_script.specs.declared.step.Step.TheVariants as step
 use Rattle.pit_script.specs.declared.step.Way.{Way}
 use Rattle.pit_script.specs.declared.step.Way.TheVariants as way
-use Rattle.pit_job.specs.Cones.{all_led, in_round, IsNextOf, Reaches, here, further}
+use Rattle.pit_job.specs.Cones.{all_led, in_round, IsNextOf, Reaches}
 use Rattle.pit_job.specs.Effect.{Agrees, Known, changes, carried, read_in, seen, with_bench, is_carried, leads_to, members_of}
 use Rattle.pit_job.specs.Outcomes.{IsMovedBlock, HasNoWrite}
 use Rattle.pit_job.specs.Inside.Doing.{own_of, NotesOnly, Same, Puts, DoesStep, Meets}
-use Rattle.pit_job.specs.Inside.Walking.{IsWalk, WalkState, Visits, VisitsEach, IsGoing, IsGone, PutsEach}
+use Rattle.pit_job.specs.Inside.Walking.{IsWalk, WalkState, Visits, VisitsEach, IsGoing, IsGone, IsReadNow, PutsEach}
 use Rattle.pit_job.specs.declared.doing.StepStop.{StepStop}
 use Rattle.pit_job.specs.declared.doing.StepStop.TheVariants as stop
 use Rattle.pit_job.proofs.Agreeing.{seen-agrees}
-use Rattle.pit_job.proofs.Cones.{both, cone-reached, any-some}
-use Rattle.pit_job.proofs.Noting.{notes-none, notes-map, notes-trans}
+use Rattle.pit_job.proofs.Cones.{both, cone-has, any-some}
+use Rattle.pit_job.proofs.Noting.{notes-none, notes-map, notes-trans, next-reached}
 use Rattle.pit_job.proofs.Stepping.{Agrees-trans, same-refl, same-trans, drop-here, IsBenchTo, bench-more}
 use Rattle.pit_job.proofs.Walks.{next-kept, walk-none, walk-grows, walk-more, walk-few, walk-whole}
 
@@ -62,9 +62,9 @@ on-found a b on c among = subst (λ (xs : List ℕ). Contains xs c) (sym on.foun
 known-seen : (t : TransactionState) (known : Known) → Agrees (read_in t.work.reads) known → Agrees (λ c. known_of t.work c) (λ c. seen known (own_of t.work) c)
 known-seen t known agrees b v is = seen-agrees (read_in t.work.reads) known (own_of t.work) agrees b v is
 
-known-more : (old new : TransactionState) → Same old new → own_of new.work ≡ own_of old.work → Agrees (λ c. known_of old.work c) (λ c. known_of new.work c)
-known-more old new same own b v is =
-    subst (λ (o : Commit). seen (read_in new.work.reads) o b ≡ Some v) (sym own) (seen-agrees (read_in old.work.reads) (read_in new.work.reads) (own_of old.work) same.reads b v is)
+known-more : (old new : TransactionState) → Agrees (read_in old.work.reads) (read_in new.work.reads) → own_of new.work ≡ own_of old.work → Agrees (λ c. known_of old.work c) (λ c. known_of new.work c)
+known-more old new reads own b v is =
+    subst (λ (o : Commit). seen (read_in new.work.reads) o b ≡ Some v) (sym own) (seen-agrees (read_in old.work.reads) (read_in new.work.reads) (own_of old.work) reads b v is)
 
 pub visit-keeps : (how : Way) (t : ℕ) (old : TransactionState) (w : WalkState) (b : ℕ) (new : TransactionState) (after : WalkState) → Visits how t old w b new after → Same old new × (own_of new.work ≡ own_of old.work)
 visit-keeps how t old w b new after (inl (same, is, there)) = (subst (Same old) (sym same) (same-refl old), ap (λ (s : TransactionState). own_of s.work) same)
@@ -108,7 +108,7 @@ visit-goes pit how start t old mid new w after b going less leads (inr v) = reco
       subst (λ (xs : List ℕ). IsWalk pit.blocks (is_carried how t) (leads_to pit how) start (λ c. known_of new.work c) xs after.found) (sym v.visited)
       (subst (λ (xs : List ℕ). IsWalk pit.blocks (is_carried how t) (leads_to pit how) start (λ c. known_of new.work c) (w.visited ++ b ∷ []) xs) (sym v.found)
       (walk-more pit.blocks (is_carried how t) (never-carried how t) (leads_to pit how) start (λ c. known_of new.work c) w.visited w.found b v.held
-      (walk-grows pit.blocks (is_carried how t) (never-carried how t) (leads_to pit how) start (λ c. known_of mid.work c) (λ c. known_of new.work c) w.visited w.found (known-more mid new v.looks.same v.looks.own) going.walk)
+      (walk-grows pit.blocks (is_carried how t) (never-carried how t) (leads_to pit how) start (λ c. known_of mid.work c) (λ c. known_of new.work c) w.visited w.found (known-more mid new v.looks.same.reads v.looks.own) going.walk)
       less v.fresh v.looks.known leads));
 }
 
@@ -131,6 +131,12 @@ visits-go pit how start t (b ∷ bs) old mid new w after going below leads (next
       on-trans w between after on.0 more.1,
       All-cons (Contains after.visited) b bs (on-visited between after more.1 b on.1) more.2,
     )
+
+-- the block at i, and then those after it
+pub visits-next : (how : Way) (t : ℕ) (old mid new : TransactionState) (w between after : WalkState) (bs : List ℕ) (i d : ℕ) → i < length bs
+    → Visits how t old w (get_or bs i d) mid between → VisitsEach how t mid between (drop (i + 1) bs) new after → VisitsEach how t old w (drop i bs) new after
+visits-next how t old mid new w between after bs i d less first rest =
+    subst (λ (xs : List ℕ). VisitsEach how t old w xs new after) (sym (drop-here bs i d less)) (mid, between, first, rest)
 
 -- ---- the start, and then what each that was found leads to
 
@@ -199,31 +205,31 @@ gone-more pit how start t old mid new w after i m bs gone is led below visits =
 pub gone-few : (pit : Pit) (how : Way) (start t : ℕ) (old new : TransactionState) (w : WalkState) (i : ℕ) → IsGone pit how start t old new w i → length w.found ≤ pit.blocks
 gone-few pit how start t old new w i gone = walk-few pit.blocks (is_carried how t) (never-carried how t) (leads_to pit how) start (λ c. known_of new.work c) w.visited w.found gone.going.walk
 
--- the start reaches all that was visited
-found-reached : (pit : Pit) (how : Way) (start t : ℕ) (old new : TransactionState) (w : WalkState) → IsGoing pit how start t old new w → (m : ℕ) → Contains w.found m → Reaches (leads_to pit how) start m
-found-reached pit how start t old new w going m among =
-    cone-reached pit.blocks (λ b. is_carried how t (known_of new.work b)) (leads_to pit how) start pit.blocks m
-    (All-contains (λ x. in_round pit.blocks (λ b. is_carried how t (known_of new.work b)) (leads_to pit how) start pit.blocks x ≡ true) w.found m going.walk.finds among)
-
-pub visited-reached : (pit : Pit) (how : Way) (start t : ℕ) (old new : TransactionState) (w : WalkState) → IsGoing pit how start t old new w → (b : ℕ) → Contains w.visited b → Reaches (leads_to pit how) start b
-visited-reached pit how start t old new w going b among = elim (All-contains (IsNextOf (leads_to pit how) start w.found) w.visited b going.walk.led among) [
-  | inl same ↦ subst (Reaches (leads_to pit how) start) (sym same) here
-  | inr (m, found, leads) ↦ further m b (found-reached pit how start t old new w going m found) leads
-]
-
 -- what stopped a walk
 pub meets-map : (P Q : ℕ → Type 0) (start other : ℕ) (seen : List Answered) (s : StepStop) → ((b : ℕ) → P b → Q b) → other ≡ start → Meets P other seen s → Meets Q start seen s
 meets-map P Q start other seen (stop.Moved block version) f same meets = (f block meets.0, subst (λ (n : ℕ). IsMovedBlock seen n block version) same meets.1)
 meets-map P Q start other seen stop.NoMemory f same meets = tt
 meets-map P Q start other seen stop.NoEntry f same meets = (meets.0, f meets.0 meets.1)
 
-pub member-meets : (pit : Pit) (how : Way) (start t : ℕ) (old mid : TransactionState) (w : WalkState) (i m : ℕ) (bs : List ℕ) (seen : List Answered) (s : StepStop) → IsGone pit how start t old mid w i → slice_get w.found i ≡ Some m
-    → bs ≡ leads_to pit how m → Meets (Contains bs) mid.work.start seen s → Meets (λ b. Reaches (leads_to pit how) start b) old.work.start seen s
-member-meets pit how start t old mid w i m bs seen s gone is led meets =
-    let member = (found-within pit how start t old mid w i m gone is).1 in
-    meets-map (Contains bs) (λ b. Reaches (leads_to pit how) start b) old.work.start mid.work.start seen s
-    (λ b among. further m b (found-reached pit how start t old mid w gone.going m member) (subst (λ (xs : List ℕ). Contains xs b) led among))
-    gone.going.same.start meets
+-- what a block was read for that was found is a member, over what is known then
+pub member-meets : (pit : Pit) (how : Way) (start t : ℕ) (old mid new : TransactionState) (w : WalkState) (i m : ℕ) (bs : List ℕ) (seen : List Answered) (s : StepStop) → IsGone pit how start t old mid w i
+    → slice_get w.found i ≡ Some m → bs ≡ leads_to pit how m → own_of new.work ≡ own_of mid.work → Agrees (read_in mid.work.reads) (read_in new.work.reads) → Meets (Contains bs) mid.work.start seen s
+    → Meets (IsReadNow pit how start t new) old.work.start seen s
+member-meets pit how start t old mid new w i m bs seen s gone is led own reads meets =
+    let wanted : ℕ → Bool = λ b. is_carried how t (known_of new.work b) in
+    let within = found-within pit how start t old mid w i m gone is in
+    let walk = walk-grows pit.blocks (is_carried how t) (never-carried how t) (leads_to pit how) start (λ c. known_of mid.work c) (λ c. known_of new.work c) w.visited w.found (known-more mid new reads own) gone.going.walk in
+    let member : Contains (members_of pit how (λ c. known_of new.work c) start t) m =
+    cone-has pit.blocks wanted (leads_to pit how) start m within.0 (All-contains (λ x. in_round pit.blocks wanted (leads_to pit how) start pit.blocks x ≡ true) w.found m walk.finds within.1) in
+    meets-map (Contains bs) (IsReadNow pit how start t new) old.work.start mid.work.start seen s
+    (λ b leads. inr (m, member, subst (λ (xs : List ℕ). Contains xs b) led leads)) gone.going.same.start meets
+
+-- and so it is one that the start leads to
+pub carry-meets : {X : Type 0} (pit : Pit) (how : Way) (b t : ℕ) (new : TransactionState) (start : ℕ) (seen : List Answered) (r : Result X StepStop) → IfErr r (Meets (IsReadNow pit how b t new) start seen)
+    → IfErr r (Meets (λ block. Reaches (leads_to pit how) b block) start seen)
+carry-meets pit how b t new start seen (Ok x) meets = tt
+carry-meets pit how b t new start seen (Err s) meets =
+    meets-map (IsReadNow pit how b t new) (λ block. Reaches (leads_to pit how) b block) start start seen s (λ block is. next-reached pit how (λ c. known_of new.work c) b t block is) refl meets
 
 -- ---- and then the members are put
 

@@ -2,10 +2,9 @@
 ghost use Rattle.std.specs.Prelude.{◌≡◌, ℕ, ◌<◌, ◌≤◌, ◌++◌, ◌∷◌, [], length, true, not, slice_get, nat_eq, Some, IfOk, IfErr, OnOk, if◌then◌else◌};
 ghost use Rattle.std.specs.List.{All, Contains, list_any};
 ghost use Rattle.pit_share.specs.Planners.{SeesOn};
-ghost use Rattle.pit_job.specs.Cones.{Reaches};
-ghost use Rattle.pit_job.specs.Effect.{is_carried as is_carried_of, leads_to, members_of, read_in, seen};
+ghost use Rattle.pit_job.specs.Effect.{Agrees, is_carried as is_carried_of, leads_to, members_of, read_in, seen};
 ghost use Rattle.pit_job.specs.Inside.Doing.{DoesStep, Meets, NothingPut, own_of};
-ghost use Rattle.pit_job.specs.Inside.Walking.{Visits, VisitsEach, IsGone, PutsEach};
+ghost use Rattle.pit_job.specs.Inside.Walking.{Visits, VisitsEach, IsGone, IsReadNow, PutsEach};
 
 use crate::doing::{StepStop, look, write};
 use indexmap::IndexSet;
@@ -100,7 +99,7 @@ pub(crate) fn carry<
     requires block { b < S.instance.blocks }
     ensures ok { OnOk result (DoesStep S.instance t.old (Step.Carry way b period) true t.new) }
     ensures members { IfOk result (λ put. put.items ≡ members_of S.instance way (λ c. seen (read_in t.new.work.reads) (own_of t.old.work) c) b period) }
-    ensures err { IfErr result (Meets (λ block. Reaches (leads_to S.instance way) b block) t.old.work.start t.new.planner.seen) }
+    ensures err { IfErr result (Meets (IsReadNow S.instance way b period t.new) t.old.work.start t.new.planner.seen) }
     ensures unput { IfErr result (λ stop. NothingPut t.old stop t.new) }
     ensures sees { SeesOn t.old.planner t.new.planner }
 {
@@ -123,7 +122,7 @@ fn walked<'a, S: Session, R: Wait + Drop, A: Allocator + Copy + Drop, B: Allocat
     requires pit { pit.now ≡ S.instance }
     requires block { b < S.instance.blocks }
     ensures ok { IfOk result (λ walk. (i : ℕ) × (length walk.found ≤ i) × IsGone S.instance way b period t.old t.new walk i) }
-    ensures err { IfErr result (Meets (λ block. Reaches (leads_to S.instance way) b block) t.old.work.start t.new.planner.seen) }
+    ensures err { IfErr result (Meets (IsReadNow S.instance way b period t.new) t.old.work.start t.new.planner.seen) }
     ensures own { own_of t.new.work ≡ own_of t.old.work }
     ensures sees { SeesOn t.old.planner t.new.planner }
 {
@@ -160,6 +159,7 @@ fn visit_each<'a, S: Session, R: Wait + Drop, A: Allocator + Copy + Drop>(
     requires { All (λ b. b < S.instance.blocks) blocks.now }
     ensures ok { OnOk result (VisitsEach way period t.old walk.old blocks.now t.new walk.new) }
     ensures err { IfErr result (Meets (Contains blocks.now) t.old.work.start t.new.planner.seen) }
+    ensures reads { Agrees (read_in t.old.work.reads) (read_in t.new.work.reads) }
     ensures own { own_of t.new.work ≡ own_of t.old.work }
     ensures sees { SeesOn t.old.planner t.new.planner }
 {
@@ -180,6 +180,7 @@ fn visit<'a, S: Session, R: Wait + Drop, A: Allocator + Copy + Drop>(
     requires { b < S.instance.blocks }
     ensures ok { OnOk result (Visits way period t.old walk.old b t.new walk.new) }
     ensures err { IfErr result (Meets (λ block. block ≡ b) t.old.work.start t.new.planner.seen) }
+    ensures reads { Agrees (read_in t.old.work.reads) (read_in t.new.work.reads) }
     ensures own { own_of t.new.work ≡ own_of t.old.work }
     ensures sees { SeesOn t.old.planner t.new.planner }
 {

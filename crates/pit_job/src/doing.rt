@@ -3,10 +3,10 @@ ghost use Rattle.std.specs.Prelude.{◌≡◌, ◌<◌, true, IfOk, IfErr, OnOk,
 ghost use Rattle.pit_script.specs.Ranges.{IsStepIn};
 ghost use Rattle.pit_share.specs.Planners.{SeesOn};
 ghost use Rattle.pit_job.specs.Outcomes.{IsReadBy, IsRead};
-ghost use Rattle.pit_job.specs.Cones.{Reaches};
-ghost use Rattle.pit_job.specs.Effect.{leads_to, same_period as same_period_of};
+ghost use Rattle.pit_job.specs.Effect.{same_period as same_period_of};
 ghost use Rattle.pit_job.specs.Shifts.{shifted as shifted_of};
 ghost use Rattle.pit_job.specs.Inside.Doing.{LooksUp, Puts, DoesStep, DoesSteps, Meets, IsUnseen};
+ghost use Rattle.pit_job.specs.Inside.Walking.{IsReadNow};
 
 use crate::carry::carry;
 use crate::shift::shifted;
@@ -120,7 +120,7 @@ fn carry_along<
     requires pit { benches.now ≡ S.instance }
     requires block { b < S.instance.blocks }
     ensures ok { IfOk result (λ goes. DoesStep S.instance t.old (Step.Carry way b period) goes t.new) }
-    ensures err { IfErr result (Meets (λ block. Reaches (leads_to S.instance way) b block) t.old.work.start t.new.planner.seen) }
+    ensures err { IfErr result (Meets (IsReadNow S.instance way b period t.new) t.old.work.start t.new.planner.seen) }
     ensures sees { SeesOn t.old.planner t.new.planner }
 {
     let _put = carry(t, benches, way, b, period)?;

@@ -6,7 +6,7 @@ use Rattle.pit_tx.specs.Sets.{known_of}
 use Rattle.pit_share.specs.Planners.{TransactionState}
 use Rattle.pit_script.specs.declared.step.Way.{Way}
 use Rattle.pit_job.specs.Cones.{in_round, IsNextOf}
-use Rattle.pit_job.specs.Effect.{Known, is_carried, leads_to, with_bench}
+use Rattle.pit_job.specs.Effect.{Known, is_carried, leads_to, members_of, with_bench}
 use Rattle.pit_job.specs.Outcomes.{HasNoWrite}
 use Rattle.pit_job.specs.Inside.Doing.{own_of, Same, LooksUp, NotesOnly}
 
@@ -55,6 +55,10 @@ pub record IsGone (pit : Pit) (how : Way) (start t : ℕ) (old : TransactionStat
   pub going : IsGoing pit how start t old new walk
   pub first : Contains walk.visited start
   pub done : (j a : ℕ) → j < i → j < length walk.found → Contains (leads_to pit how (slice_index_or walk.found j 0)) a → Contains walk.visited a
+
+-- over what the transaction knows now, the line reads the block
+abbrev pub IsReadNow : Pit → Way → ℕ → ℕ → TransactionState → ℕ → Type 0
+IsReadNow pit how start t now block = IsNextOf (leads_to pit how) start (members_of pit how (λ c. known_of now.work c) start t) block
 
 -- all these are put into a period, one after another, and nothing is read
 pub record PutsEach (old : TransactionState) (blocks : List ℕ) (t : ℕ) (new : TransactionState) : Type 0 where
