@@ -83,8 +83,8 @@ impl<S: Session, A: Allocator + Copy + Drop> View<S, A> {
         total.add(&mut self.share, 1);
     }
 
-    /// From now on the planner has seen this too, whose commits the writer has published. Where some of them are new to it, its reader gives its place
-    /// back, and another takes one and is told of them. Waits for that place.
+    /// From now on the planner has seen this too, whose commits the writer has published. Where some of them are new to it, it looks at the board. Where it
+    /// isn't let in, its reader gives its place back, and another takes one and is told of them. Waits for that place.
     pub(crate) fn learn<R: Wait + Drop, W: Wait>(
         &mut self,
         rt: &W,
@@ -97,6 +97,9 @@ impl<S: Session, A: Allocator + Copy + Drop> View<S, A> {
         ensures learnt { IsPrefix prefix.now self.new.seen }
         ensures amount { self.new.amount ≡ self.old.amount }
     {
+        if !self.prefix.has_commits_of(prefix) {
+            let _slot = self.look(u32::MAX);
+        }
         if !self.prefix.begins(prefix) {
             return;
         }

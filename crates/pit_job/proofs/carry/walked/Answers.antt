@@ -1,4 +1,4 @@
-use Rattle.std.proofs.Common.{inl, ◌≡◌, ℕ, ◌<◌, ◌≤◌, length, sym, ap, subst, refl, ◌∙◌, arith}
+use Rattle.std.proofs.Common.{inl, ◌≡◌, ◌<◌, ◌≤◌, length, sym, ap, subst, refl, ◌∙◌, arith}
 use Rattle.std.specs.List.{All}
 use Rattle.pit_model.specs.Pit.{Pit}
 use Rattle.pit_job.specs.Effect.{leads_to}
