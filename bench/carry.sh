@@ -26,11 +26,11 @@ small_cones() {
             if (!n) exit 1
             step = int(n / 1000) + 1
             for (i = 0; i < jobs; i++) print "begin\ncone", block[i * step % n], "0\nabort"
-        }' >"$work/small.$2"
+        }' >"$work/script.$2"
 }
 
-: >"$work/none"
-printf 'begin\ncone %s 0\nabort\n' "$block" >"$work/one"
+: >"$work/script.none"
+printf 'begin\ncone %s 0\nabort\n' "$block" >"$work/script.one"
 # What the cone takes along, and as many blocks that are mined later than in period 0.
 awk -v block="$block" '
     FILENAME == ARGV[1] { period[$1] = $2; next }
@@ -41,8 +41,8 @@ awk -v block="$block" '
         for (b in period) if (period[b] > 0 && members-- > 0) print "shift", b, "-1"
     }' "$large.sol" "$large.prec" >"$work/shifted"
 members=$(head -n 1 "$work/shifted")
-{ echo begin; tail -n +2 "$work/shifted" | sort -k 2n; echo abort; } >"$work/shifts"
-if [ "$(wc -l <"$work/shifts")" -ne $((members + 2)) ]; then
+{ echo begin; tail -n +2 "$work/shifted" | sort -k 2n; echo abort; } >"$work/script.shifts"
+if [ "$(wc -l <"$work/script.shifts")" -ne $((members + 2)) ]; then
     echo "$large.sol has too few blocks that are mined later than in period 0" >&2
     exit 1
 fi
@@ -50,13 +50,13 @@ small_cones "$large" large
 small_cones "$small" small
 held=(plan "$large.cpit" "$large.prec" --start "$large.sol")
 for round in 1 2 3 4 5; do
-    turn held held "$pit" "${held[@]}" "$work/none"
-    turn cone held "$pit" "${held[@]}" "$work/one"
-    turn shifts held "$pit" "${held[@]}" "$work/shifts"
-    turn none none "$pit" plan "$large.cpit" "$large.prec" "$work/none"
-    turn large none "$pit" plan "$large.cpit" "$large.prec" "$work/small.large"
-    turn less less "$pit" plan "$small.cpit" "$small.prec" "$work/none"
-    turn small less "$pit" plan "$small.cpit" "$small.prec" "$work/small.small"
+    turn held held "$pit" "${held[@]}" "$work/script.none"
+    turn cone held "$pit" "${held[@]}" "$work/script.one"
+    turn shifts held "$pit" "${held[@]}" "$work/script.shifts"
+    turn none none "$pit" plan "$large.cpit" "$large.prec" "$work/script.none"
+    turn large none "$pit" plan "$large.cpit" "$large.prec" "$work/script.large"
+    turn less less "$pit" plan "$small.cpit" "$small.prec" "$work/script.none"
+    turn small less "$pit" plan "$small.cpit" "$small.prec" "$work/script.small"
 done
 
 # own KEY: of each round the seconds less those of no job.
