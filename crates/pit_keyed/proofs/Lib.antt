@@ -1,3 +1,4 @@
 pub mod Absent
+mod Each
 mod Filters
 pub mod CallerLemmas

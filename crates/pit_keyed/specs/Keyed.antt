@@ -16,6 +16,11 @@ module _ {K V : Type 0} (eq : K → K → Bool) where
   abbrev pub with_write : List (K × V) → K → V → List (K × V)
   with_write pairs key value = insert_entry eq pairs key value
 
+  -- one key after another is written with a value
+  abbrev pub with_each : List (K × V) → List K → V → List (K × V)
+  with_each pairs [] value = pairs
+  with_each pairs (key ∷ keys) value = with_each (with_write pairs key value) keys value
+
 -- a further key: the set has keys, and not this one. A first key has its room
 pub record IsFurther {K V : Type 0} (eq : K → K → Bool) (pairs : List (K × V)) (key : K) : Type 0 where
   pub others : pairs ≢ []

@@ -31,12 +31,12 @@ pub enum Step {
         height: i64,
         period: u32,
     },
-    /// Reads a block. The job goes on where it has this period, or none.
+    /// Reads a block. The job goes on only where the block has just this: a period, or none.
     Expect {
         block: u32,
         period: Option<u32>,
     },
-    /// Puts a block and what is carried along with it into a period, by rising block.
+    /// Puts a block, where it is late (early), and what is carried along with it into a period, by rising block.
     Carry {
         way: Way,
         block: u32,

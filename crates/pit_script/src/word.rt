@@ -19,7 +19,7 @@ pub enum Word {
     Shift,
     /// `bench Z T`: each block at a height gets a period.
     Bench,
-    /// `expect B T`, `expect B -`: a block is read, and the job goes on where it has this period, or none.
+    /// `expect B T`, `expect B -`: a block is read, and the job goes on only where it is in T, or, for `-`, in no period.
     Expect,
     /// `cone B T`: a block is put into a period, and what stands in its way.
     Cone,

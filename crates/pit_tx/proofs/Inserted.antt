@@ -8,7 +8,7 @@ use Rattle.indexmap.specs.IndexMap.{insert_entry}
 use Rattle.pit_model.specs.Fitting.{AreKeyed, Fits, RevisionsFit, pair_eq}
 use Rattle.pit_model.proofs.CallerLemmas.{Decides-pair_eq}
 use Rattle.pit_keyed.proofs.CallerLemmas.{insert_entry-absent}
-use Rattle.pit_keyed.specs.Keyed.{with_read, at_key}
+use Rattle.pit_keyed.specs.Keyed.{with_each, with_read, at_key}
 
 -- ---- any keys and values
 
@@ -59,6 +59,15 @@ pub Fits-insert_entry : (block_count period_count : ℕ) (pairs : List (ℕ × O
     → Fits block_count period_count pairs → Fits block_count period_count (insert_entry nat_eq pairs b period)
 Fits-insert_entry block_count period_count pairs b period below within =
     AreKeyed-insert_entry nat_eq (λ k. (Decides-eqb k k).1 refl) (λ (k : ℕ). k < block_count) (λ (v : Option ℕ). IfSome v (λ t. t < period_count)) pairs b period below within
+
+-- one block after another is written with a period
+pub Fits-with_each : (block_count period_count : ℕ) (pairs : List (ℕ × Option ℕ)) (blocks : List ℕ) (period : Option ℕ) → All (λ b. (b < block_count) × IfSome period (λ t. t < period_count)) blocks
+    → Fits block_count period_count pairs → Fits block_count period_count (with_each nat_eq pairs blocks period)
+Fits-with_each block_count period_count pairs [] period within fit = fit
+Fits-with_each block_count period_count pairs (b ∷ blocks) period within fit =
+    let here = All-head (λ (a : ℕ). (a < block_count) × IfSome period (λ t. t < period_count)) b blocks within in
+    Fits-with_each block_count period_count (insert_entry nat_eq pairs b period) blocks period (All-tail (λ (a : ℕ). (a < block_count) × IfSome period (λ t. t < period_count)) b blocks within)
+    (Fits-insert_entry block_count period_count pairs b period here.0 here.1 fit)
 
 -- a block that isn't there goes last
 pub Fits-further : (block_count period_count : ℕ) (pairs : List (ℕ × Option ℕ)) (b : ℕ) (period : Option ℕ) → b < block_count → IfSome period (λ t. t < period_count)

@@ -1,1 +1,2 @@
 pub mod Inserted
+mod Refusing

@@ -1,14 +1,14 @@
 //! The sets of a transaction, in the order of first use.
-ghost use Rattle.std.specs.Prelude.{◌≡◌, ◌<◌, ◌≤◌, [], ◌∷◌, ◌++◌, None, nat_eq, IfOk, OnOk, OnErr, IfSome, IfNone, IsErrOf};
+ghost use Rattle.std.specs.Prelude.{◌≡◌, ◌+◌, ◌<◌, ◌≤◌, [], ◌∷◌, ◌++◌, length, None, nat_eq, All, IfOk, OnOk, OnErr, IfSome, IfNone, IsErrOf};
 ghost use Rattle.pit_model.specs.Fitting.{Fits, RevisionsFit, pair_eq};
 ghost use Rattle.pit_num.specs.Refused.{IsRefusedBy};
-ghost use Rattle.pit_keyed.specs.Keyed.{IsFurther, at_key, with_read, with_write};
-ghost use Rattle.pit_tx.specs.Refusals.{refusal_of, revision_refusal_of};
+ghost use Rattle.pit_keyed.specs.Keyed.{IsFurther, at_key, with_each, with_read, with_write};
+ghost use Rattle.pit_tx.specs.Refusals.{refusal_of, first_refusal_of, revision_refusal_of};
 ghost use Rattle.pit_tx.specs.Sets.{known_of, AreSound};
 
 use crate::error::WorkError;
 use indexmap::IndexMap;
-use pit_keyed::{FilteredSet, insert};
+use pit_keyed::{FilteredSet, insert, insert_each};
 use pit_model::{BLOCKS_MAX, RESOURCES_MAX};
 use pit_num::{NoMemory, PERIODS_MAX};
 use std::alloc::Allocator;
@@ -26,7 +26,7 @@ pub type LimitMap<A> = IndexMap<(u32, u32), Option<i64>, BuildHasherDefault<Fold
 
 /// The reads and the writes of a transaction, each a block with a period or none, and the upper limits that it revises, in the order
 /// of first use. A transaction is what one planner does for one of its jobs, after so many commits. Only `new`, `with_room`, `note`,
-/// `note_unknown`, `put`, `clear` and `revise` take memory, and a refused one leaves all as it was.
+/// `note_unknown`, `put`, `put_each`, `clear` and `revise` take memory, and a refused one leaves all as it was.
 #[derive(Drop)]
 pub struct Work<A: Allocator + Copy + Drop> {
     planner: u32,
@@ -303,6 +303,23 @@ impl<A: Allocator + Copy + Drop> Work<A> {
         self.write(b, Some(t))
     }
 
+    /// Writes of one block after another that it has a period: of each, or of none. Blocks that were written before keep their places. Takes memory for
+    /// all of them first, where there are two or more, those of the write set counted too.
+    pub fn put_each(&mut self, blocks: &[u32], t: u32) -> Result<(), WorkError>
+        ensures ok { OnOk result (self.new ≡ record self.old { writes = with_each nat_eq self.old.writes blocks.now (Some t) }) }
+        ensures err { OnErr result (self.new ≡ self.old) }
+        ensures cause { IsRefusedBy WorkError.NoMemory result (first_refusal_of self.old blocks.now t) }
+        ensures memory { IsErrOf result WorkError.NoMemory → 2 ≤ length self.old.writes + length blocks.now }
+    {
+        if let Some(error) = self.first_refusal(blocks, t) {
+            return Err(error);
+        }
+        match insert_each(&mut self.writes, blocks, Some(t)) {
+            Ok(()) => Ok(()),
+            Err(_) => Err(WorkError::NoMemory),
+        }
+    }
+
     /// Writes that a block has no period. The pair is kept, in its place or last, and memory is taken, as in `put`.
     pub fn clear(&mut self, b: u32) -> Result<(), WorkError>
         ensures ok { OnOk result (self.new ≡ record self.old { writes = with_write nat_eq self.old.writes b None }) }
@@ -395,6 +412,19 @@ impl<A: Allocator + Copy + Drop> Work<A> {
             Some(t) if t >= self.periods => Some(WorkError::NoPeriod),
             _ => None,
         }
+    }
+
+    /// Why the first of the blocks that can't stand in a set with a period can't, if there is one.
+    fn first_refusal(&self, blocks: &[u32], t: u32) -> Option<WorkError>
+        ensures due { result ≡ first_refusal_of self.now blocks.now t }
+        ensures fits { IfNone result (All (λ b. (b < self.now.blocks) × (t < self.now.periods)) blocks.now) }
+    {
+        for b in blocks {
+            if let Some(error) = self.refusal(*b, Some(t)) {
+                return Some(error);
+            }
+        }
+        None
     }
 
     /// Why a resource in a period can't be revised, if it can't.
