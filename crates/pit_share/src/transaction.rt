@@ -1,10 +1,10 @@
 //! Transactions of planners.
-ghost use Rattle.std.specs.Prelude.{◌≡◌, ℕ, ◌<◌, ◌≤◌, [], ◌∷◌, ◌++◌, take, nat_eq, Option, IfOk, IfErr, OnOk, OnErr, IfSome, IsErrOf};
+ghost use Rattle.std.specs.Prelude.{◌≡◌, ℕ, ◌+◌, ◌<◌, ◌≤◌, [], ◌∷◌, ◌++◌, length, take, nat_eq, Option, IfOk, IfErr, OnOk, OnErr, IfSome, IsErrOf};
 ghost use Rattle.pit_model.specs.Fitting.{Fits, RevisionsFit, pair_eq};
 ghost use Rattle.pit_num.specs.Refused.{IsRefusedBy};
 ghost use Rattle.pit_plan.specs.Schedule.{held_period};
-ghost use Rattle.pit_keyed.specs.Keyed.{IsFurther, with_write};
-ghost use Rattle.pit_tx.specs.Refusals.{refusal_of, revision_refusal_of};
+ghost use Rattle.pit_keyed.specs.Keyed.{IsFurther, with_each, with_write};
+ghost use Rattle.pit_tx.specs.Refusals.{refusal_of, first_refusal_of, revision_refusal_of};
 ghost use Rattle.pit_tx.specs.Sets.{known_of};
 ghost use Rattle.pit_desk.specs.History.{commits_of};
 ghost use Rattle.pit_desk.specs.Calls.{work_call, entry_reply};
@@ -123,6 +123,17 @@ impl<'a, S: Session, R: Wait + Drop, A: Allocator + Copy + Drop> Transaction<'a,
         ensures memory { IsErrOf result WorkError.NoMemory → IsFurther nat_eq self.old.work.writes block }
     {
         self.work.put(block, period)
+    }
+
+    /// Writes of one block after another that it has a period: of each, or, where memory runs out or one is refused, of none.
+    pub fn put_each(&mut self, blocks: &[u32], period: u32) -> Result<(), WorkError>
+        ensures planner { self.new.planner ≡ self.old.planner }
+        ensures ok { OnOk result (self.new.work ≡ record self.old.work { writes = with_each nat_eq self.old.work.writes blocks.now (Some period) }) }
+        ensures err { OnErr result (self.new ≡ self.old) }
+        ensures cause { IsRefusedBy WorkError.NoMemory result (first_refusal_of self.old.work blocks.now period) }
+        ensures memory { IsErrOf result WorkError.NoMemory → 2 ≤ length self.old.work.writes + length blocks.now }
+    {
+        self.work.put_each(blocks, period)
     }
 
     /// Writes that a block has no period. A block that was written before keeps its place.
