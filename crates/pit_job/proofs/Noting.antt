@@ -43,7 +43,7 @@ next-reached pit how at c t b (inr (m, among, leads)) =
     further m b (cone-reached pit.blocks wanted (leads_to pit how) c pit.blocks m (has-cone pit.blocks wanted (leads_to pit how) c m among).1) leads
 
 -- what a step reads over what is known, it may read
-over-read : (pit : Pit) (known : Known) (own : Commit) (s : Step) (b : ℕ) → IsReadOver pit known own s b → IsReadBy pit b s
+pub over-read : (pit : Pit) (known : Known) (own : Commit) (s : Step) (b : ℕ) → IsReadOver pit known own s b → IsReadBy pit b s
 over-read pit known own (step.Read c) b is = is.0
 over-read pit known own (step.Put c t) b is = is
 over-read pit known own (step.Clear c) b is = is

@@ -2,7 +2,7 @@
 use Rattle.std.proofs.Math.Seq.{drop-cons}
 use Rattle.std.proofs.lemmas.List.{drop_all}
 use Rattle.std.proofs.lemmas.Bool.Decides.{eqb_tells}
-use Rattle.std.proofs.Common.{inl, inr, ◌≡◌, ℕ, ℤ, nat_eq, ◌+◌, ◌<◌, ◌≤◌, length, map, get_or, drop, add-one, Bool, true, false, cond, List, [], ◌∷◌, ◌++◌, Option, Some, None, refl, sym, ap, subst, ◌∙◌}
+use Rattle.std.proofs.Common.{inl, inr, ◌≡◌, ℕ, ℤ, nat_eq, ◌+◌, ◌<◌, ◌≤◌, length, get_or, drop, add-one, Bool, true, false, cond, List, [], ◌∷◌, ◌++◌, Option, Some, None, refl, sym, ap, subst, ◌∙◌}
 use Rattle.std.specs.Prelude.{is_some, if◌then◌else◌, Result, Ok, Err, IfOk, OnOk, OnErr}
 use Rattle.pit_model.specs.Pit.{Pit}
 use Rattle.pit_plan.specs.Schedule.{Commit}
@@ -21,7 +21,7 @@ use Rattle.pit_job.specs.declared.doing.StepStop.{StepStop}
 use Rattle.pit_job.specs.declared.doing.StepStop.TheVariants as stop
 use Rattle.pit_job.proofs.Agreeing.{seen-agrees}
 use Rattle.pit_job.specs.Outcomes.{IfGoesOn, HasNoWrite, IsReadOver, IsReadAmong}
-use Rattle.pit_job.specs.Inside.Doing.{own_of, Same, LooksUp, Puts, DoesStep, DoesSteps, IsUnseen}
+use Rattle.pit_job.specs.Inside.Doing.{own_of, Same, LooksUp, Puts, DoesStep, DoesSteps}
 use Rattle.pit_job.proofs.Noting.{notes-none, notes-one, notes-map, notes-trans}
 use Rattle.pit_job.proofs.Seeing.{sees-same, sees-trans}
 
@@ -62,12 +62,6 @@ same-trans a b c f g = record {
   reads = Agrees-trans (read_in a.work.reads) (read_in b.work.reads) (read_in c.work.reads) f.reads g.reads;
 }
 
--- a look that was refused leaves what was noted
-pub unseen-reads : (old new : TransactionState) (b : ℕ) (s : StepStop) → IsUnseen old b s new → Agrees (read_in old.work.reads) (read_in new.work.reads)
-unseen-reads old new b (stop.Moved block version) same = subst (λ (w : Sets). Agrees (read_in old.work.reads) (read_in w.reads)) (sym same) (Agrees-refl (read_in old.work.reads))
-unseen-reads old new b stop.NoMemory same = subst (λ (w : Sets). Agrees (read_in old.work.reads) (read_in w.reads)) (sym same.1) (Agrees-refl (read_in old.work.reads))
-unseen-reads old new b stop.NoEntry same = subst (λ (t : TransactionState). Agrees (read_in old.work.reads) (read_in t.work.reads)) (sym same) (Agrees-refl (read_in old.work.reads))
-
 -- a block that was known
 pub looks-known : (old new : TransactionState) (b : ℕ) (period : Option ℕ) → new ≡ old → known_of old.work b ≡ Some period → LooksUp old b period new
 looks-known old new b period same known = record {
@@ -77,7 +71,7 @@ looks-known old new b period same known = record {
   noted = notes-none (λ c. (c ≡ b) × HasNoWrite (own_of old.work) c) old.work.reads new.work.reads (ap (λ (t : TransactionState). t.work.reads) same);
 }
 
-unwritten : (o p : Option (Option ℕ)) → (if is_some o then o else p) ≡ None → o ≡ None
+pub unwritten : (o p : Option (Option ℕ)) → (if is_some o then o else p) ≡ None → o ≡ None
 unwritten None p is = refl
 unwritten (Some v) p is = absurd (cc is)
 
@@ -300,42 +294,3 @@ looks-up pit old new b r period less is sees known unknown = by (known_of old.wo
         let first = answered.0 in
         let same : p ≡ period = cc in
         looks-known old new b period answered.1 (e ∙ ap (λ (q : Option ℕ). Some q) same)
-
--- ---- a bench, block by block
-
-pub record IsBenchTo (old : TransactionState) (blocks left : List ℕ) (t : ℕ) (now : TransactionState) : Type 0 where
-  pub same : Same old now
-  pub own : with_bench (own_of now.work) left t ≡ with_bench (own_of old.work) blocks t
-  pub reads : now.work.reads ≡ old.work.reads
-
-pub bench-begins : (t : TransactionState) (blocks left : List ℕ) (period : ℕ) → left ≡ blocks → IsBenchTo t blocks left period t
-bench-begins t blocks left period same = record { same = same-refl t; own = ap (λ (bs : List ℕ). with_bench (own_of t.work) bs period) same; reads = refl }
-
-pub bench-more : (old now after : TransactionState) (blocks left more : List ℕ) (b t : ℕ) (goes : Bool) → left ≡ b ∷ more → IsBenchTo old blocks left t now → Puts now b (Some t) goes after
-    → IsBenchTo old blocks more t after
-bench-more old now after blocks left more b t goes next so_far puts = record {
-  same = same-trans old now after so_far.same puts.same;
-  own = ap (λ (own : Commit). with_bench own more t) puts.own ∙ sym (ap (λ (bs : List ℕ). with_bench (own_of now.work) bs t) next) ∙ so_far.own;
-  reads = puts.reads ∙ so_far.reads;
-}
-
--- the block at i
-pub bench-next : (old now after : TransactionState) (placed : List (ℤ × ℕ)) (i t : ℕ) (d : ℤ × ℕ) (goes : Bool) → i < length placed
-    → IsBenchTo old (map (λ p. p.1) placed) (map (λ p. p.1) (drop i placed)) t now → Puts now (get_or placed i d).1 (Some t) goes after
-    → IsBenchTo old (map (λ p. p.1) placed) (map (λ p. p.1) (drop (i + 1) placed)) t after
-bench-next old now after placed i t d goes less so_far puts =
-    bench-more old now after (map (λ p. p.1) placed) (map (λ p. p.1) (drop i placed)) (map (λ p. p.1) (drop (i + 1) placed)) (get_or placed i d).1 t goes
-    (ap (λ (ps : List (ℤ × ℕ)). map (λ p. p.1) ps) (drop-here placed i d less)) so_far puts
-
-bench-ends : (pit : Pit) (old new : TransactionState) (height : ℤ) (blocks left : List ℕ) (t : ℕ) → left ≡ [] → blocks ≡ bench_of pit height → IsBenchTo old blocks left t new
-    → DoesStep pit old (step.Bench height t) true new
-bench-ends pit old new height blocks left t none is so_far =
-    bench-does pit old new height t so_far.same so_far.reads
-    (sym (ap (λ (bs : List ℕ). with_bench (own_of new.work) bs t) none) ∙ so_far.own ∙ ap (λ (bs : List ℕ). with_bench (own_of old.work) bs t) is)
-
--- all its blocks
-pub bench-whole : (pit other : Pit) (old new : TransactionState) (height : ℤ) (placed : List (ℤ × ℕ)) (i t : ℕ) → length placed ≤ i → other ≡ pit → map (λ p. p.1) placed ≡ bench_of other height
-    → IsBenchTo old (map (λ p. p.1) placed) (map (λ p. p.1) (drop i placed)) t new → DoesStep pit old (step.Bench height t) true new
-bench-whole pit other old new height placed i t past same is so_far =
-    bench-ends pit old new height (map (λ p. p.1) placed) (map (λ p. p.1) (drop i placed)) t (ap (λ (ps : List (ℤ × ℕ)). map (λ p. p.1) ps) (drop_all i placed past))
-    (is ∙ ap (λ (q : Pit). bench_of q height) same) so_far

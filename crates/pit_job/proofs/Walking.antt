@@ -1,31 +1,32 @@
 -- A walk through a transaction.
 use Rattle.std.proofs.Common.{inl, inr, ◌≡◌, ℕ, zero, suc, nat_eq, ◌+◌, ◌<◌, ◌≤◌, length, get_or, drop, Bool, true, false, List, [], ◌∷◌, ◌++◌, Some, None, refl, sym, ap, subst, ◌∙◌, arith, append-nil, append_assoc, nat_cmp, eqb-true}
-use Rattle.std.specs.Prelude.{is_some, if◌then◌else◌, slice_get, Result, Ok, Err, IfErr}
+use Rattle.std.specs.Prelude.{is_some, if◌then◌else◌, slice_get}
 use Rattle.std.specs.List.{All, Contains, list_any}
 use Rattle.std.specs.List.Sorted.{IsSorted, IsPermutation}
 use Rattle.std.proofs.lemmas.Bool.{cases_eq}
-use Rattle.std.proofs.lemmas.List.{drop_all, get_or_default}
+use Rattle.std.proofs.lemmas.List.{get_or_default}
 use Rattle.std.proofs.lemmas.List.Elements.{All-nil, All-cons, All-weaker, All-contains, All-head, All-tail, Contains-push, Contains-append_left, Contains-get_or}
 use Rattle.std.proofs.lemmas.List.Sorted.{Contains-permutation}
 use Rattle.pit_model.specs.Pit.{Pit}
 use Rattle.pit_plan.specs.Schedule.{Commit}
 use Rattle.pit_tx.specs.Sets.{known_of}
-use Rattle.pit_desk.specs.History.{Answered}
 use Rattle.pit_share.specs.Planners.{TransactionState}
 use Rattle.pit_script.specs.declared.step.Step.TheVariants as step
 use Rattle.pit_script.specs.declared.step.Way.{Way}
 use Rattle.pit_script.specs.declared.step.Way.TheVariants as way
-use Rattle.pit_job.specs.Cones.{all_led, in_round, IsNextOf, Reaches}
+use Rattle.pit_job.specs.Cones.{all_led, in_round, IsNextOf}
 use Rattle.pit_job.specs.Effect.{Agrees, Known, changes, carried, read_in, seen, with_bench, is_carried, leads_to, members_of}
-use Rattle.pit_job.specs.Outcomes.{IsMovedBlock, HasNoWrite}
-use Rattle.pit_job.specs.Inside.Doing.{own_of, NotesOnly, Same, Puts, DoesStep, Meets}
+use Rattle.pit_job.specs.Outcomes.{HasNoWrite, IsReadOver}
+use Rattle.pit_job.specs.Inside.Doing.{own_of, NotesOnly, DoesStep, IsStopped, IsStoppedStep}
 use Rattle.pit_job.specs.Inside.Walking.{IsWalk, WalkState, Visits, VisitsEach, IsGoing, IsGone, IsReadNow, PutsEach}
 use Rattle.pit_job.specs.declared.doing.StepStop.{StepStop}
 use Rattle.pit_job.specs.declared.doing.StepStop.TheVariants as stop
 use Rattle.pit_job.proofs.Agreeing.{seen-agrees}
 use Rattle.pit_job.proofs.Cones.{both, cone-has, any-some}
-use Rattle.pit_job.proofs.Noting.{notes-none, notes-map, notes-trans, next-reached}
-use Rattle.pit_job.proofs.Stepping.{Agrees-trans, same-refl, same-trans, drop-here, IsBenchTo, bench-more}
+use Rattle.pit_job.proofs.Noting.{notes-none, notes-map, notes-trans}
+use Rattle.pit_job.proofs.Meeting.{left-stops, looked-stops, stopped-map, stopped-more}
+use Rattle.pit_job.proofs.Seeing.{sees-same}
+use Rattle.pit_job.proofs.Stepping.{Agrees-refl, Agrees-trans, same-refl, same-trans, drop-here}
 use Rattle.pit_job.proofs.Walks.{next-kept, walk-none, walk-grows, walk-more, walk-few, walk-whole}
 
 -- what isn't known isn't carried along
@@ -66,9 +67,11 @@ known-more : (old new : TransactionState) → Agrees (read_in old.work.reads) (r
 known-more old new reads own b v is =
     subst (λ (o : Commit). seen (read_in new.work.reads) o b ≡ Some v) (sym own) (seen-agrees (read_in old.work.reads) (read_in new.work.reads) (own_of old.work) reads b v is)
 
-pub visit-keeps : (how : Way) (t : ℕ) (old : TransactionState) (w : WalkState) (b : ℕ) (new : TransactionState) (after : WalkState) → Visits how t old w b new after → Same old new × (own_of new.work ≡ own_of old.work)
-visit-keeps how t old w b new after (inl (same, is, there)) = (subst (Same old) (sym same) (same-refl old), ap (λ (s : TransactionState). own_of s.work) same)
-visit-keeps how t old w b new after (inr v) = (v.looks.same, v.looks.own)
+-- a visit goes on, and notes its block at most
+pub visit-stops : (how : Way) (t : ℕ) (old : TransactionState) (w : WalkState) (b : ℕ) (new : TransactionState) (after : WalkState) → Visits how t old w b new after → IsStopped (λ c. c ≡ b) old stop.NoMemory new
+visit-stops how t old w b new after (inl (same, is, there)) =
+    left-stops (λ c. c ≡ b) old new stop.NoMemory (sees-same old.planner new.planner (ap (λ (s : TransactionState). s.planner) same)) (ap (λ (s : TransactionState). s.work) same) tt
+visit-stops how t old w b new after (inr v) = looked-stops old new b v.held v.looks
 
 cond-on : (c : Bool) (xs : List ℕ) (b : ℕ) → (others : List ℕ) × ((if c then xs ++ b ∷ [] else xs) ≡ xs ++ others)
 cond-on true xs b = (b ∷ [], refl)
@@ -205,44 +208,55 @@ gone-more pit how start t old mid new w after i m bs gone is led below visits =
 pub gone-few : (pit : Pit) (how : Way) (start t : ℕ) (old new : TransactionState) (w : WalkState) (i : ℕ) → IsGone pit how start t old new w i → length w.found ≤ pit.blocks
 gone-few pit how start t old new w i gone = walk-few pit.blocks (is_carried how t) (never-carried how t) (leads_to pit how) start (λ c. known_of new.work c) w.visited w.found gone.going.walk
 
--- what stopped a walk
-pub meets-map : (P Q : ℕ → Type 0) (start other : ℕ) (seen : List Answered) (s : StepStop) → ((b : ℕ) → P b → Q b) → other ≡ start → Meets P other seen s → Meets Q start seen s
-meets-map P Q start other seen (stop.Moved block version) f same meets = (f block meets.0, subst (λ (n : ℕ). IsMovedBlock seen n block version) same meets.1)
-meets-map P Q start other seen stop.NoMemory f same meets = tt
-meets-map P Q start other seen stop.NoEntry f same meets = (meets.0, f meets.0 meets.1)
+-- ---- what stopped a walk
 
--- what a block was read for that was found is a member, over what is known then
-pub member-meets : (pit : Pit) (how : Way) (start t : ℕ) (old mid new : TransactionState) (w : WalkState) (i m : ℕ) (bs : List ℕ) (seen : List Answered) (s : StepStop) → IsGone pit how start t old mid w i
-    → slice_get w.found i ≡ Some m → bs ≡ leads_to pit how m → own_of new.work ≡ own_of mid.work → Agrees (read_in mid.work.reads) (read_in new.work.reads) → Meets (Contains bs) mid.work.start seen s
-    → Meets (IsReadNow pit how start t new) old.work.start seen s
-member-meets pit how start t old mid new w i m bs seen s gone is led own reads meets =
+-- what was found is a member, over what is known then
+found-members : (pit : Pit) (how : Way) (start t : ℕ) (old mid new : TransactionState) (w : WalkState) → IsGoing pit how start t old mid w → own_of new.work ≡ own_of mid.work
+    → Agrees (read_in mid.work.reads) (read_in new.work.reads) → (m : ℕ) → Contains w.found m → Contains (members_of pit how (λ c. known_of new.work c) start t) m
+found-members pit how start t old mid new w going own reads m among =
     let wanted : ℕ → Bool = λ b. is_carried how t (known_of new.work b) in
-    let within = found-within pit how start t old mid w i m gone is in
-    let walk = walk-grows pit.blocks (is_carried how t) (never-carried how t) (leads_to pit how) start (λ c. known_of mid.work c) (λ c. known_of new.work c) w.visited w.found (known-more mid new reads own) gone.going.walk in
-    let member : Contains (members_of pit how (λ c. known_of new.work c) start t) m =
-    cone-has pit.blocks wanted (leads_to pit how) start m within.0 (All-contains (λ x. in_round pit.blocks wanted (leads_to pit how) start pit.blocks x ≡ true) w.found m walk.finds within.1) in
-    meets-map (Contains bs) (IsReadNow pit how start t new) old.work.start mid.work.start seen s
-    (λ b leads. inr (m, member, subst (λ (xs : List ℕ). Contains xs b) led leads)) gone.going.same.start meets
+    let walk = walk-grows pit.blocks (is_carried how t) (never-carried how t) (leads_to pit how) start (λ c. known_of mid.work c) (λ c. known_of new.work c) w.visited w.found (known-more mid new reads own) going.walk in
+    cone-has pit.blocks wanted (leads_to pit how) start m (All-contains (λ a. a < pit.blocks) w.visited m going.walk.below (All-contains (Contains w.visited) w.found m going.walk.visits among))
+    (All-contains (λ x. in_round pit.blocks wanted (leads_to pit how) start pit.blocks x ≡ true) w.found m walk.finds among)
 
--- and so it is one that the start leads to
-pub carry-meets : {X : Type 0} (pit : Pit) (how : Way) (b t : ℕ) (new : TransactionState) (start : ℕ) (seen : List Answered) (r : Result X StepStop) → IfErr r (Meets (IsReadNow pit how b t new) start seen)
-    → IfErr r (Meets (λ block. Reaches (leads_to pit how) b block) start seen)
-carry-meets pit how b t new start seen (Ok x) meets = tt
-carry-meets pit how b t new start seen (Err s) meets =
-    meets-map (IsReadNow pit how b t new) (λ block. Reaches (leads_to pit how) b block) start start seen s (λ block is. next-reached pit how (λ c. known_of new.work c) b t block is) refl meets
+-- what was visited so far, the line reads over what is known then
+going-stops : (pit : Pit) (how : Way) (start t : ℕ) (old mid new : TransactionState) (w : WalkState) → IsGoing pit how start t old mid w → own_of new.work ≡ own_of mid.work
+    → Agrees (read_in mid.work.reads) (read_in new.work.reads) → IsStopped (IsReadNow pit how start t new) old stop.NoMemory mid
+going-stops pit how start t old mid new w going own reads = record {
+  same = going.same;
+  own = going.own;
+  noted = notes-map (λ c. Contains w.visited c × HasNoWrite (own_of old.work) c) (λ c. IsReadNow pit how start t new c × HasNoWrite (own_of old.work) c)
+      (λ c is. (
+        next-kept (leads_to pit how) start w.found (members_of pit how (λ c. known_of new.work c) start t) (found-members pit how start t old mid new w going own reads) c
+            (All-contains (IsNextOf (leads_to pit how) start w.found) w.visited c going.walk.led is.0),
+        is.1,
+      )) old.work.reads mid.work.reads going.noted;
+  meets = tt;
+}
+
+-- it was stopped at what a member leads to
+pub walk-stops : (pit : Pit) (how : Way) (start t : ℕ) (old mid new : TransactionState) (w : WalkState) (i m : ℕ) (bs : List ℕ) (why : StepStop) → IsGone pit how start t old mid w i
+    → slice_get w.found i ≡ Some m → bs ≡ leads_to pit how m → IsStopped (Contains bs) mid why new → IsStopped (IsReadNow pit how start t new) old why new
+walk-stops pit how start t old mid new w i m bs why gone is led stopped =
+    let member = found-members pit how start t old mid new w gone.going stopped.own stopped.same.reads m (found-within pit how start t old mid w i m gone is).1 in
+    stopped-more (IsReadNow pit how start t new) old mid new why (going-stops pit how start t old mid new w gone.going stopped.own stopped.same.reads)
+    (stopped-map (Contains bs) (IsReadNow pit how start t new) mid new why (λ c leads absent. inr (m, member, subst (λ (xs : List ℕ). Contains xs c) led leads)) stopped)
+
+-- it was stopped behind the walk
+pub gone-stops : (pit : Pit) (how : Way) (start t : ℕ) (old mid new : TransactionState) (w : WalkState) (i : ℕ) (why : StepStop) → IsGone pit how start t old mid w i → new ≡ mid → why ≡ stop.NoMemory
+    → IsStopped (IsReadNow pit how start t new) old why new
+gone-stops pit how start t old mid new w i why gone same memory =
+    subst (λ (s : StepStop). IsStopped (IsReadNow pit how start t new) old s new) (sym memory)
+    (subst (λ (n : TransactionState). IsStopped (IsReadNow pit how start t n) old stop.NoMemory n) (sym same)
+    (going-stops pit how start t old mid mid w gone.going refl (Agrees-refl (read_in mid.work.reads))))
+
+-- so was the step
+pub carry-stops : (pit : Pit) (how : Way) (b t : ℕ) (old new : TransactionState) (why : StepStop) → IsStopped (IsReadNow pit how b t new) old why new → IsStoppedStep pit old (step.Carry how b t) why new
+carry-stops pit how b t old new why is =
+    stopped-map (IsReadNow pit how b t new) (IsReadOver pit (read_in new.work.reads) (own_of old.work) (step.Carry how b t)) old new why
+    (λ c now absent. (subst (λ (own : Commit). IsNextOf (leads_to pit how) b (members_of pit how (λ x. seen (read_in new.work.reads) own x) b t) c) is.own now, absent)) is
 
 -- ---- and then the members are put
-
-pub puts-next : (old now after : TransactionState) (bs : List ℕ) (i t : ℕ) (d : ℕ) (goes : Bool) → i < length bs → IsBenchTo old bs (drop i bs) t now → Puts now (get_or bs i d) (Some t) goes after
-    → IsBenchTo old bs (drop (i + 1) bs) t after
-puts-next old now after bs i t d goes less so_far puts = bench-more old now after bs (drop i bs) (drop (i + 1) bs) (get_or bs i d) t goes (drop-here bs i d less) so_far puts
-
-pub puts-whole : (old new : TransactionState) (bs : List ℕ) (i t : ℕ) → length bs ≤ i → IsBenchTo old bs (drop i bs) t new → PutsEach old bs t new
-puts-whole old new bs i t past so_far = record {
-  same = so_far.same;
-  own = sym (ap (λ (left : List ℕ). with_bench (own_of new.work) left t) (drop_all i bs past)) ∙ so_far.own;
-  reads = so_far.reads;
-}
 
 -- over whatever holds the reads, these are the members, and all that was visited they lead to
 pub carry-finds : (pit : Pit) (how : Way) (b t : ℕ) (old mid new : TransactionState) (w : WalkState) (i : ℕ) (sorted : List ℕ) → length w.found ≤ i → IsGone pit how b t old mid w i

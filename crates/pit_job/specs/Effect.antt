@@ -3,7 +3,7 @@ use Rattle.std.specs.Prelude.{◌≡◌, ℕ, ℤ, Bool, true, false, ◌&&◌, 
 use Rattle.pit_model.specs.Fitting.{pair_eq}
 use Rattle.pit_model.specs.Pit.{Pit, preds_of, succs_of}
 use Rattle.pit_plan.specs.Schedule.{Commit}
-use Rattle.pit_keyed.specs.Keyed.{at_key, with_write}
+use Rattle.pit_keyed.specs.Keyed.{at_key, with_each, with_write}
 use Rattle.pit_desk.specs.History.{Call, commit_of}
 use Rattle.pit_desk.specs.declared.entry.Act.{Act}
 use Rattle.pit_desk.specs.declared.entry.Act.TheVariants as act
@@ -42,8 +42,7 @@ with_revised own r t upper = record { writes = own.writes; revises = with_write 
 
 -- one block after another is put into a period
 abbrev pub with_bench : Commit → List ℕ → ℕ → Commit
-with_bench own [] t = own
-with_bench own (b ∷ blocks) t = with_bench (with_written own b (Some t)) blocks t
+with_bench own blocks t = record { writes = with_each nat_eq own.writes blocks (Some t); revises = own.revises }
 
 -- what is known with the own writes laid over
 abbrev pub seen : Known → Commit → ℕ → Option (Option ℕ)

@@ -1,12 +1,12 @@
 //! A block is put into a period with what is carried along: what stands in its way, or what depends on it.
-ghost use Rattle.std.specs.Prelude.{◌≡◌, ℕ, ◌<◌, ◌≤◌, ◌++◌, ◌∷◌, [], length, true, not, slice_get, nat_eq, Some, IfOk, IfErr, OnOk, if◌then◌else◌};
+ghost use Rattle.std.specs.Prelude.{◌≡◌, ℕ, ◌<◌, ◌≤◌, ◌++◌, ◌∷◌, [], length, true, not, slice_get, nat_eq, Some, IfOk, IfErr, OnOk, OnErr, if◌then◌else◌};
 ghost use Rattle.std.specs.List.{All, Contains, list_any};
 ghost use Rattle.pit_share.specs.Planners.{SeesOn};
-ghost use Rattle.pit_job.specs.Effect.{Agrees, is_carried as is_carried_of, leads_to, members_of, read_in, seen};
-ghost use Rattle.pit_job.specs.Inside.Doing.{DoesStep, Meets, NothingPut, own_of};
-ghost use Rattle.pit_job.specs.Inside.Walking.{Visits, VisitsEach, IsGone, IsReadNow, PutsEach};
+ghost use Rattle.pit_job.specs.Effect.{is_carried as is_carried_of, leads_to, members_of, read_in, seen};
+ghost use Rattle.pit_job.specs.Inside.Doing.{DoesStep, IsStopped, own_of};
+ghost use Rattle.pit_job.specs.Inside.Walking.{Visits, VisitsEach, IsGone, IsReadNow};
 
-use crate::doing::{StepStop, look, write};
+use crate::doing::{StepStop, look, put_each};
 use indexmap::IndexSet;
 use pit_board::Session;
 use pit_model::Instance;
@@ -99,15 +99,12 @@ pub(crate) fn carry<
     requires block { b < S.instance.blocks }
     ensures ok { OnOk result (DoesStep S.instance t.old (Step.Carry way b period) true t.new) }
     ensures members { IfOk result (λ put. put.items ≡ members_of S.instance way (λ c. seen (read_in t.new.work.reads) (own_of t.old.work) c) b period) }
-    ensures err { IfErr result (Meets (IsReadNow S.instance way b period t.new) t.old.work.start t.new.planner.seen) }
-    ensures unput { IfErr result (λ stop. NothingPut t.old stop t.new) }
+    ensures err { IfErr result (λ stop. IsStopped (IsReadNow S.instance way b period t.new) t.old stop t.new) }
     ensures sees { SeesOn t.old.planner t.new.planner }
 {
     let mut found = walked(t, benches.pit(), way, b, period)?.into_found();
     found.sort_unstable();
-    let Ok(()) = put_each(t, &found, period) else {
-        return Err(StepStop::NoMemory);
-    };
+    put_each(t, &found, period)?;
     Ok(found)
 }
 
@@ -122,8 +119,7 @@ fn walked<'a, S: Session, R: Wait + Drop, A: Allocator + Copy + Drop, B: Allocat
     requires pit { pit.now ≡ S.instance }
     requires block { b < S.instance.blocks }
     ensures ok { IfOk result (λ walk. (i : ℕ) × (length walk.found ≤ i) × IsGone S.instance way b period t.old t.new walk i) }
-    ensures err { IfErr result (Meets (IsReadNow S.instance way b period t.new) t.old.work.start t.new.planner.seen) }
-    ensures own { own_of t.new.work ≡ own_of t.old.work }
+    ensures err { IfErr result (λ stop. IsStopped (IsReadNow S.instance way b period t.new) t.old stop t.new) }
     ensures sees { SeesOn t.old.planner t.new.planner }
 {
     let mut walk = Walk::new(*t.reads().allocator());
@@ -158,9 +154,7 @@ fn visit_each<'a, S: Session, R: Wait + Drop, A: Allocator + Copy + Drop>(
 ) -> Result<(), StepStop>
     requires { All (λ b. b < S.instance.blocks) blocks.now }
     ensures ok { OnOk result (VisitsEach way period t.old walk.old blocks.now t.new walk.new) }
-    ensures err { IfErr result (Meets (Contains blocks.now) t.old.work.start t.new.planner.seen) }
-    ensures reads { Agrees (read_in t.old.work.reads) (read_in t.new.work.reads) }
-    ensures own { own_of t.new.work ≡ own_of t.old.work }
+    ensures err { IfErr result (λ stop. IsStopped (Contains blocks.now) t.old stop t.new) }
     ensures sees { SeesOn t.old.planner t.new.planner }
 {
     for b in blocks {
@@ -179,9 +173,7 @@ fn visit<'a, S: Session, R: Wait + Drop, A: Allocator + Copy + Drop>(
 ) -> Result<(), StepStop>
     requires { b < S.instance.blocks }
     ensures ok { OnOk result (Visits way period t.old walk.old b t.new walk.new) }
-    ensures err { IfErr result (Meets (λ block. block ≡ b) t.old.work.start t.new.planner.seen) }
-    ensures reads { Agrees (read_in t.old.work.reads) (read_in t.new.work.reads) }
-    ensures own { own_of t.new.work ≡ own_of t.old.work }
+    ensures err { IfErr result (λ stop. IsStopped (λ c. c ≡ b) t.old stop t.new) }
     ensures sees { SeesOn t.old.planner t.new.planner }
 {
     if !walk.enter(b)? {
@@ -204,19 +196,4 @@ fn is_carried(way: Way, period: u32, held: Option<u32>) -> bool
         (Way::Push, None) => false,
         (Way::Push, Some(held)) => held < period,
     }
-}
-
-fn put_each<'a, S: Session, R: Wait + Drop, A: Allocator + Copy + Drop>(
-    t: &mut Transaction<'a, S, R, A>,
-    blocks: &[u32],
-    period: u32,
-) -> Result<(), StepStop>
-    ensures ok { OnOk result (PutsEach t.old blocks.now period t.new) }
-    ensures memory { IfErr result (λ stop. stop ≡ StepStop.NoMemory) }
-    ensures sees { SeesOn t.old.planner t.new.planner }
-{
-    for b in blocks {
-        write(t, *b, Some(period))?;
-    }
-    Ok(())
 }

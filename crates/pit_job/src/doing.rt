@@ -1,12 +1,12 @@
 //! The steps of a job, done in a transaction.
-ghost use Rattle.std.specs.Prelude.{◌≡◌, ◌<◌, true, IfOk, IfErr, OnOk, OnErr, Ok, Err, All};
+ghost use Rattle.std.specs.Prelude.{◌≡◌, ◌<◌, true, map, IfOk, IfErr, OnOk, OnErr, Ok, Err, All};
 ghost use Rattle.pit_script.specs.Ranges.{IsStepIn};
 ghost use Rattle.pit_share.specs.Planners.{SeesOn};
-ghost use Rattle.pit_job.specs.Outcomes.{IsReadBy, IsRead};
+ghost use Rattle.pit_job.specs.Outcomes.{IsRead};
 ghost use Rattle.pit_job.specs.Effect.{same_period as same_period_of};
 ghost use Rattle.pit_job.specs.Shifts.{shifted as shifted_of};
-ghost use Rattle.pit_job.specs.Inside.Doing.{LooksUp, Puts, DoesStep, DoesSteps, Meets, IsUnseen};
-ghost use Rattle.pit_job.specs.Inside.Walking.{IsReadNow};
+ghost use Rattle.pit_job.specs.Inside.Doing.{LooksUp, Puts, DoesStep, DoesSteps, IsStopped, IsStoppedStep, IsUnseen, Meets};
+ghost use Rattle.pit_job.specs.Inside.Walking.{PutsEach};
 
 use crate::carry::carry;
 use crate::shift::shifted;
@@ -56,7 +56,7 @@ fn do_step<'a, S: Session, R: Wait + Drop, A: Allocator + Copy + Drop, B: Alloca
     requires pit { benches.now ≡ S.instance }
     requires in_range { IsStepIn S.instance step.now }
     ensures ok { IfOk result (λ goes. DoesStep S.instance t.old step.now goes t.new) }
-    ensures err { IfErr result (Meets (λ block. IsReadBy S.instance block step.now) t.old.work.start t.new.planner.seen) }
+    ensures err { IfErr result (λ stop. IsStoppedStep S.instance t.old step.now stop t.new) }
     ensures sees { SeesOn t.old.planner t.new.planner }
 {
     match *step {
@@ -81,7 +81,7 @@ fn read<'a, S: Session, R: Wait + Drop, A: Allocator + Copy + Drop>(
 ) -> Result<bool, StepStop>
     requires { b < S.instance.blocks }
     ensures ok { IfOk result (λ goes. DoesStep S.instance t.old (Step.Read b) goes t.new) }
-    ensures err { IfErr result (Meets (λ block. block ≡ b) t.old.work.start t.new.planner.seen) }
+    ensures err { IfErr result (λ stop. IsStoppedStep S.instance t.old (Step.Read b) stop t.new) }
     ensures sees { SeesOn t.old.planner t.new.planner }
 {
     let _period = look(t, b)?;
@@ -96,7 +96,7 @@ fn expect<'a, S: Session, R: Wait + Drop, A: Allocator + Copy + Drop>(
 ) -> Result<bool, StepStop>
     requires { b < S.instance.blocks }
     ensures ok { IfOk result (λ goes. DoesStep S.instance t.old (Step.Expect b period) goes t.new) }
-    ensures err { IfErr result (Meets (λ block. block ≡ b) t.old.work.start t.new.planner.seen) }
+    ensures err { IfErr result (λ stop. IsStoppedStep S.instance t.old (Step.Expect b period) stop t.new) }
     ensures sees { SeesOn t.old.planner t.new.planner }
 {
     let held = look(t, b)?;
@@ -120,7 +120,7 @@ fn carry_along<
     requires pit { benches.now ≡ S.instance }
     requires block { b < S.instance.blocks }
     ensures ok { IfOk result (λ goes. DoesStep S.instance t.old (Step.Carry way b period) goes t.new) }
-    ensures err { IfErr result (Meets (IsReadNow S.instance way b period t.new) t.old.work.start t.new.planner.seen) }
+    ensures err { IfErr result (λ stop. IsStoppedStep S.instance t.old (Step.Carry way b period) stop t.new) }
     ensures sees { SeesOn t.old.planner t.new.planner }
 {
     let _put = carry(t, benches, way, b, period)?;
@@ -144,7 +144,8 @@ fn revise<'a, S: Session, R: Wait + Drop, A: Allocator + Copy + Drop>(
     upper: Option<i64>,
 ) -> Result<bool, StepStop>
     ensures ok { IfOk result (λ goes. DoesStep S.instance t.old (Step.Revise resource period upper) goes t.new) }
-    ensures err { IfErr result (Meets (λ block. ⊥) t.old.work.start t.new.planner.seen) }
+    ensures memory { IfErr result (λ stop. stop ≡ StepStop.NoMemory) }
+    ensures stays { OnErr result (t.new ≡ t.old) }
     ensures sees { SeesOn t.old.planner t.new.planner }
 {
     answered(t.revise(resource, period, upper))
@@ -159,14 +160,46 @@ fn bench<'a, S: Session, R: Wait + Drop, A: Allocator + Copy + Drop, B: Allocato
 ) -> Result<bool, StepStop>
     requires { benches.now ≡ S.instance }
     ensures ok { IfOk result (λ goes. DoesStep S.instance t.old (Step.Bench height period) goes t.new) }
-    ensures err { IfErr result (Meets (λ block. ⊥) t.old.work.start t.new.planner.seen) }
+    ensures memory { IfErr result (λ stop. stop ≡ StepStop.NoMemory) }
+    ensures stays { OnErr result (t.new ≡ t.old) }
     ensures sees { SeesOn t.old.planner t.new.planner }
 {
-    let blocks = benches.bench(height);
-    for placed in blocks {
-        write(t, placed.1, Some(period))?;
-    }
+    let blocks = blocks_of(*t.reads().allocator(), benches.bench(height))?;
+    put_each(t, &blocks, period)?;
     Ok(true)
+}
+
+fn blocks_of<A: Allocator + Copy + Drop>(
+    alloc: A,
+    placed: &[(i64, u32)],
+) -> Result<Vec<u32, A>, StepStop>
+    ensures blocks { IfOk result (λ blocks. blocks.items ≡ map (λ p. p.1) placed.now) }
+    ensures memory { IfErr result (λ stop. stop ≡ StepStop.NoMemory) }
+{
+    let mut blocks = Vec::new(alloc);
+    for one in placed {
+        let Ok(()) = blocks.push(one.1) else {
+            return Err(StepStop::NoMemory);
+        };
+    }
+    Ok(blocks)
+}
+
+/// Puts each of these blocks into a period: all of them, or, where memory runs out, none.
+pub(crate) fn put_each<'a, S: Session, R: Wait + Drop, A: Allocator + Copy + Drop>(
+    t: &mut Transaction<'a, S, R, A>,
+    blocks: &[u32],
+    period: u32,
+) -> Result<(), StepStop>
+    ensures ok { OnOk result (PutsEach t.old blocks.now period t.new) }
+    ensures memory { IfErr result (λ stop. stop ≡ StepStop.NoMemory) }
+    ensures stays { OnErr result (t.new ≡ t.old) }
+    ensures sees { SeesOn t.old.planner t.new.planner }
+{
+    match t.put_each(blocks, period) {
+        Ok(()) => Ok(()),
+        Err(_) => Err(StepStop::NoMemory),
+    }
 }
 
 fn shift<'a, S: Session, R: Wait + Drop, A: Allocator + Copy + Drop, B: Allocator + Copy + Drop>(
@@ -179,7 +212,7 @@ fn shift<'a, S: Session, R: Wait + Drop, A: Allocator + Copy + Drop, B: Allocato
     requires pit { benches.now ≡ S.instance }
     requires block { b < S.instance.blocks }
     ensures ok { IfOk result (λ goes. DoesStep S.instance t.old (Step.Shift b is_back by) goes t.new) }
-    ensures err { IfErr result (Meets (λ block. block ≡ b) t.old.work.start t.new.planner.seen) }
+    ensures err { IfErr result (λ stop. IsStoppedStep S.instance t.old (Step.Shift b is_back by) stop t.new) }
     ensures sees { SeesOn t.old.planner t.new.planner }
 {
     let Some(now) = look(t, b)? else {
@@ -210,7 +243,7 @@ pub(crate) fn look<'a, S: Session, R: Wait + Drop, A: Allocator + Copy + Drop>(
 ) -> Result<Option<u32>, StepStop>
     requires { b < S.instance.blocks }
     ensures ok { IfOk result (λ period. LooksUp t.old b period t.new) }
-    ensures err { IfErr result (Meets (λ block. block ≡ b) t.old.work.start t.new.planner.seen) }
+    ensures err { IfErr result (λ stop. IsStopped (λ c. c ≡ b) t.old stop t.new) }
     ensures unseen { IfErr result (λ stop. IsUnseen t.old b stop t.new) }
     ensures sees { SeesOn t.old.planner t.new.planner }
 {
@@ -223,13 +256,14 @@ pub(crate) fn look<'a, S: Session, R: Wait + Drop, A: Allocator + Copy + Drop>(
 }
 
 /// Writes that a block has a period, or none.
-pub(crate) fn write<'a, S: Session, R: Wait + Drop, A: Allocator + Copy + Drop>(
+fn write<'a, S: Session, R: Wait + Drop, A: Allocator + Copy + Drop>(
     t: &mut Transaction<'a, S, R, A>,
     b: u32,
     period: Option<u32>,
 ) -> Result<bool, StepStop>
     ensures ok { IfOk result (λ goes. Puts t.old b period goes t.new) }
-    ensures err { IfErr result (Meets (λ block. ⊥) t.old.work.start t.new.planner.seen) }
+    ensures memory { IfErr result (λ stop. stop ≡ StepStop.NoMemory) }
+    ensures stays { OnErr result (t.new ≡ t.old) }
     ensures sees { SeesOn t.old.planner t.new.planner }
 {
     match period {

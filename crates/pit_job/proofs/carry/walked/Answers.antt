@@ -1,19 +1,19 @@
-use Rattle.std.proofs.Common.{inl, ◌≡◌, ◌<◌, ◌≤◌, length, sym, ap, subst, refl, ◌∙◌, arith}
+use Rattle.std.proofs.Common.{inl, ◌≡◌, ◌<◌, ◌≤◌, length, sym, ap, subst, ◌∙◌, arith}
 use Rattle.std.specs.List.{All}
 use Rattle.pit_model.specs.Pit.{Pit}
 use Rattle.pit_job.specs.Effect.{leads_to}
-use Rattle.pit_job.specs.Inside.Doing.{Meets}
+use Rattle.pit_job.specs.Inside.Doing.{IsStopped}
 use Rattle.pit_job.specs.Inside.Walking.{IsReadNow}
-use Rattle.pit_job.proofs.Meeting.{stop-handed}
-use Rattle.pit_job.proofs.Walking.{gone-first, gone-more, gone-few, past-found, found-within, meets-map, member-meets}
+use Rattle.pit_job.proofs.Meeting.{stop-handed, stopped-map}
+use Rattle.pit_job.proofs.Walking.{gone-first, gone-more, gone-few, past-found, found-within, walk-stops}
 use Rattle.pit_job.proofs.carry.walked.Goals as goal
 
 pub returns-in_err-visit-clause-err : goal.returns-in_err-visit-clause-err
 returns-in_err-visit-clause-err g c =
-    stop-handed c.from_residual.result c.in_err-visit.field-0.0 (Meets (IsReadNow g.S.Session.instance c.args.way c.args.b c.args.period c.visit.new.t) c.args.t.now.work.start c.visit.new.t.planner.seen)
+    stop-handed c.from_residual.result c.in_err-visit.field-0.0 (λ why. IsStopped (IsReadNow g.S.Session.instance c.args.way c.args.b c.args.period c.visit.new.t) c.args.t.now why c.visit.new.t)
     c.from_residual.ensures.0 c.from_residual.ensures.1
-    (meets-map (λ block. block ≡ c.args.b) (IsReadNow g.S.Session.instance c.args.way c.args.b c.args.period c.visit.new.t) c.args.t.now.work.start c.args.t.now.work.start c.visit.new.t.planner.seen
-    c.in_err-visit.field-0.0 (λ block same. inl same) refl c.in_err-visit.ensures.err)
+    (stopped-map (λ block. block ≡ c.args.b) (IsReadNow g.S.Session.instance c.args.way c.args.b c.args.period c.visit.new.t) c.args.t.now c.visit.new.t c.in_err-visit.field-0.0 (λ block same absent. inl same)
+    c.in_err-visit.ensures.err)
 
 pub loop-i-init : goal.loop-i-init
 loop-i-init g c =
@@ -30,11 +30,11 @@ led_by-requires g c =
 pub returns-in_err-visit_each-clause-err : goal.returns-in_err-visit_each-clause-err
 returns-in_err-visit_each-clause-err g c =
     stop-handed c.from_residual-in_err-visit_each.result c.in_err-visit_each.field-0.0
-    (Meets (IsReadNow g.S.Session.instance c.args.way c.args.b c.args.period c.visit_each.new.t) c.args.t.now.work.start c.visit_each.new.t.planner.seen)
+    (λ why. IsStopped (IsReadNow g.S.Session.instance c.args.way c.args.b c.args.period c.visit_each.new.t) c.args.t.now why c.visit_each.new.t)
     c.from_residual-in_err-visit_each.ensures.0 c.from_residual-in_err-visit_each.ensures.1
-    (member-meets g.S.Session.instance c.args.way c.args.b c.args.period c.args.t.now c.loop-i.t c.visit_each.new.t c.loop-i.walk c.loop-i.i c.in-Some.m c.led_by.result.now c.visit_each.new.t.planner.seen
+    (walk-stops g.S.Session.instance c.args.way c.args.b c.args.period c.args.t.now c.loop-i.t c.visit_each.new.t c.loop-i.walk c.loop-i.i c.in-Some.m c.led_by.result.now
     c.in_err-visit_each.field-0.0 c.loop-i.invariant (sym c.member.ensures ∙ c.in-Some.is) (c.led_by.ensures.value ∙ ap (λ (p : Pit). leads_to p c.args.way c.in-Some.m) c.requires.pit)
-    c.visit_each.ensures.own c.visit_each.ensures.reads c.in_err-visit_each.ensures.err)
+    c.in_err-visit_each.ensures.err)
 
 pub loop-i-preserved : goal.loop-i-preserved
 loop-i-preserved g c =

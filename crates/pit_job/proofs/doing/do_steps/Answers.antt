@@ -1,6 +1,7 @@
 use Rattle.std.proofs.Common.{arith, true, false, refl, ◌∙◌}
 use Rattle.pit_job.specs.Outcomes.{IsRead}
-use Rattle.pit_job.specs.Inside.Doing.{Meets}
+use Rattle.pit_job.specs.Effect.{read_in}
+use Rattle.pit_job.specs.Inside.Doing.{own_of, Meets}
 use Rattle.pit_job.proofs.Seeing.{sees-same, sees-trans}
 use Rattle.pit_job.proofs.Stepping.{steps-end, steps-next, steps-stop}
 use Rattle.pit_job.proofs.Meeting.{stop-handed, steps-meet}
@@ -14,7 +15,8 @@ returns-then-not-branch-clause-ok g c =
 pub returns-in_err-do_step-clause-err : goal.returns-in_err-do_step-clause-err
 returns-in_err-do_step-clause-err g c =
     stop-handed c.from_residual.result c.in_err-do_step.field-0.0 (Meets (IsRead g.S.Session.instance c.args.steps.now) c.args.t.now.work.start c.do_step.new.t.planner.seen) c.from_residual.ensures.0 c.from_residual.ensures.1
-    (steps-meet g.S.Session.instance c.args.steps.now c.loop-step.step-index _ c.args.t.now.work.start c.loop-step.t.work.start c.do_step.new.t.planner.seen _ (omega arith) c.loop-step.invariant.start c.in_err-do_step.ensures.err)
+    (steps-meet g.S.Session.instance (read_in c.do_step.new.t.work.reads) (own_of c.loop-step.t.work) c.args.steps.now c.loop-step.step-index _ c.args.t.now.work.start c.loop-step.t.work.start c.do_step.new.t.planner.seen _ (omega arith)
+    c.loop-step.invariant.start c.in_err-do_step.ensures.err.meets)
 
 pub loop-step-preserved : goal.loop-step-preserved
 loop-step-preserved g c =

@@ -1,7 +1,7 @@
-use Rattle.std.proofs.Common.{◌≡◌, ℕ, Option, subst}
+use Rattle.std.proofs.Common.{ℕ, Option, subst}
 use Rattle.pit_job.specs.Inside.Doing.{LooksUp}
 use Rattle.pit_job.proofs.Stepping.{shift-none, shift-out, shift-told, shifted-as}
-use Rattle.pit_job.proofs.Meeting.{never-stops}
+use Rattle.pit_job.proofs.Meeting.{shift-stops}
 use Rattle.pit_job.proofs.Seeing.{sees-trans}
 use Rattle.pit_job.proofs.doing.shift.Goals as goal
 
@@ -25,7 +25,7 @@ returns-clause-ok g c =
 
 pub returns-clause-err : goal.returns-clause-err
 returns-clause-err g c =
-    never-stops (λ block. block ≡ c.args.b) c.look.new.t.work.start c.args.t.now.work.start c.write.new.t.planner.seen c.write.new.t.planner.seen c.write.result c.write.ensures.err
+    shift-stops g.S.Session.instance c.args.t.now c.look.new.t c.write.new.t c.args.b c.args.by c.args.is_back _ c.write.result c.in_ok-now.ensures.ok c.write.ensures.memory c.write.ensures.stays
 
 pub returns-clause-sees : goal.returns-clause-sees
 returns-clause-sees g c = sees-trans c.args.t.now.planner c.look.new.t.planner c.write.new.t.planner c.look.ensures.sees c.write.ensures.sees

@@ -1,6 +1,4 @@
-use Rattle.pit_job.specs.Inside.Doing.{Meets}
 use Rattle.pit_job.proofs.Stepping.{write-puts}
-use Rattle.pit_job.proofs.Meeting.{told-stops}
 use Rattle.pit_job.proofs.doing.write.Goals as goal
 
 pub returns-in-Some-clause-ok : goal.returns-in-Some-clause-ok
@@ -10,11 +8,3 @@ returns-in-Some-clause-ok g c =
 pub returns-in-None-clause-ok : goal.returns-in-None-clause-ok
 returns-in-None-clause-ok g c =
     rw c.in-None.is (write-puts c.args.t.now c.clear.new.self c.args.b _ c.clear.result c.answered-in-None.result c.answered-in-None.ensures.done c.answered-in-None.ensures.stop c.clear.ensures.planner c.clear.ensures.ok)
-
-pub returns-in-Some-clause-err : goal.returns-in-Some-clause-err
-returns-in-Some-clause-err g c =
-    told-stops c.put.result c.answered.result (Meets (λ block. ⊥) c.args.t.now.work.start c.put.new.self.planner.seen) c.answered.ensures.done c.answered.ensures.stop tt
-
-pub returns-in-None-clause-err : goal.returns-in-None-clause-err
-returns-in-None-clause-err g c =
-    told-stops c.clear.result c.answered-in-None.result (Meets (λ block. ⊥) c.args.t.now.work.start c.clear.new.self.planner.seen) c.answered-in-None.ensures.done c.answered-in-None.ensures.stop tt
