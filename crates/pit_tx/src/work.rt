@@ -35,6 +35,13 @@ pub struct Work<A: Allocator + Copy + Drop> {
     blocks: u32,
     periods: u32,
     resources: u32,
+    /// On the heap, so that a work that is handed on takes few bytes.
+    sets: Box<Kept<A>, A>,
+}
+
+/// The sets of a work.
+#[derive(Drop)]
+struct Kept<A: Allocator + Copy + Drop> {
     reads: FilteredSet<Option<u32>, A>,
     writes: PeriodMap<A>,
     revises: LimitMap<A>,
@@ -53,9 +60,9 @@ impl<A: Allocator + Copy + Drop> Model for Work<A> {
       blocks = w.blocks;
       periods = w.periods;
       resources = w.resources;
-      reads = w.reads;
-      writes = w.writes.entries;
-      revises = w.revises.entries;
+      reads = w.sets.value.reads;
+      writes = w.sets.value.writes.entries;
+      revises = w.sets.value.revises.entries;
     } };
 
     ghost invariant = { λ w. AreSound (record {
@@ -65,10 +72,10 @@ impl<A: Allocator + Copy + Drop> Model for Work<A> {
       blocks = w.blocks;
       periods = w.periods;
       resources = w.resources;
-      reads = w.reads;
-      writes = w.writes.entries;
-      revises = w.revises.entries;
-    }) × HasFirstRoom w.writes × HasFirstRoom w.revises };
+      reads = w.sets.value.reads;
+      writes = w.sets.value.writes.entries;
+      revises = w.sets.value.revises.entries;
+    }) × HasFirstRoom w.sets.value.writes × HasFirstRoom w.sets.value.revises };
 }
 
 impl<A: Allocator + Copy + Drop> Work<A> {
@@ -136,17 +143,23 @@ impl<A: Allocator + Copy + Drop> Work<A> {
         let reads = FilteredSet::new(alloc, room)?;
         let writes = IndexMap::with_capacity(alloc, FIRST_ROOM)?;
         let revises = IndexMap::with_capacity(alloc, FIRST_ROOM)?;
-        Ok(Work {
-            planner,
-            job,
-            start,
-            blocks,
-            periods,
-            resources,
+        let kept = Kept {
             reads,
             writes,
             revises,
-        })
+        };
+        match Box::new(alloc, kept) {
+            Ok(sets) => Ok(Work {
+                planner,
+                job,
+                start,
+                blocks,
+                periods,
+                resources,
+                sets,
+            }),
+            Err(_) => Err(NoMemory),
+        }
     }
 
     /// Empty sets, as `new` makes them, in the memory of this work's sets. Takes no memory.
@@ -176,16 +189,11 @@ impl<A: Allocator + Copy + Drop> Work<A> {
           revises = [];
         } }
     {
-        let Work {
-            mut reads,
-            mut writes,
-            mut revises,
-            ..
-        } = self;
-        reads.clear();
-        writes.clear();
-        if !revises.is_empty() {
-            revises.clear();
+        let Work { mut sets, .. } = self;
+        sets.reads.clear();
+        sets.writes.clear();
+        if !sets.revises.is_empty() {
+            sets.revises.clear();
         }
         Work {
             planner,
@@ -194,9 +202,7 @@ impl<A: Allocator + Copy + Drop> Work<A> {
             blocks,
             periods,
             resources,
-            reads,
-            writes,
-            revises,
+            sets,
         }
     }
 
@@ -258,7 +264,7 @@ impl<A: Allocator + Copy + Drop> Work<A> {
     {
         match self.written(b) {
             Some(period) => Some(period),
-            None => self.reads.get(b),
+            None => self.sets.reads.get(b),
         }
     }
 
@@ -273,7 +279,7 @@ impl<A: Allocator + Copy + Drop> Work<A> {
         if let Some(error) = self.refusal(b, period) {
             return Err(error);
         }
-        match self.reads.note(b, period) {
+        match self.sets.reads.note(b, period) {
             Ok(()) => Ok(()),
             Err(_) => Err(WorkError::NoMemory),
         }
@@ -289,7 +295,7 @@ impl<A: Allocator + Copy + Drop> Work<A> {
         ensures err { OnErr result (self.new ≡ self.old) }
         ensures memory { OnErr result (IsFurther nat_eq self.old.reads b) }
     {
-        self.reads.add(b, period)
+        self.sets.reads.add(b, period)
     }
 
     /// Writes that a block has a period. A block that was written before keeps its place. Takes memory where the write set has
@@ -314,7 +320,7 @@ impl<A: Allocator + Copy + Drop> Work<A> {
         if let Some(error) = self.first_refusal(blocks, t) {
             return Err(error);
         }
-        match insert_each(&mut self.writes, blocks, Some(t)) {
+        match insert_each(&mut self.sets.writes, blocks, Some(t)) {
             Ok(()) => Ok(()),
             Err(_) => Err(WorkError::NoMemory),
         }
@@ -341,7 +347,7 @@ impl<A: Allocator + Copy + Drop> Work<A> {
         if let Some(error) = self.revision_refusal(r, t) {
             return Err(error);
         }
-        match insert(&mut self.revises, (r, t), upper) {
+        match insert(&mut self.sets.revises, (r, t), upper) {
             Ok(()) => Ok(()),
             Err(_) => Err(WorkError::NoMemory),
         }
@@ -352,7 +358,7 @@ impl<A: Allocator + Copy + Drop> Work<A> {
         ensures pairs { result.now.entries ≡ self.now.reads }
         ensures fit { Fits self.now.blocks self.now.periods self.now.reads }
     {
-        self.reads.map()
+        self.sets.reads.map()
     }
 
     /// The write set: each block with what it was last given.
@@ -360,7 +366,7 @@ impl<A: Allocator + Copy + Drop> Work<A> {
         ensures pairs { result.now.entries ≡ self.now.writes }
         ensures fit { Fits self.now.blocks self.now.periods self.now.writes }
     {
-        &self.writes
+        &self.sets.writes
     }
 
     /// The revisions: each pair of a resource and a period with the upper limit that it was last given.
@@ -368,17 +374,17 @@ impl<A: Allocator + Copy + Drop> Work<A> {
         ensures pairs { result.now.entries ≡ self.now.revises }
         ensures fit { RevisionsFit self.now.resources self.now.periods self.now.revises }
     {
-        &self.revises
+        &self.sets.revises
     }
 
     /// The own write of a block. Most often there is none yet, and then no hash is made.
     fn written(&self, b: u32) -> Option<Option<u32>>
         ensures { result ≡ at_key nat_eq self.now.writes b }
     {
-        if self.writes.is_empty() {
+        if self.sets.writes.is_empty() {
             return None;
         }
-        match self.writes.get(&b) {
+        match self.sets.writes.get(&b) {
             Some(period) => Some(*period),
             None => None,
         }
@@ -394,7 +400,7 @@ impl<A: Allocator + Copy + Drop> Work<A> {
         if let Some(error) = self.refusal(b, period) {
             return Err(error);
         }
-        match insert(&mut self.writes, b, period) {
+        match insert(&mut self.sets.writes, b, period) {
             Ok(()) => Ok(()),
             Err(_) => Err(WorkError::NoMemory),
         }

@@ -2,22 +2,27 @@ use Rattle.std.proofs.Common.{◌≡◌, [], ◌∷◌, ◌++◌, None, nat_eq, 
 use Rattle.pit_model.specs.Fitting.{Fits}
 use Rattle.pit_keyed.specs.Keyed.{at_key}
 use Rattle.pit_tx.proofs.Inserted.{Fits-further, kept_after}
+use Rattle.pit_tx.specs.Sets.{AreSound}
+use Rattle.pit_keyed.specs.Keyed.{HasFirstRoom}
 use Rattle.pit_tx.proofs.work.Work.note_unknown.Goals as goal
 
 pub invariant_of-self : goal.invariant_of-self
 invariant_of-self g c =
     let w = c.self.inside in
-    let absent : at_key nat_eq w.reads c.args.b ≡ None = search rules in (
+    let k = c.deref_mut.result.now in
+    let inv : AreSound (record { planner = w.planner; job = w.job; start = w.start; blocks = w.blocks; periods = w.periods; resources = w.resources; reads = k.reads; writes = k.writes.entries; revises = k.revises.entries })
+    × HasFirstRoom k.writes × HasFirstRoom k.revises = rw c.deref_mut.ensures.value c.self.invariant in
+    let absent : at_key nat_eq k.reads c.args.b ≡ None = search rules in (
       record {
-        blocks = c.self.invariant.0.blocks;
-        periods = c.self.invariant.0.periods;
-        resources = c.self.invariant.0.resources;
-        reads = kept_after (Fits w.blocks w.periods) c.add.result w.reads (w.reads ++ (c.args.b, c.args.period) ∷ []) c.add.new.self c.add.ensures.ok
-            c.add.ensures.err c.self.invariant.0.reads
-            (Fits-further w.blocks w.periods w.reads c.args.b c.args.period (search rules) (search rules) absent c.self.invariant.0.reads);
-        writes = c.self.invariant.0.writes;
-        revises = c.self.invariant.0.revises;
+        blocks = inv.0.blocks;
+        periods = inv.0.periods;
+        resources = inv.0.resources;
+        reads = kept_after (Fits w.blocks w.periods) c.add.result k.reads (k.reads ++ (c.args.b, c.args.period) ∷ []) c.add.new.self c.add.ensures.ok
+            c.add.ensures.err inv.0.reads
+            (Fits-further w.blocks w.periods k.reads c.args.b c.args.period (search rules) (search rules) absent inv.0.reads);
+        writes = inv.0.writes;
+        revises = inv.0.revises;
       },
-      c.self.invariant.1,
-      c.self.invariant.2,
+      inv.1,
+      inv.2,
     )

@@ -2,21 +2,26 @@ use Rattle.std.proofs.Common.{nat_eq, rules}
 use Rattle.pit_model.specs.Fitting.{Fits}
 use Rattle.pit_keyed.specs.Keyed.{with_write}
 use Rattle.pit_tx.proofs.Inserted.{Fits-insert_entry, kept_after}
+use Rattle.pit_tx.specs.Sets.{AreSound}
+use Rattle.pit_keyed.specs.Keyed.{HasFirstRoom}
 use Rattle.pit_tx.proofs.work.Work.write.Goals as goal
 
 pub invariant_of-self : goal.invariant_of-self
 invariant_of-self g c =
-    let w = c.self.inside in (
+    let w = c.self.inside in
+    let k = c.deref_mut.result.now in
+    let inv : AreSound (record { planner = w.planner; job = w.job; start = w.start; blocks = w.blocks; periods = w.periods; resources = w.resources; reads = k.reads; writes = k.writes.entries; revises = k.revises.entries })
+    × HasFirstRoom k.writes × HasFirstRoom k.revises = rw c.deref_mut.ensures.value c.self.invariant in (
       record {
-        blocks = c.self.invariant.0.blocks;
-        periods = c.self.invariant.0.periods;
-        resources = c.self.invariant.0.resources;
-        reads = c.self.invariant.0.reads;
-        writes = kept_after (Fits w.blocks w.periods) c.insert.result w.writes.entries (with_write nat_eq w.writes.entries c.args.b c.args.period) c.insert.new.map.entries c.insert.ensures.ok
-            c.insert.ensures.err c.self.invariant.0.writes
-            (Fits-insert_entry w.blocks w.periods w.writes.entries c.args.b c.args.period (search rules) (search rules) c.self.invariant.0.writes);
-        revises = c.self.invariant.0.revises;
+        blocks = inv.0.blocks;
+        periods = inv.0.periods;
+        resources = inv.0.resources;
+        reads = inv.0.reads;
+        writes = kept_after (Fits w.blocks w.periods) c.insert.result k.writes.entries (with_write nat_eq k.writes.entries c.args.b c.args.period) c.insert.new.map.entries c.insert.ensures.ok
+            c.insert.ensures.err inv.0.writes
+            (Fits-insert_entry w.blocks w.periods k.writes.entries c.args.b c.args.period (search rules) (search rules) inv.0.writes);
+        revises = inv.0.revises;
       },
       c.insert.ensures.kept,
-      c.self.invariant.2,
+      inv.2,
     )
