@@ -16,7 +16,7 @@ use Rattle.pit_script.specs.declared.step.Step.{Step}
 use Rattle.pit_script.specs.declared.step.Step.TheVariants as step
 use Rattle.pit_job.specs.Effect.{Agrees, Known, read_in}
 use Rattle.pit_job.specs.Outcomes.{IsMovedBlock, HasNoWrite, IsReadOver, IsRead}
-use Rattle.pit_job.specs.Inside.Doing.{own_of, IsStopped, IsStoppedStep, LooksUp, Meets}
+use Rattle.pit_job.specs.Inside.Doing.{own_of, StopsAt, StepStopsAt, LooksUp, Meets}
 use Rattle.pit_job.specs.declared.doing.StepStop.{StepStop}
 use Rattle.pit_job.specs.declared.doing.StepStop.TheVariants as stop
 use Rattle.pit_job.proofs.Noting.{notes-map, notes-none, notes-trans, over-read}
@@ -33,7 +33,7 @@ meets-map P Q start other seen stop.NoEntry f same meets = (meets.0, f meets.0 m
 
 -- nothing was done in the sets
 pub left-stops : (IsOne : ℕ → Type 0) (old new : TransactionState) (why : StepStop) → SeesOn old.planner new.planner → new.work ≡ old.work
-    → Meets (λ c. IsOne c × HasNoWrite (own_of old.work) c) old.work.start new.planner.seen why → IsStopped IsOne old why new
+    → Meets (λ c. IsOne c × HasNoWrite (own_of old.work) c) old.work.start new.planner.seen why → StopsAt IsOne old why new
 left-stops IsOne old new why sees same meets = record {
   same = record {
     sees = sees;
@@ -47,18 +47,18 @@ left-stops IsOne old new why sees same meets = record {
 }
 
 -- memory ran out, and nothing was done
-stays-stop : (IsOne : ℕ → Type 0) (old new : TransactionState) (why : StepStop) → why ≡ stop.NoMemory → new ≡ old → IsStopped IsOne old why new
+stays-stop : (IsOne : ℕ → Type 0) (old new : TransactionState) (why : StepStop) → why ≡ stop.NoMemory → new ≡ old → StopsAt IsOne old why new
 stays-stop IsOne old new why memory same =
-    subst (λ (w : StepStop). IsStopped IsOne old w new) (sym memory)
+    subst (λ (w : StepStop). StopsAt IsOne old w new) (sym memory)
     (left-stops IsOne old new stop.NoMemory (sees-same old.planner new.planner (ap (λ (t : TransactionState). t.planner) same)) (ap (λ (t : TransactionState). t.work) same) tt)
 
 pub stays-stops : {X : Type 0} (IsOne : TransactionState → ℕ → Type 0) (old new : TransactionState) (r : Result X StepStop) → IfErr r (λ why. why ≡ stop.NoMemory) → OnErr r (new ≡ old)
-    → IfErr r (λ why. IsStopped (IsOne new) old why new)
+    → IfErr r (λ why. StopsAt (IsOne new) old why new)
 stays-stops IsOne old new (Ok x) memory same = tt
 stays-stops IsOne old new (Err why) memory same = stays-stop (IsOne new) old new why memory same
 
 -- of these blocks, it was of those
-pub stopped-map : (P Q : ℕ → Type 0) (old new : TransactionState) (why : StepStop) → ((c : ℕ) → P c → HasNoWrite (own_of old.work) c → Q c) → IsStopped P old why new → IsStopped Q old why new
+pub stopped-map : (P Q : ℕ → Type 0) (old new : TransactionState) (why : StepStop) → ((c : ℕ) → P c → HasNoWrite (own_of old.work) c → Q c) → StopsAt P old why new → StopsAt Q old why new
 stopped-map P Q old new why f is = record {
   same = is.same;
   own = is.own;
@@ -67,7 +67,7 @@ stopped-map P Q old new why f is = record {
 }
 
 -- first it went on, reading such blocks, and then it was stopped at one of them
-pub stopped-more : (P : ℕ → Type 0) (old mid new : TransactionState) (why : StepStop) → IsStopped P old stop.NoMemory mid → IsStopped P mid why new → IsStopped P old why new
+pub stopped-more : (P : ℕ → Type 0) (old mid new : TransactionState) (why : StepStop) → StopsAt P old stop.NoMemory mid → StopsAt P mid why new → StopsAt P old why new
 stopped-more P old mid new why first rest =
     let f : (c : ℕ) → P c × HasNoWrite (own_of mid.work) c → P c × HasNoWrite (own_of old.work) c = λ c at. (at.0, subst (λ (own : Commit). HasNoWrite own c) first.own at.1) in
     record {
@@ -79,16 +79,16 @@ stopped-more P old mid new why first rest =
     }
 
 -- it went on, and memory ran out behind a block that was looked up
-pub looked-stops : (old new : TransactionState) (b : ℕ) (period : Option ℕ) → LooksUp old b period new → IsStopped (λ c. c ≡ b) old stop.NoMemory new
+pub looked-stops : (old new : TransactionState) (b : ℕ) (period : Option ℕ) → LooksUp old b period new → StopsAt (λ c. c ≡ b) old stop.NoMemory new
 looked-stops old new b period is = record { same = is.same; own = is.own; noted = is.noted; meets = tt }
 
 -- a block that a step looks up, it reads over what is known, where it isn't among the own writes
-pub look-over : (old new : TransactionState) (b : ℕ) (why : StepStop) → IsStopped (λ c. c ≡ b) old why new → IsStopped (λ c. (c ≡ b) × HasNoWrite (own_of old.work) c) old why new
+pub look-over : (old new : TransactionState) (b : ℕ) (why : StepStop) → StopsAt (λ c. c ≡ b) old why new → StopsAt (λ c. (c ≡ b) × HasNoWrite (own_of old.work) c) old why new
 look-over old new b why is = stopped-map (λ c. c ≡ b) (λ c. (c ≡ b) × HasNoWrite (own_of old.work) c) old new why (λ c same absent. (same, absent)) is
 
 -- a shift that was stopped behind its look
 pub shift-stops : {X : Type 0} (pit : Pit) (old mid new : TransactionState) (b by : ℕ) (is_back : Bool) (period : Option ℕ) (r : Result X StepStop) → LooksUp old b period mid
-    → IfErr r (λ why. why ≡ stop.NoMemory) → OnErr r (new ≡ mid) → IfErr r (λ why. IsStoppedStep pit old (step.Shift b is_back by) why new)
+    → IfErr r (λ why. why ≡ stop.NoMemory) → OnErr r (new ≡ mid) → IfErr r (λ why. StepStopsAt pit old (step.Shift b is_back by) why new)
 shift-stops pit old mid new b by is_back period (Ok x) looks memory same = tt
 shift-stops pit old mid new b by is_back period (Err why) looks memory same =
     look-over old new b why (stopped-more (λ c. c ≡ b) old mid new why (looked-stops old mid b period looks) (stays-stop (λ c. c ≡ b) mid new why memory same))
@@ -138,7 +138,7 @@ look-meets old new b read_stop.NoMemory is absent = tt
 
 pub look-stops : (pit : Pit) (old new : TransactionState) (b : ℕ) (r : Result (Option ℕ) ReadStop) (s : ReadStop) → b < pit.blocks → r ≡ Err s → SeesOn old.planner new.planner
     → ((p : Option ℕ) → b < pit.blocks → known_of old.work b ≡ Some p → (r ≡ Ok p) × (new ≡ old)) → (b < pit.blocks → known_of old.work b ≡ None → IsLookedUp old b r new)
-    → IsStopped (λ c. c ≡ b) old (look-stop s) new
+    → StopsAt (λ c. c ≡ b) old (look-stop s) new
 look-stops pit old new b r s less is sees known unknown =
     let told = look-tells pit old new b r s less is known unknown in
     left-stops (λ c. c ≡ b) old new (look-stop s) sees (looked-left old new b s told.0) (look-meets old new b s told.0 told.1)

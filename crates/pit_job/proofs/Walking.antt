@@ -17,7 +17,7 @@ use Rattle.pit_script.specs.declared.step.Way.TheVariants as way
 use Rattle.pit_job.specs.Cones.{all_led, in_round, IsNextOf}
 use Rattle.pit_job.specs.Effect.{Agrees, Known, changes, carried, read_in, seen, with_bench, is_carried, leads_to, members_of}
 use Rattle.pit_job.specs.Outcomes.{HasNoWrite, IsReadOver}
-use Rattle.pit_job.specs.Inside.Doing.{own_of, NotesOnly, DoesStep, IsStopped, IsStoppedStep}
+use Rattle.pit_job.specs.Inside.Doing.{own_of, NotesOnly, DoesStep, StopsAt, StepStopsAt}
 use Rattle.pit_job.specs.Inside.Walking.{IsWalk, WalkState, Visits, VisitsEach, IsGoing, IsGone, IsReadNow, PutsEach}
 use Rattle.pit_job.specs.declared.doing.StepStop.{StepStop}
 use Rattle.pit_job.specs.declared.doing.StepStop.TheVariants as stop
@@ -68,7 +68,7 @@ known-more old new reads own b v is =
     subst (λ (o : Commit). seen (read_in new.work.reads) o b ≡ Some v) (sym own) (seen-agrees (read_in old.work.reads) (read_in new.work.reads) (own_of old.work) reads b v is)
 
 -- a visit goes on, and notes its block at most
-pub visit-stops : (how : Way) (t : ℕ) (old : TransactionState) (w : WalkState) (b : ℕ) (new : TransactionState) (after : WalkState) → Visits how t old w b new after → IsStopped (λ c. c ≡ b) old stop.NoMemory new
+pub visit-stops : (how : Way) (t : ℕ) (old : TransactionState) (w : WalkState) (b : ℕ) (new : TransactionState) (after : WalkState) → Visits how t old w b new after → StopsAt (λ c. c ≡ b) old stop.NoMemory new
 visit-stops how t old w b new after (inl (same, is, there)) =
     left-stops (λ c. c ≡ b) old new stop.NoMemory (sees-same old.planner new.planner (ap (λ (s : TransactionState). s.planner) same)) (ap (λ (s : TransactionState). s.work) same) tt
 visit-stops how t old w b new after (inr v) = looked-stops old new b v.held v.looks
@@ -221,7 +221,7 @@ found-members pit how start t old mid new w going own reads m among =
 
 -- what was visited so far, the line reads over what is known then
 going-stops : (pit : Pit) (how : Way) (start t : ℕ) (old mid new : TransactionState) (w : WalkState) → IsGoing pit how start t old mid w → own_of new.work ≡ own_of mid.work
-    → Agrees (read_in mid.work.reads) (read_in new.work.reads) → IsStopped (IsReadNow pit how start t new) old stop.NoMemory mid
+    → Agrees (read_in mid.work.reads) (read_in new.work.reads) → StopsAt (IsReadNow pit how start t new) old stop.NoMemory mid
 going-stops pit how start t old mid new w going own reads = record {
   same = going.same;
   own = going.own;
@@ -236,7 +236,7 @@ going-stops pit how start t old mid new w going own reads = record {
 
 -- it was stopped at what a member leads to
 pub walk-stops : (pit : Pit) (how : Way) (start t : ℕ) (old mid new : TransactionState) (w : WalkState) (i m : ℕ) (bs : List ℕ) (why : StepStop) → IsGone pit how start t old mid w i
-    → slice_get w.found i ≡ Some m → bs ≡ leads_to pit how m → IsStopped (Contains bs) mid why new → IsStopped (IsReadNow pit how start t new) old why new
+    → slice_get w.found i ≡ Some m → bs ≡ leads_to pit how m → StopsAt (Contains bs) mid why new → StopsAt (IsReadNow pit how start t new) old why new
 walk-stops pit how start t old mid new w i m bs why gone is led stopped =
     let member = found-members pit how start t old mid new w gone.going stopped.own stopped.same.reads m (found-within pit how start t old mid w i m gone is).1 in
     stopped-more (IsReadNow pit how start t new) old mid new why (going-stops pit how start t old mid new w gone.going stopped.own stopped.same.reads)
@@ -244,14 +244,14 @@ walk-stops pit how start t old mid new w i m bs why gone is led stopped =
 
 -- it was stopped behind the walk
 pub gone-stops : (pit : Pit) (how : Way) (start t : ℕ) (old mid new : TransactionState) (w : WalkState) (i : ℕ) (why : StepStop) → IsGone pit how start t old mid w i → new ≡ mid → why ≡ stop.NoMemory
-    → IsStopped (IsReadNow pit how start t new) old why new
+    → StopsAt (IsReadNow pit how start t new) old why new
 gone-stops pit how start t old mid new w i why gone same memory =
-    subst (λ (s : StepStop). IsStopped (IsReadNow pit how start t new) old s new) (sym memory)
-    (subst (λ (n : TransactionState). IsStopped (IsReadNow pit how start t n) old stop.NoMemory n) (sym same)
+    subst (λ (s : StepStop). StopsAt (IsReadNow pit how start t new) old s new) (sym memory)
+    (subst (λ (n : TransactionState). StopsAt (IsReadNow pit how start t n) old stop.NoMemory n) (sym same)
     (going-stops pit how start t old mid mid w gone.going refl (Agrees-refl (read_in mid.work.reads))))
 
 -- so was the step
-pub carry-stops : (pit : Pit) (how : Way) (b t : ℕ) (old new : TransactionState) (why : StepStop) → IsStopped (IsReadNow pit how b t new) old why new → IsStoppedStep pit old (step.Carry how b t) why new
+pub carry-stops : (pit : Pit) (how : Way) (b t : ℕ) (old new : TransactionState) (why : StepStop) → StopsAt (IsReadNow pit how b t new) old why new → StepStopsAt pit old (step.Carry how b t) why new
 carry-stops pit how b t old new why is =
     stopped-map (IsReadNow pit how b t new) (IsReadOver pit (read_in new.work.reads) (own_of old.work) (step.Carry how b t)) old new why
     (λ c now absent. (subst (λ (own : Commit). IsNextOf (leads_to pit how) b (members_of pit how (λ x. seen (read_in new.work.reads) own x) b t) c) is.own now, absent)) is

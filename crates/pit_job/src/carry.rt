@@ -3,7 +3,7 @@ ghost use Rattle.std.specs.Prelude.{◌≡◌, ℕ, ◌<◌, ◌≤◌, ◌++◌
 ghost use Rattle.std.specs.List.{All, Contains, list_any};
 ghost use Rattle.pit_share.specs.Planners.{SeesOn};
 ghost use Rattle.pit_job.specs.Effect.{is_carried as is_carried_of, leads_to, members_of, read_in, seen};
-ghost use Rattle.pit_job.specs.Inside.Doing.{DoesStep, IsStopped, own_of};
+ghost use Rattle.pit_job.specs.Inside.Doing.{DoesStep, StopsAt, own_of};
 ghost use Rattle.pit_job.specs.Inside.Walking.{Visits, VisitsEach, IsGone, IsReadNow};
 
 use crate::doing::{StepStop, look, put_each};
@@ -99,7 +99,7 @@ pub(crate) fn carry<
     requires block { b < S.instance.blocks }
     ensures ok { OnOk result (DoesStep S.instance t.old (Step.Carry way b period) true t.new) }
     ensures members { IfOk result (λ put. put.items ≡ members_of S.instance way (λ c. seen (read_in t.new.work.reads) (own_of t.old.work) c) b period) }
-    ensures err { IfErr result (λ stop. IsStopped (IsReadNow S.instance way b period t.new) t.old stop t.new) }
+    ensures err { IfErr result (λ stop. StopsAt (IsReadNow S.instance way b period t.new) t.old stop t.new) }
     ensures sees { SeesOn t.old.planner t.new.planner }
 {
     let mut found = walked(t, benches.pit(), way, b, period)?.into_found();
@@ -119,7 +119,7 @@ fn walked<'a, S: Session, R: Wait + Drop, A: Allocator + Copy + Drop, B: Allocat
     requires pit { pit.now ≡ S.instance }
     requires block { b < S.instance.blocks }
     ensures ok { IfOk result (λ walk. (i : ℕ) × (length walk.found ≤ i) × IsGone S.instance way b period t.old t.new walk i) }
-    ensures err { IfErr result (λ stop. IsStopped (IsReadNow S.instance way b period t.new) t.old stop t.new) }
+    ensures err { IfErr result (λ stop. StopsAt (IsReadNow S.instance way b period t.new) t.old stop t.new) }
     ensures sees { SeesOn t.old.planner t.new.planner }
 {
     let mut walk = Walk::new(*t.reads().allocator());
@@ -154,7 +154,7 @@ fn visit_each<'a, S: Session, R: Wait + Drop, A: Allocator + Copy + Drop>(
 ) -> Result<(), StepStop>
     requires { All (λ b. b < S.instance.blocks) blocks.now }
     ensures ok { OnOk result (VisitsEach way period t.old walk.old blocks.now t.new walk.new) }
-    ensures err { IfErr result (λ stop. IsStopped (Contains blocks.now) t.old stop t.new) }
+    ensures err { IfErr result (λ stop. StopsAt (Contains blocks.now) t.old stop t.new) }
     ensures sees { SeesOn t.old.planner t.new.planner }
 {
     for b in blocks {
@@ -173,7 +173,7 @@ fn visit<'a, S: Session, R: Wait + Drop, A: Allocator + Copy + Drop>(
 ) -> Result<(), StepStop>
     requires { b < S.instance.blocks }
     ensures ok { OnOk result (Visits way period t.old walk.old b t.new walk.new) }
-    ensures err { IfErr result (λ stop. IsStopped (λ c. c ≡ b) t.old stop t.new) }
+    ensures err { IfErr result (λ stop. StopsAt (λ c. c ≡ b) t.old stop t.new) }
     ensures sees { SeesOn t.old.planner t.new.planner }
 {
     if !walk.enter(b)? {

@@ -5,7 +5,7 @@ ghost use Rattle.pit_share.specs.Planners.{SeesOn};
 ghost use Rattle.pit_job.specs.Outcomes.{IsRead};
 ghost use Rattle.pit_job.specs.Effect.{same_period as same_period_of};
 ghost use Rattle.pit_job.specs.Shifts.{shifted as shifted_of};
-ghost use Rattle.pit_job.specs.Inside.Doing.{LooksUp, Puts, DoesStep, DoesSteps, IsStopped, IsStoppedStep, IsUnseen, Meets};
+ghost use Rattle.pit_job.specs.Inside.Doing.{LooksUp, Puts, DoesStep, DoesSteps, StopsAt, StepStopsAt, IsUnseen, Meets};
 ghost use Rattle.pit_job.specs.Inside.Walking.{PutsEach};
 
 use crate::carry::carry;
@@ -56,7 +56,7 @@ fn do_step<'a, S: Session, R: Wait + Drop, A: Allocator + Copy + Drop, B: Alloca
     requires pit { benches.now ≡ S.instance }
     requires in_range { IsStepIn S.instance step.now }
     ensures ok { IfOk result (λ goes. DoesStep S.instance t.old step.now goes t.new) }
-    ensures err { IfErr result (λ stop. IsStoppedStep S.instance t.old step.now stop t.new) }
+    ensures err { IfErr result (λ stop. StepStopsAt S.instance t.old step.now stop t.new) }
     ensures sees { SeesOn t.old.planner t.new.planner }
 {
     match *step {
@@ -81,7 +81,7 @@ fn read<'a, S: Session, R: Wait + Drop, A: Allocator + Copy + Drop>(
 ) -> Result<bool, StepStop>
     requires { b < S.instance.blocks }
     ensures ok { IfOk result (λ goes. DoesStep S.instance t.old (Step.Read b) goes t.new) }
-    ensures err { IfErr result (λ stop. IsStoppedStep S.instance t.old (Step.Read b) stop t.new) }
+    ensures err { IfErr result (λ stop. StepStopsAt S.instance t.old (Step.Read b) stop t.new) }
     ensures sees { SeesOn t.old.planner t.new.planner }
 {
     let _period = look(t, b)?;
@@ -96,7 +96,7 @@ fn expect<'a, S: Session, R: Wait + Drop, A: Allocator + Copy + Drop>(
 ) -> Result<bool, StepStop>
     requires { b < S.instance.blocks }
     ensures ok { IfOk result (λ goes. DoesStep S.instance t.old (Step.Expect b period) goes t.new) }
-    ensures err { IfErr result (λ stop. IsStoppedStep S.instance t.old (Step.Expect b period) stop t.new) }
+    ensures err { IfErr result (λ stop. StepStopsAt S.instance t.old (Step.Expect b period) stop t.new) }
     ensures sees { SeesOn t.old.planner t.new.planner }
 {
     let held = look(t, b)?;
@@ -120,7 +120,7 @@ fn carry_along<
     requires pit { benches.now ≡ S.instance }
     requires block { b < S.instance.blocks }
     ensures ok { IfOk result (λ goes. DoesStep S.instance t.old (Step.Carry way b period) goes t.new) }
-    ensures err { IfErr result (λ stop. IsStoppedStep S.instance t.old (Step.Carry way b period) stop t.new) }
+    ensures err { IfErr result (λ stop. StepStopsAt S.instance t.old (Step.Carry way b period) stop t.new) }
     ensures sees { SeesOn t.old.planner t.new.planner }
 {
     let _put = carry(t, benches, way, b, period)?;
@@ -212,7 +212,7 @@ fn shift<'a, S: Session, R: Wait + Drop, A: Allocator + Copy + Drop, B: Allocato
     requires pit { benches.now ≡ S.instance }
     requires block { b < S.instance.blocks }
     ensures ok { IfOk result (λ goes. DoesStep S.instance t.old (Step.Shift b is_back by) goes t.new) }
-    ensures err { IfErr result (λ stop. IsStoppedStep S.instance t.old (Step.Shift b is_back by) stop t.new) }
+    ensures err { IfErr result (λ stop. StepStopsAt S.instance t.old (Step.Shift b is_back by) stop t.new) }
     ensures sees { SeesOn t.old.planner t.new.planner }
 {
     let Some(now) = look(t, b)? else {
@@ -243,7 +243,7 @@ pub(crate) fn look<'a, S: Session, R: Wait + Drop, A: Allocator + Copy + Drop>(
 ) -> Result<Option<u32>, StepStop>
     requires { b < S.instance.blocks }
     ensures ok { IfOk result (λ period. LooksUp t.old b period t.new) }
-    ensures err { IfErr result (λ stop. IsStopped (λ c. c ≡ b) t.old stop t.new) }
+    ensures err { IfErr result (λ stop. StopsAt (λ c. c ≡ b) t.old stop t.new) }
     ensures unseen { IfErr result (λ stop. IsUnseen t.old b stop t.new) }
     ensures sees { SeesOn t.old.planner t.new.planner }
 {

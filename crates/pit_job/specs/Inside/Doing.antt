@@ -62,15 +62,15 @@ Meets IsOne start seen stop.NoEntry = (block : ℕ) × IsOne block
 
 -- It was stopped: nothing is written or revised; what was noted is of such blocks, and so is the one that has moved, or of which there is no entry. None of
 -- them is among the own writes.
-pub record IsStopped (IsOne : ℕ → Type 0) (old : TransactionState) (why : StepStop) (new : TransactionState) : Type 0 where
+pub record StopsAt (IsOne : ℕ → Type 0) (old : TransactionState) (why : StepStop) (new : TransactionState) : Type 0 where
   pub same : Same old new
   pub own : own_of new.work ≡ own_of old.work
   pub noted : NotesOnly (λ c. IsOne c × HasNoWrite (own_of old.work) c) old.work.reads new.work.reads
   pub meets : Meets (λ c. IsOne c × HasNoWrite (own_of old.work) c) old.work.start new.planner.seen why
 
 -- a step that was stopped: the blocks are those that it reads over what is noted then
-abbrev pub IsStoppedStep : Pit → TransactionState → Step → StepStop → TransactionState → Type 0
-IsStoppedStep pit old s why new = IsStopped (IsReadOver pit (read_in new.work.reads) (own_of old.work) s) old why new
+abbrev pub StepStopsAt : Pit → TransactionState → Step → StepStop → TransactionState → Type 0
+StepStopsAt pit old s why new = StopsAt (IsReadOver pit (read_in new.work.reads) (own_of old.work) s) old why new
 
 -- a transaction that has begun for a job, no earlier than after the commits that its planner has seen, and done nothing
 pub record IsFresh (n : ℕ) (t : TransactionState) : Type 0 where

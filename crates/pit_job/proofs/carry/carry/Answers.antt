@@ -1,6 +1,6 @@
 use Rattle.std.proofs.Common.{sym, subst, ◌∙◌, nat_cmp}
 use Rattle.std.specs.List.Sorted.{IsSorted, IsPermutation}
-use Rattle.pit_job.specs.Inside.Doing.{IsStopped}
+use Rattle.pit_job.specs.Inside.Doing.{StopsAt}
 use Rattle.pit_job.specs.Inside.Walking.{IsReadNow}
 use Rattle.pit_job.proofs.Meeting.{stop-handed}
 use Rattle.pit_job.proofs.Walking.{carry-told, gone-stops}
@@ -25,7 +25,7 @@ returns-clause-members g c =
 
 pub returns-in_err-put_each-clause-err : goal.returns-in_err-put_each-clause-err
 returns-in_err-put_each-clause-err g c =
-    stop-handed c.from_residual-in_err-put_each.result c.in_err-put_each.field-0.0 (λ why. IsStopped (IsReadNow g.S.Session.instance c.args.way c.args.b c.args.period c.put_each.new.t) c.args.t.now why c.put_each.new.t)
+    stop-handed c.from_residual-in_err-put_each.result c.in_err-put_each.field-0.0 (λ why. StopsAt (IsReadNow g.S.Session.instance c.args.way c.args.b c.args.period c.put_each.new.t) c.args.t.now why c.put_each.new.t)
     c.from_residual-in_err-put_each.ensures.0 c.from_residual-in_err-put_each.ensures.1
     (gone-stops g.S.Session.instance c.args.way c.args.b c.args.period c.args.t.now c.walked.new.t c.put_each.new.t c.in_ok-walked.field-0 c.in_ok-walked.ensures.ok.0 c.in_err-put_each.field-0.0
     c.in_ok-walked.ensures.ok.2 c.in_err-put_each.ensures.stays c.in_err-put_each.ensures.memory)

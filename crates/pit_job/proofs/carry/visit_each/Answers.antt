@@ -2,7 +2,7 @@ use Rattle.std.proofs.Common.{◌≡◌, get_or, subst, sym, arith}
 use Rattle.std.specs.List.{Contains}
 use Rattle.std.proofs.lemmas.List.Elements.{Contains-get_or}
 use Rattle.pit_job.specs.declared.doing.StepStop.TheVariants as stop
-use Rattle.pit_job.specs.Inside.Doing.{IsStopped}
+use Rattle.pit_job.specs.Inside.Doing.{StopsAt}
 use Rattle.pit_job.proofs.Meeting.{stop-handed, stopped-map, stopped-more}
 use Rattle.pit_job.proofs.Walking.{visit-stops, visits-next}
 use Rattle.pit_job.proofs.carry.visit_each.Goals as goal
@@ -19,7 +19,7 @@ loop-b-preserved g c = record {
 
 pub returns-in_err-visit-clause-err : goal.returns-in_err-visit-clause-err
 returns-in_err-visit-clause-err g c =
-    stop-handed c.from_residual.result c.in_err-visit.field-0.0 (λ why. IsStopped (Contains c.args.blocks.now) c.args.t.now why c.visit.new.t) c.from_residual.ensures.0 c.from_residual.ensures.1
+    stop-handed c.from_residual.result c.in_err-visit.field-0.0 (λ why. StopsAt (Contains c.args.blocks.now) c.args.t.now why c.visit.new.t) c.from_residual.ensures.0 c.from_residual.ensures.1
     (stopped-more (Contains c.args.blocks.now) c.args.t.now c.loop-b.t c.visit.new.t c.in_err-visit.field-0.0 c.loop-b.invariant.so_far
     (stopped-map (λ b. b ≡ get_or c.args.blocks.now c.loop-b.b-index 0) (Contains c.args.blocks.now) c.loop-b.t c.visit.new.t c.in_err-visit.field-0.0
     (λ b same absent. subst (Contains c.args.blocks.now) (sym same) (Contains-get_or c.args.blocks.now c.loop-b.b-index 0 (omega arith))) c.in_err-visit.ensures.err))

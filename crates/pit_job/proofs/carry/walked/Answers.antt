@@ -2,7 +2,7 @@ use Rattle.std.proofs.Common.{inl, ◌≡◌, ◌<◌, ◌≤◌, length, sym, a
 use Rattle.std.specs.List.{All}
 use Rattle.pit_model.specs.Pit.{Pit}
 use Rattle.pit_job.specs.Effect.{leads_to}
-use Rattle.pit_job.specs.Inside.Doing.{IsStopped}
+use Rattle.pit_job.specs.Inside.Doing.{StopsAt}
 use Rattle.pit_job.specs.Inside.Walking.{IsReadNow}
 use Rattle.pit_job.proofs.Meeting.{stop-handed, stopped-map}
 use Rattle.pit_job.proofs.Walking.{gone-first, gone-more, gone-few, past-found, found-within, walk-stops}
@@ -10,7 +10,7 @@ use Rattle.pit_job.proofs.carry.walked.Goals as goal
 
 pub returns-in_err-visit-clause-err : goal.returns-in_err-visit-clause-err
 returns-in_err-visit-clause-err g c =
-    stop-handed c.from_residual.result c.in_err-visit.field-0.0 (λ why. IsStopped (IsReadNow g.S.Session.instance c.args.way c.args.b c.args.period c.visit.new.t) c.args.t.now why c.visit.new.t)
+    stop-handed c.from_residual.result c.in_err-visit.field-0.0 (λ why. StopsAt (IsReadNow g.S.Session.instance c.args.way c.args.b c.args.period c.visit.new.t) c.args.t.now why c.visit.new.t)
     c.from_residual.ensures.0 c.from_residual.ensures.1
     (stopped-map (λ block. block ≡ c.args.b) (IsReadNow g.S.Session.instance c.args.way c.args.b c.args.period c.visit.new.t) c.args.t.now c.visit.new.t c.in_err-visit.field-0.0 (λ block same absent. inl same)
     c.in_err-visit.ensures.err)
@@ -30,7 +30,7 @@ led_by-requires g c =
 pub returns-in_err-visit_each-clause-err : goal.returns-in_err-visit_each-clause-err
 returns-in_err-visit_each-clause-err g c =
     stop-handed c.from_residual-in_err-visit_each.result c.in_err-visit_each.field-0.0
-    (λ why. IsStopped (IsReadNow g.S.Session.instance c.args.way c.args.b c.args.period c.visit_each.new.t) c.args.t.now why c.visit_each.new.t)
+    (λ why. StopsAt (IsReadNow g.S.Session.instance c.args.way c.args.b c.args.period c.visit_each.new.t) c.args.t.now why c.visit_each.new.t)
     c.from_residual-in_err-visit_each.ensures.0 c.from_residual-in_err-visit_each.ensures.1
     (walk-stops g.S.Session.instance c.args.way c.args.b c.args.period c.args.t.now c.loop-i.t c.visit_each.new.t c.loop-i.walk c.loop-i.i c.in-Some.m c.led_by.result.now
     c.in_err-visit_each.field-0.0 c.loop-i.invariant (sym c.member.ensures ∙ c.in-Some.is) (c.led_by.ensures.value ∙ ap (λ (p : Pit). leads_to p c.args.way c.in-Some.m) c.requires.pit)
