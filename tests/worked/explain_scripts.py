@@ -1,4 +1,6 @@
-"""What a person at a terminal is told of a fault of a script, a history or an edit."""
+"""What a person at a terminal is told of a fault of a script, a history or an edit, and of a job that is refused for a predecessor."""
+import dataclasses
+
 from explain import COMMIT, FILES, THREE, both, history, of_file, told
 
 # Its entry isn't what an audit finds, since nothing was read.
@@ -134,4 +136,36 @@ OF_EDIT = of_file("merge hill.cpit hill.prec empty amy.edit", "amy.edit", [
     ], {"amy.edit": b'{"format":2}\n' + REVISION}),
 ]
 
-CASES = both(OF_SCRIPT, [OF_BENCH], OF_HISTORY, OF_EDIT)
+ADVICE = "  Where a job is refused precedence B A, `cone B T` brings B forward with A, and `push A T` puts A off with B."
+NOTHING = ["value 0.000000000000000000", "short 0 1 0.000000 1.000000"]
+# Block 2 stands behind block 1.
+LATE = b"begin\nput 2 0\ncommit\n"
+
+
+def planned(about, script, *lines, status=1, out=b""):
+    """A plan at a terminal, and what comes there."""
+    return told(about, "plan hill.cpit hill.prec amy.job", lines, {"amy.job": script}, status, out)
+
+
+REFUSED = planned("a put is refused for a predecessor", LATE, "planner 1 job 1 refused precedence 2 1 tries 1", *NOTHING, ADVICE)
+
+OF_REPORT = [
+    REFUSED,
+    dataclasses.replace(REFUSED, about="a put is refused for a predecessor, and no terminal", err=REFUSED.err.removesuffix(f"{ADVICE}\n".encode()),
+                        terminal=False),
+    planned("two jobs are refused for a predecessor, and others are committed", LATE * 2 + b"begin\ncone 2 1\ncommit\nbegin\nclear 1\ncommit\n",
+            "planner 1 job 1 refused precedence 2 1 tries 1",
+            "planner 1 job 2 refused precedence 2 1 tries 1",
+            "planner 1 job 3 committed 1 tries 1",
+            "planner 1 job 4 refused precedence 2 1 tries 1",
+            "value 18.636363636365500000", ADVICE, status=0, out=b"1 1\n2 1\n"),
+    planned("no job is refused for a predecessor", b"begin\ncone 2 1\ncommit\nbegin\nrevise 0 1 1\ncommit\n",
+            "planner 1 job 1 committed 1 tries 1",
+            "planner 1 job 2 refused over 0 1 2.000000 1.000000 tries 1",
+            "value 18.636363636365500000", status=0, out=b"1 1\n2 1\n"),
+    # An edit has no lines of a script.
+    told("an edit is refused for a predecessor", "merge hill.cpit hill.prec amy.edit",
+         ["edit 1 entry 1 changes 1 left 0 cause - refused precedence 2 1", *NOTHING], {"amy.edit": b"2 0\n"}, 1),
+]
+
+CASES = both(OF_SCRIPT, [OF_BENCH], OF_HISTORY, OF_EDIT) + OF_REPORT

@@ -21,9 +21,9 @@ use clap::error::ErrorKind;
 use fault::Fault;
 use looked::Looked;
 use pit_cli::{CliFault, Status};
-use pit_command::{asked, has_conflict, has_many, matched, refusal};
-use pit_explain::explain;
-use pit_num::Out;
+use pit_command::{Engine, asked, has_conflict, has_many, matched, refusal};
+use pit_explain::{Watched, explain};
+use pit_num::{Out, Sink};
 use pit_step::{Text, empty_text};
 use runs::run;
 use std::alloc::Global;
@@ -64,7 +64,8 @@ fn answer<R: Threads + Wait + Sync>(
     }
     let disk = SystemDisk::new(rt);
     let mut out = Out::new(rt.stdout());
-    let mut report = Out::new(rt.stderr());
+    let is_terminal = rt.stderr().is_terminal();
+    let mut report = Watched::new(Out::new(rt.stderr()), is_watched(is_terminal, engine));
     let answer = run(
         threads,
         rt.alloc(),
@@ -74,21 +75,29 @@ fn answer<R: Threads + Wait + Sync>(
         &mut out,
         &mut report,
     );
-    note(rt, &answer, &Looked::new(rt, engine, given), notes);
+    let looked = Looked::new(rt, engine, given);
+    note(rt, is_terminal, &answer, &looked, &report, notes);
     Ok(answer?)
 }
 
-/// On a terminal, notes on a fault; or on what a model passes over, where its value was told.
-fn note(
+/// Whether a person is told what helps against a refusal: where there is a terminal, and the report is of jobs.
+fn is_watched(is_terminal: bool, engine: Engine) -> bool {
+    is_terminal && matches!(engine, Engine::Plan)
+}
+
+/// On a terminal, notes on a fault; on what a model passes over, where its value was told; or on a refusal in a report.
+fn note<W: Sink + Drop>(
     rt: &HostRuntime,
+    is_terminal: bool,
     answer: &Result<Status, CliFault>,
     looked: &Looked<'_, '_>,
+    report: &Watched<W>,
     notes: &mut Text<Global>,
 ) {
-    let is_terminal = rt.stderr().is_terminal();
     match answer {
+        Err(CliFault::Stopped) => report.advise(is_terminal, notes),
         Err(fault) => explain(rt.alloc(), is_terminal, looked, Some(fault), notes),
         Ok(_) if looked.tells_value() => explain(rt.alloc(), is_terminal, looked, None, notes),
-        Ok(_) => {}
+        Ok(_) => report.advise(is_terminal, notes),
     }
 }

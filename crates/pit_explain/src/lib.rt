@@ -1,8 +1,8 @@
 //! Further lines on a fault, for people at a terminal: the line of the input that it is about, what is wrong there, and what helps. And what a model
-//! that was read passed over.
+//! that was read passed over, and what helps against a refusal that a report tells.
 //!
-//! They stand behind an answer and can't change it: `explain` looks at the inputs again. Its contract says that it writes nothing where there is no
-//! terminal; what it writes else is only tested.
+//! They stand behind an answer and can't change it: `explain` looks at the inputs again, and a report goes through `Watched`, which passes all on. The
+//! contracts of `explain` and `advise` say that nothing is written where there is no terminal; what is written else is only tested.
 #![tactic(auto)]
 
 mod counts;
@@ -19,7 +19,9 @@ mod model;
 mod passed;
 mod script;
 mod text;
+mod watched;
 
 pub use explaining::explain;
 pub use given::Given;
 pub use holder::holder_in;
+pub use watched::Watched;
