@@ -192,6 +192,8 @@ awk 'BEGIN {
     print "RESOURCE_CONSTRAINT_LIMITS:" >"rows.cpit"
     for (t = 0; t < 4; t++) for (r = 0; r < 2; r++) print r, t, "L", 25 * (r + 1) >"rows.cpit"
     for (b = 25; b < 100; b++) print b, 1, b - 25 >"rows.prec"
+    for (b = 0; b < 40; b++) under = under " " b
+    print 99, 40 under >"wide.prec"
     for (b = 0; b < 100; b++) print b, b % 25, 0, int(b / 25) >"rows.blocks"
     for (b = 0; b < 100; b++) print b, int(b / 25) >"rows.sol"
     for (b = 0; b < 100; b++) print b, 3 - int(b / 25) >"turned.sol"
@@ -202,6 +204,7 @@ awk 'BEGIN {
     for (b = 50; b < 100; b++) print "put", b, int(b / 25) >"rows.job"
     for (t = 0; t < 4; t++) for (r = 0; r < 2; r++) print "revise", r, t, 60 >"rows.job"
     print "commit" >"rows.job"
+    print "begin\nexpect 0 -\ncone 99 3\npush 0 3\nrevise 0 3 inf\nrevise 1 3 inf\ncommit\nbegin\ncone 99 1\npush 39 2\nabort" >"wide.job"
 }'
 of=(rows.cpit rows.prec)
 most=400
@@ -213,6 +216,9 @@ each 'rows, plan' plan --start front.sol --history kept "${of[@]}" --blocks rows
 each 'rows, log' log --writes "${of[@]}" rows.history
 each 'rows, replay' replay "${of[@]}" rows.history
 each 'rows, merge' merge "${of[@]}" front.sol rows.sol
+# Here a cone takes 41 blocks along, and a push two of them.
+of=(rows.cpit wide.prec)
+each 'rows, a wide cone' plan --history kept "${of[@]}" wide.job
 most=300
 ! ours || judge 'threads: each of 4 refused' threads 4
 each 'help' --help

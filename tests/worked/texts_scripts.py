@@ -138,7 +138,7 @@ FAULTS = [
 STEP_FAULTS = [
     (["read x", "put 9 x", b"put x \xff", "shift 0 +", "shift 0 --1", "bench x y", "revise 1 2 x", "revise 0 0 -inf"], "bad number"),
     (["expect x 0", "expect 9 x", "expect 9 --", "expect - 0", "expect 9 -0", "expect 9 +1", "cone 9 -", "push x 9"], "bad number"),
-    ([b"read \xff", b"revise 1 2 \xff", b"expect 9 \xff", b"expect 9 \xe2\x88\x92"], "not ascii"),
+    ([b"read \xff", b"revise 1 2 \xff", b"expect 9 \xff", b"expect 9 \xe2\x88\x92", b"cone 9 \xff", b"push \xff x"], "not ascii"),
     ([f"read {LONG_NUMBER}"], "number too long"),
     (["put 4294967296 0", "shift 4 1001", "bench 1e12 0", "expect 4 4294967296", "cone 4 4294967296"], "number too large"),
     (["put 4 2", "read 4", "clear 4", "shift 4 -1000", "read 1000\n", "expect 4 2", "expect 4 -", "cone 4 2", "push 4 2"], "block out of range"),
