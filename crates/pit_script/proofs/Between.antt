@@ -14,7 +14,7 @@ use Rattle.pit_text.specs.Stands.{◌>>=◌, StatesAfter, StandsWhole}
 use Rattle.pit_script.specs.Benches.{has_bench}
 use Rattle.pit_script.specs.Between.{lines_of_job, lines_of_jobs}
 use Rattle.pit_script.specs.Jobs.{Job, Progress, with_fact, progress_of, jobs_of, script_line, script_end}
-use Rattle.pit_script.specs.Lines.{no_field, one_field, two_fields, three_fields, in_job, below, begin_line, end_line_of, read_step, clear_step, put_step, shift_step, bench_step, expect_step, carry_step, below_if_some, revise_step, line_of_word, ranged_fact, known_bench, line_fact}
+use Rattle.pit_script.specs.Lines.{no_field, one_field, two_fields, three_fields, in_job, below, begin_line, end_line_of, read_step, clear_step, put_step, shift_step, bench_step, expect_step, placing, below_if_some, revise_step, line_of_word, ranged_fact, known_bench, line_fact}
 use Rattle.pit_script.specs.Numbers.{read_as, shift_of, period_or_none_of}
 use Rattle.pit_script.specs.Words.{word_in}
 use Rattle.pit_script.specs.declared.error.ScriptCause.{ScriptCause}
@@ -111,11 +111,11 @@ unfolding clear_step
 lies_clear blocks o fields =
     lies_one o _ fields (λ b. lies_in_job o _ (λ inside. lies_then o (read_as whole_of b) _ (λ block. lies_then o (below blocks block BlockRange) _ (λ n. lies_ok o (says.Does (step.Clear n)) inside))))
 
-lies_put : (blocks periods : ℕ) (o : Bool) (fields : List (List ℕ)) → Lies o (put_step blocks periods o fields)
+lies_put : (carried : Option Way) (blocks periods : ℕ) (o : Bool) (fields : List (List ℕ)) → Lies o (put_step carried blocks periods o fields)
 unfolding put_step
-lies_put blocks periods o fields =
+lies_put carried blocks periods o fields =
     lies_two o _ fields (λ b t. lies_in_job o _ (λ inside. lies_then o (read_as whole_of b) _ (λ block. lies_then o (read_as whole_of t) _ (λ period.
-    lies_then o (below blocks block BlockRange) _ (λ n. lies_then o (below periods period PeriodRange) _ (λ m. lies_ok o (says.Does (step.Put n m)) inside))))))
+    lies_then o (below blocks block BlockRange) _ (λ n. lies_then o (below periods period PeriodRange) _ (λ m. lies_ok o (says.Does (placing carried n m)) inside))))))
 
 lies_shift : (blocks : ℕ) (o : Bool) (fields : List (List ℕ)) → Lies o (shift_step blocks o fields)
 unfolding shift_step
@@ -135,12 +135,6 @@ lies_expect blocks periods o fields =
     lies_two o _ fields (λ b t. lies_in_job o _ (λ inside. lies_then o (read_as whole_of b) _ (λ block. lies_then o (read_as period_or_none_of t) _ (λ period.
     lies_then o (below blocks block BlockRange) _ (λ n. lies_then o (below_if_some periods period) _ (λ m. lies_ok o (says.Does (step.Expect n m)) inside))))))
 
-lies_carry : (how : Way) (blocks periods : ℕ) (o : Bool) (fields : List (List ℕ)) → Lies o (carry_step how blocks periods o fields)
-unfolding carry_step
-lies_carry how blocks periods o fields =
-    lies_two o _ fields (λ b t. lies_in_job o _ (λ inside. lies_then o (read_as whole_of b) _ (λ block. lies_then o (read_as whole_of t) _ (λ period.
-    lies_then o (below blocks block BlockRange) _ (λ n. lies_then o (below periods period PeriodRange) _ (λ m. lies_ok o (says.Does (step.Carry how n m)) inside))))))
-
 lies_revise : (resources periods : ℕ) (o : Bool) (fields : List (List ℕ)) → Lies o (revise_step resources periods o fields)
 unfolding revise_step
 lies_revise resources periods o fields =
@@ -150,13 +144,13 @@ lies_revise resources periods o fields =
 lies_word : (pit : Pit) (o : Bool) (jobs : ℕ) (w : Word) (fields : List (List ℕ)) → Lies o (line_of_word pit o jobs w fields)
 lies_word pit o jobs word.Begin fields = lies_begin o jobs fields
 lies_word pit o jobs word.Read fields = lies_read pit.blocks o fields
-lies_word pit o jobs word.Put fields = lies_put pit.blocks pit.periods o fields
+lies_word pit o jobs word.Put fields = lies_put None pit.blocks pit.periods o fields
 lies_word pit o jobs word.Clear fields = lies_clear pit.blocks o fields
 lies_word pit o jobs word.Shift fields = lies_shift pit.blocks o fields
 lies_word pit o jobs word.Bench fields = lies_bench pit.periods o fields
 lies_word pit o jobs word.Expect fields = lies_expect pit.blocks pit.periods o fields
-lies_word pit o jobs word.Cone fields = lies_carry way.Cone pit.blocks pit.periods o fields
-lies_word pit o jobs word.Push fields = lies_carry way.Push pit.blocks pit.periods o fields
+lies_word pit o jobs word.Cone fields = lies_put (Some way.Cone) pit.blocks pit.periods o fields
+lies_word pit o jobs word.Push fields = lies_put (Some way.Push) pit.blocks pit.periods o fields
 lies_word pit o jobs word.Revise fields = lies_revise pit.resources pit.periods o fields
 lies_word pit o jobs word.Commit fields = lies_end ending.Commit o fields
 lies_word pit o jobs word.Abort fields = lies_end ending.Abort o fields

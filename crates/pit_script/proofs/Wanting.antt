@@ -9,7 +9,7 @@ use Rattle.pit_text.specs.Numbers.{is_ascii, or_bad}
 use Rattle.pit_text.specs.Stands.{◌>>=◌, FailsWhole}
 use Rattle.pit_script.specs.Benches.{has_bench}
 use Rattle.pit_script.specs.Jobs.{progress_of, script_line, script_end}
-use Rattle.pit_script.specs.Lines.{no_field, one_field, two_fields, three_fields, in_job, below, begin_line, end_line_of, read_step, clear_step, put_step, shift_step, bench_step, expect_step, carry_step, below_if_some, revise_step, line_of_word, ranged_fact, known_bench, line_fact}
+use Rattle.pit_script.specs.Lines.{no_field, one_field, two_fields, three_fields, in_job, below, begin_line, end_line_of, read_step, clear_step, put_step, shift_step, bench_step, expect_step, below_if_some, revise_step, line_of_word, ranged_fact, known_bench, line_fact}
 use Rattle.pit_script.specs.Numbers.{read_as, shift_of, period_or_none_of}
 use Rattle.pit_script.specs.Words.{word_of, or_unknown, word_in}
 use Rattle.pit_script.specs.declared.error.ScriptCause.{ScriptCause}
@@ -132,9 +132,9 @@ unfolding clear_step
 own_clear_step blocks is_open fields =
     own_one _ fields (λ b. own_in_job is_open _ (own_then _ _ (own_read whole_of b) (λ block. own_then _ _ (own_below blocks block BlockRange own_block) (λ n. own_ok _))))
 
-own_put_step : (blocks periods : ℕ) (is_open : Bool) (fields : List (List ℕ)) → IsOwn (put_step blocks periods is_open fields)
+own_put_step : (carried : Option Way) (blocks periods : ℕ) (is_open : Bool) (fields : List (List ℕ)) → IsOwn (put_step carried blocks periods is_open fields)
 unfolding put_step
-own_put_step blocks periods is_open fields =
+own_put_step carried blocks periods is_open fields =
     own_two _ fields (λ b t. own_in_job is_open _ (own_then _ _ (own_read whole_of b) (λ block. own_then _ _ (own_read whole_of t) (λ period.
     own_then _ _ (own_below blocks block BlockRange own_block) (λ n. own_then _ _ (own_below periods period PeriodRange own_period) (λ m. own_ok _))))))
 
@@ -160,12 +160,6 @@ own_expect_step blocks periods is_open fields =
     own_two _ fields (λ b t. own_in_job is_open _ (own_then _ _ (own_read whole_of b) (λ block. own_then _ _ (own_read period_or_none_of t) (λ period.
     own_then _ _ (own_below blocks block BlockRange own_block) (λ n. own_then _ _ (own_below_if_some periods period) (λ m. own_ok _))))))
 
-own_carry_step : (how : Way) (blocks periods : ℕ) (is_open : Bool) (fields : List (List ℕ)) → IsOwn (carry_step how blocks periods is_open fields)
-unfolding carry_step
-own_carry_step how blocks periods is_open fields =
-    own_two _ fields (λ b t. own_in_job is_open _ (own_then _ _ (own_read whole_of b) (λ block. own_then _ _ (own_read whole_of t) (λ period.
-    own_then _ _ (own_below blocks block BlockRange own_block) (λ n. own_then _ _ (own_below periods period PeriodRange own_period) (λ m. own_ok _))))))
-
 own_revise_step : (resources periods : ℕ) (is_open : Bool) (fields : List (List ℕ)) → IsOwn (revise_step resources periods is_open fields)
 unfolding revise_step
 own_revise_step resources periods is_open fields =
@@ -175,13 +169,13 @@ own_revise_step resources periods is_open fields =
 own_line_of_word : (pit : Pit) (is_open : Bool) (jobs : ℕ) (w : Word) (fields : List (List ℕ)) → IsOwn (line_of_word pit is_open jobs w fields)
 own_line_of_word pit is_open jobs word.Begin fields = own_begin is_open jobs fields
 own_line_of_word pit is_open jobs word.Read fields = own_read_step pit.blocks is_open fields
-own_line_of_word pit is_open jobs word.Put fields = own_put_step pit.blocks pit.periods is_open fields
+own_line_of_word pit is_open jobs word.Put fields = own_put_step None pit.blocks pit.periods is_open fields
 own_line_of_word pit is_open jobs word.Clear fields = own_clear_step pit.blocks is_open fields
 own_line_of_word pit is_open jobs word.Shift fields = own_shift_step pit.blocks is_open fields
 own_line_of_word pit is_open jobs word.Bench fields = own_bench_step pit.periods is_open fields
 own_line_of_word pit is_open jobs word.Expect fields = own_expect_step pit.blocks pit.periods is_open fields
-own_line_of_word pit is_open jobs word.Cone fields = own_carry_step way.Cone pit.blocks pit.periods is_open fields
-own_line_of_word pit is_open jobs word.Push fields = own_carry_step way.Push pit.blocks pit.periods is_open fields
+own_line_of_word pit is_open jobs word.Cone fields = own_put_step (Some way.Cone) pit.blocks pit.periods is_open fields
+own_line_of_word pit is_open jobs word.Push fields = own_put_step (Some way.Push) pit.blocks pit.periods is_open fields
 own_line_of_word pit is_open jobs word.Revise fields = own_revise_step pit.resources pit.periods is_open fields
 own_line_of_word pit is_open jobs word.Commit fields = own_end ending.Commit is_open fields
 own_line_of_word pit is_open jobs word.Abort fields = own_end ending.Abort is_open fields

@@ -60,6 +60,11 @@ below_if_some periods (Some t) = below periods t PeriodRange >>= (λ t. Ok (Some
 abbrev pub does : Step → Result ScriptFact ScriptCause
 does done = Ok (says.Does done)
 
+-- a block is put into a period, alone or with what is carried along
+abbrev pub placing : Option Way → ℕ → ℕ → Step
+placing None block period = step.Put block period
+placing (Some how) block period = step.Carry how block period
+
 -- ---- the lines, each by its fields behind the word, and by whether a job is open
 
 unfoldable pub begin_line : Bool → ℕ → List (List ℕ) → Result ScriptFact ScriptCause
@@ -77,10 +82,10 @@ unfoldable pub clear_step : ℕ → Bool → List (List ℕ) → Result ScriptFa
 clear_step blocks is_open fields = one_field (λ b. in_job is_open (
     read_as whole_of b >>= (λ block. below blocks block BlockRange >>= (λ block. does (step.Clear block))))) fields
 
-unfoldable pub put_step : ℕ → ℕ → Bool → List (List ℕ) → Result ScriptFact ScriptCause
-put_step blocks periods is_open fields = two_fields (λ b t. in_job is_open (
+unfoldable pub put_step : Option Way → ℕ → ℕ → Bool → List (List ℕ) → Result ScriptFact ScriptCause
+put_step carried blocks periods is_open fields = two_fields (λ b t. in_job is_open (
     read_as whole_of b >>= (λ block. read_as whole_of t >>= (λ period.
-    below blocks block BlockRange >>= (λ block. below periods period PeriodRange >>= (λ period. does (step.Put block period))))))) fields
+    below blocks block BlockRange >>= (λ block. below periods period PeriodRange >>= (λ period. does (placing carried block period))))))) fields
 
 unfoldable pub shift_step : ℕ → Bool → List (List ℕ) → Result ScriptFact ScriptCause
 shift_step blocks is_open fields = two_fields (λ b d. in_job is_open (
@@ -97,11 +102,6 @@ expect_step blocks periods is_open fields = two_fields (λ b t. in_job is_open (
     read_as whole_of b >>= (λ block. read_as period_or_none_of t >>= (λ period.
     below blocks block BlockRange >>= (λ block. below_if_some periods period >>= (λ period. does (step.Expect block period))))))) fields
 
-unfoldable pub carry_step : Way → ℕ → ℕ → Bool → List (List ℕ) → Result ScriptFact ScriptCause
-carry_step how blocks periods is_open fields = two_fields (λ b t. in_job is_open (
-    read_as whole_of b >>= (λ block. read_as whole_of t >>= (λ period.
-    below blocks block BlockRange >>= (λ block. below periods period PeriodRange >>= (λ period. does (step.Carry how block period))))))) fields
-
 unfoldable pub revise_step : ℕ → ℕ → Bool → List (List ℕ) → Result ScriptFact ScriptCause
 revise_step resources periods is_open fields = three_fields (λ r t v. in_job is_open (
     read_as whole_of r >>= (λ resource. read_as whole_of t >>= (λ period. read_as upper_bound_of v >>= (λ upper.
@@ -111,13 +111,13 @@ revise_step resources periods is_open fields = three_fields (λ r t v. in_job is
 abbrev pub line_of_word : Pit → Bool → ℕ → Word → List (List ℕ) → Result ScriptFact ScriptCause
 line_of_word pit is_open jobs word.Begin fields = begin_line is_open jobs fields
 line_of_word pit is_open jobs word.Read fields = read_step pit.blocks is_open fields
-line_of_word pit is_open jobs word.Put fields = put_step pit.blocks pit.periods is_open fields
+line_of_word pit is_open jobs word.Put fields = put_step None pit.blocks pit.periods is_open fields
 line_of_word pit is_open jobs word.Clear fields = clear_step pit.blocks is_open fields
 line_of_word pit is_open jobs word.Shift fields = shift_step pit.blocks is_open fields
 line_of_word pit is_open jobs word.Bench fields = bench_step pit.periods is_open fields
 line_of_word pit is_open jobs word.Expect fields = expect_step pit.blocks pit.periods is_open fields
-line_of_word pit is_open jobs word.Cone fields = carry_step way.Cone pit.blocks pit.periods is_open fields
-line_of_word pit is_open jobs word.Push fields = carry_step way.Push pit.blocks pit.periods is_open fields
+line_of_word pit is_open jobs word.Cone fields = put_step (Some way.Cone) pit.blocks pit.periods is_open fields
+line_of_word pit is_open jobs word.Push fields = put_step (Some way.Push) pit.blocks pit.periods is_open fields
 line_of_word pit is_open jobs word.Revise fields = revise_step pit.resources pit.periods is_open fields
 line_of_word pit is_open jobs word.Commit fields = end_line_of ending.Commit is_open fields
 line_of_word pit is_open jobs word.Abort fields = end_line_of ending.Abort is_open fields

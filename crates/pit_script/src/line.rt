@@ -2,7 +2,8 @@ ghost use Rattle.std.specs.Prelude.{◌≡◌, ◌<◌, ℕ, IfOk, IfSome};
 ghost use Rattle.pit_model.specs.Pit.{Pit};
 ghost use Rattle.pit_text.specs.Left.{fields_left};
 ghost use Rattle.pit_script.specs.Inside.Ranges.{IsFactIn};
-ghost use Rattle.pit_script.specs.Lines.{line_fact, ranged_fact, known_bench, line_of_word, bench_step, revise_step, begin_line, end_line_of, read_step, clear_step, put_step, shift_step, expect_step, carry_step, below, below_if_some};
+ghost use Rattle.pit_script.specs.Ranges.{IsStepIn};
+ghost use Rattle.pit_script.specs.Lines.{line_fact, ranged_fact, known_bench, line_of_word, bench_step, revise_step, begin_line, end_line_of, read_step, clear_step, put_step, shift_step, expect_step, placing, below, below_if_some};
 ghost use Rattle.pit_script.specs.Inside.Lines.{MayStand};
 
 use super::benches::Benches;
@@ -81,13 +82,25 @@ fn line_of_word<A: Allocator + Copy + Drop>(
     match word {
         Word::Begin => begin_line(fields, is_open, jobs),
         Word::Read => read_step(fields, is_open, pit.blocks()),
-        Word::Put => put_step(fields, is_open, pit.blocks(), pit.periods()),
+        Word::Put => put_step(fields, is_open, None, pit.blocks(), pit.periods()),
         Word::Clear => clear_step(fields, is_open, pit.blocks()),
         Word::Shift => shift_step(fields, is_open, pit.blocks()),
         Word::Bench => bench_step(fields, is_open, pit.periods()),
         Word::Expect => expect_step(fields, is_open, pit.blocks(), pit.periods()),
-        Word::Cone => carry_step(fields, is_open, Way::Cone, pit.blocks(), pit.periods()),
-        Word::Push => carry_step(fields, is_open, Way::Push, pit.blocks(), pit.periods()),
+        Word::Cone => put_step(
+            fields,
+            is_open,
+            Some(Way::Cone),
+            pit.blocks(),
+            pit.periods(),
+        ),
+        Word::Push => put_step(
+            fields,
+            is_open,
+            Some(Way::Push),
+            pit.blocks(),
+            pit.periods(),
+        ),
         Word::Revise => revise_step(fields, is_open, pit.resources(), pit.periods()),
         Word::Commit => end_line_of(fields, is_open, JobEnd::Commit),
         Word::Abort => end_line_of(fields, is_open, JobEnd::Abort),
@@ -223,10 +236,11 @@ fn clear_step(mut fields: Fields<'_>, is_open: bool, blocks: u32) -> Result<Scri
 fn put_step(
     mut fields: Fields<'_>,
     is_open: bool,
+    carried: Option<Way>,
     blocks: u32,
     periods: u32,
 ) -> Result<ScriptFact, ScriptCause>
-    ensures value { result ≡ put_step blocks periods is_open (fields_left fields.entry) }
+    ensures value { result ≡ put_step carried blocks periods is_open (fields_left fields.entry) }
     ensures stands { (jobs : ℕ) → IfOk result (MayStand is_open jobs) }
     ensures in_range { (pit : Pit) → pit.blocks ≡ blocks → pit.periods ≡ periods → IfOk result (IsFactIn pit) }
 {
@@ -240,7 +254,7 @@ fn put_step(
     let period = whole(t)?;
     let block = below(blocks, block, ScriptCause::BlockRange)?;
     let period = below(periods, period, ScriptCause::PeriodRange)?;
-    Ok(ScriptFact::Does(Step::Put { block, period }))
+    Ok(ScriptFact::Does(placing(carried, block, period)))
 }
 
 #[tactic(auto, unfolding(crate::specs::Lines::shift_step))]
@@ -285,29 +299,15 @@ fn expect_step(
     Ok(ScriptFact::Does(Step::Expect { block, period }))
 }
 
-#[tactic(auto, unfolding(crate::specs::Lines::carry_step))]
-fn carry_step(
-    mut fields: Fields<'_>,
-    is_open: bool,
-    way: Way,
-    blocks: u32,
-    periods: u32,
-) -> Result<ScriptFact, ScriptCause>
-    ensures value { result ≡ carry_step way blocks periods is_open (fields_left fields.entry) }
-    ensures stands { (jobs : ℕ) → IfOk result (MayStand is_open jobs) }
-    ensures in_range { (pit : Pit) → pit.blocks ≡ blocks → pit.periods ≡ periods → IfOk result (IsFactIn pit) }
+/// A step that puts a block into a period, with what is carried along, if a way is named.
+fn placing(carried: Option<Way>, block: u32, period: u32) -> Step
+    ensures value { result ≡ placing carried block period }
+    ensures in_range { (pit : Pit) → block < pit.blocks → period < pit.periods → IsStepIn pit result }
 {
-    let (Some(b), Some(t), None) = (fields.next(), fields.next(), fields.next()) else {
-        return Err(ScriptCause::FieldCount);
-    };
-    if !is_open {
-        return Err(ScriptCause::Order);
+    match carried {
+        None => Step::Put { block, period },
+        Some(way) => Step::Carry { way, block, period },
     }
-    let block = whole(b)?;
-    let period = whole(t)?;
-    let block = below(blocks, block, ScriptCause::BlockRange)?;
-    let period = below(periods, period, ScriptCause::PeriodRange)?;
-    Ok(ScriptFact::Does(Step::Carry { way, block, period }))
 }
 
 /// A period, if it is one, that is below their count, or the cause that it isn't.

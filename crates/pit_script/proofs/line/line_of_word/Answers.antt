@@ -53,16 +53,16 @@ pub returns-in-Expect-clause-stands : goal.returns-in-Expect-clause-stands
 returns-in-Expect-clause-stands g c = c.expect_step.ensures.stands c.args.jobs
 
 pub returns-in-Cone-clause-stands : goal.returns-in-Cone-clause-stands
-returns-in-Cone-clause-stands g c = c.carry_step.ensures.stands c.args.jobs
+returns-in-Cone-clause-stands g c = c.put_step-in-Cone.ensures.stands c.args.jobs
 
 pub returns-in-Push-clause-stands : goal.returns-in-Push-clause-stands
-returns-in-Push-clause-stands g c = c.carry_step-in-Push.ensures.stands c.args.jobs
+returns-in-Push-clause-stands g c = c.put_step-in-Push.ensures.stands c.args.jobs
 
 pub returns-in-Expect-clause-in_range : goal.returns-in-Expect-clause-in_range
 returns-in-Expect-clause-in_range g c = c.expect_step.ensures.in_range c.args.pit.now (sym c.blocks-in-Expect.ensures.count) (sym c.periods-in-Expect.ensures)
 
 pub returns-in-Cone-clause-in_range : goal.returns-in-Cone-clause-in_range
-returns-in-Cone-clause-in_range g c = c.carry_step.ensures.in_range c.args.pit.now (sym c.blocks-in-Cone.ensures.count) (sym c.periods-in-Cone.ensures)
+returns-in-Cone-clause-in_range g c = c.put_step-in-Cone.ensures.in_range c.args.pit.now (sym c.blocks-in-Cone.ensures.count) (sym c.periods-in-Cone.ensures)
 
 pub returns-in-Push-clause-in_range : goal.returns-in-Push-clause-in_range
-returns-in-Push-clause-in_range g c = c.carry_step-in-Push.ensures.in_range c.args.pit.now (sym c.blocks-in-Push.ensures.count) (sym c.periods-in-Push.ensures)
+returns-in-Push-clause-in_range g c = c.put_step-in-Push.ensures.in_range c.args.pit.now (sym c.blocks-in-Push.ensures.count) (sym c.periods-in-Push.ensures)
