@@ -2,7 +2,8 @@
 //! that was read passed over, and what helps against a refusal that a report tells.
 //!
 //! They stand behind an answer and can't change it: `explain` looks at the inputs again, and a report goes through `Watched`, which passes all on. The
-//! contracts of `explain` and `advise` say that nothing is written where there is no terminal; what is written else is only tested.
+//! contracts of `explain` and `advise` say that nothing is written where there is no terminal; what `explain` writes else, and what is found in a
+//! report, is only tested.
 #![tactic(auto)]
 
 mod counts;

@@ -1,5 +1,7 @@
 //! A report on its way, looked through for what may help its reader.
-ghost use Rattle.std.specs.Prelude.{◌≡◌, false};
+ghost use Rattle.std.specs.Prelude.{◌≡◌, true, false, IsFalse};
+ghost use Rattle.std.specs.Io.KnownBytes.{Appends};
+ghost use Rattle.pit_explain.specs.declared.watched.TheConstants.{ADVICE};
 
 use memchr::memmem;
 use pit_num::{Failed, Sink, write_text};
@@ -22,6 +24,7 @@ impl<W: Sink + Drop> Watched<W> {
     /// A device that has found nothing yet, and that looks or doesn't.
     pub fn new(device: W, looks: bool) -> Watched<W>
         ensures device { result.device ≡ device }
+        ensures looks { result.looks ≡ looks }
         ensures pair { result.has_pair ≡ false }
     {
         Watched {
@@ -36,6 +39,7 @@ impl<W: Sink + Drop> Watched<W> {
     pub fn advise<V: Sink>(&self, is_terminal: bool, w: &mut V)
         ensures terminal { is_terminal ≡ false → w.new ≡ w.old }
         ensures pair { self.now.has_pair ≡ false → w.new ≡ w.old }
+        ensures written { is_terminal ≡ true → self.now.has_pair ≡ true → IsFalse (V.has_failed w.new) → Appends (V.contents w.old) (V.contents w.new) ADVICE.now }
     {
         if is_terminal && self.has_pair {
             let _ = write_text(w, ADVICE.as_bytes());
