@@ -80,7 +80,7 @@ cond-on false xs b = ([], sym (append-nil xs))
 same-key : (x y : ℕ) → nat_eq x y ≡ true → x ≡ y
 same-key x y is = eqb-true x y is
 
-there-is : (b : ℕ) (xs : List ℕ) → list_any (nat_eq b) xs ≡ true → Contains xs b
+pub there-is : (b : ℕ) (xs : List ℕ) → list_any (nat_eq b) xs ≡ true → Contains xs b
 there-is b xs is = let m = any-some (nat_eq b) xs is in subst (Contains xs) (sym (same-key b m.0 m.2)) m.1
 
 visit-on : (how : Way) (t : ℕ) (old : TransactionState) (w : WalkState) (b : ℕ) (new : TransactionState) (after : WalkState) → Visits how t old w b new after → IsOn w after × Contains after.visited b

@@ -7,6 +7,7 @@ ghost use Rattle.pit_job.specs.Outcomes.{Grows};
 ghost use Rattle.pit_job.specs.Inside.Runs.{IsJobNumber, job_numbered};
 ghost use Rattle.pit_job.specs.Inside.Outcomes.{Tries, EndsBy, stop_of as stop_by, tried_at as tried_until, tried_of as tried_by};
 
+use crate::carry::Walk;
 use crate::doing::{StepStop, do_steps};
 use crate::gate::Gate;
 use crate::outcome::{JobStop, Tried};
@@ -29,6 +30,7 @@ pub(crate) fn attempt<
 >(
     rt: &W,
     planner: Planner<'a, S, R, A>,
+    walk: &mut Walk<A>,
     script: &Script<B>,
     n: u32,
     gate: &G,
@@ -40,7 +42,7 @@ pub(crate) fn attempt<
 {
     let number = planner.number();
     match planner.begin(n) {
-        Ok(t) => done(rt, t, script, number, n, gate),
+        Ok(t) => done(rt, t, walk, script, number, n, gate),
         Err((planner, _)) => (planner, Tried::Stopped(JobStop::NoMemory)),
     }
 }
@@ -57,6 +59,7 @@ fn done<
 >(
     rt: &W,
     t: Transaction<'a, S, R, A>,
+    walk: &mut Walk<A>,
     script: &Script<B>,
     number: u32,
     n: u32,
@@ -70,7 +73,7 @@ fn done<
 {
     let mut t = t;
     let (steps, end) = script.job(n - 1);
-    match do_steps(&mut t, script.benches(), steps) {
+    match do_steps(&mut t, walk, script.benches(), steps) {
         Err(stop) => (t.abandon(), tried_at(stop)),
         Ok(false) => withdraw(rt, t),
         Ok(true) => match end {

@@ -1,58 +1,81 @@
 //! A block is put into a period with what is carried along: what stands in its way, or what depends on it.
 ghost use Rattle.std.specs.Prelude.{◌≡◌, ℕ, ◌<◌, ◌≤◌, ◌++◌, ◌∷◌, [], length, true, not, slice_get, nat_eq, Some, IfOk, IfErr, OnOk, OnErr, if◌then◌else◌};
 ghost use Rattle.std.specs.List.{All, Contains, list_any};
+ghost use Rattle.std.specs.List.Sorted.{IsSorted, IsPermutation};
+ghost use Rattle.std.specs.Ordering.{nat_cmp};
 ghost use Rattle.pit_share.specs.Planners.{SeesOn};
 ghost use Rattle.pit_job.specs.Effect.{is_carried as is_carried_of, leads_to, members_of, read_in, seen};
 ghost use Rattle.pit_job.specs.Inside.Doing.{DoesStep, StopsAt, own_of};
 ghost use Rattle.pit_job.specs.Inside.Walking.{Visits, VisitsEach, IsGone, IsReadNow};
 
 use crate::doing::{StepStop, look, put_each};
-use indexmap::IndexSet;
 use pit_board::Session;
-use pit_model::Instance;
+use pit_model::{BLOCKS_MAX, BlockSet, Instance};
 use pit_script::{Benches, Step, Way};
 use pit_share::Transaction;
 use std::alloc::Allocator;
-use std::hash::{BuildHasherDefault, FoldHasher};
 use std::marker::Model;
 use std::sync::Wait;
 
-/// The blocks that a walk has read, and of these what it has found to be carried along, each in the order of the reads. Memory grows with both.
+/// The blocks that a walk has read, in their order, and of these what it has found to be carried along. One serves line after line. Its memory grows with
+/// what one line reads, and once by a bit for each block.
 #[derive(Drop)]
-struct Walk<A: Allocator + Copy + Drop> {
-    visited: IndexSet<u32, BuildHasherDefault<FoldHasher>, A>,
+pub(crate) struct Walk<A: Allocator + Copy + Drop> {
+    marks: BlockSet<A>,
+    visited: Vec<u32, A>,
     found: Vec<u32, A>,
 }
 
 impl<A: Allocator + Copy + Drop> Model for Walk<A> {
-    ghost use Rattle.pit_job.specs.Inside.Walking.{WalkState};
+    ghost use Rattle.pit_job.specs.Inside.Walking.{WalkState, AreMarked};
 
     ghost Value = { WalkState };
 
-    ghost view = { λ w. record { visited = w.visited.keys; found = w.found.items } };
+    ghost view = { λ w. record { visited = w.visited.items; found = w.found.items } };
+
+    ghost invariant = { λ w. AreMarked w.marks w.visited.items };
 }
 
 impl<A: Allocator + Copy + Drop> Walk<A> {
-    fn new(alloc: A) -> Walk<A>
+    /// A walk that has read nothing. Takes no memory.
+    pub(crate) fn new(alloc: A) -> Walk<A>
         ensures { result ≡ record { visited = []; found = [] } }
     {
         Walk {
-            visited: IndexSet::new(alloc),
+            marks: BlockSet::new(alloc),
+            visited: Vec::new(alloc),
             found: Vec::new(alloc),
         }
     }
 
+    /// Forgets what was read. The room stays.
+    fn restart(&mut self)
+        ensures { self.new ≡ record { visited = []; found = [] } }
+    {
+        self.marks.clear(&self.visited);
+        self.visited.clear();
+        self.found.clear();
+    }
+
     /// Takes a block as visited, and says whether it wasn't.
     fn enter(&mut self, b: u32) -> Result<bool, StepStop>
+        requires { b < BLOCKS_MAX }
         ensures fresh { IfOk result (λ is_fresh. is_fresh ≡ not (list_any (nat_eq b) self.old.visited)) }
         ensures visited { OnOk result (self.new.visited ≡ (if list_any (nat_eq b) self.old.visited then self.old.visited else self.old.visited ++ b ∷ [])) }
         ensures found { OnOk result (self.new.found ≡ self.old.found) }
         ensures memory { IfErr result (λ stop. stop ≡ StepStop.NoMemory) }
     {
-        match self.visited.insert(b) {
-            Ok(is_fresh) => Ok(is_fresh),
-            Err(_) => Err(StepStop::NoMemory),
+        if self.marks.contains(b) {
+            return Ok(false);
         }
+        let Ok(()) = self.marks.reserve(b + 1) else {
+            return Err(StepStop::NoMemory);
+        };
+        let Ok(()) = self.visited.push(b) else {
+            return Err(StepStop::NoMemory);
+        };
+        self.marks.insert(b);
+        Ok(true)
     }
 
     /// Takes a block as found.
@@ -74,14 +97,23 @@ impl<A: Allocator + Copy + Drop> Walk<A> {
         self.found.get(i as usize).copied()
     }
 
-    fn into_found(self) -> Vec<u32, A>
-        ensures { result.items ≡ self.found }
+    /// Sorts what was found by rising block.
+    fn sort(&mut self)
+        ensures visited { self.new.visited ≡ self.old.visited }
+        ensures sorted { IsSorted nat_cmp self.new.found }
+        ensures permutation { IsPermutation self.old.found self.new.found }
     {
-        self.found
+        self.found.sort_unstable();
+    }
+
+    fn found(&self) -> &[u32]
+        ensures { result.now ≡ self.now.found }
+    {
+        &self.found
     }
 }
 
-/// Puts a block and what is carried along with it into a period, once all that they lead to is read. Tells what it put, rising.
+/// Puts a block and what is carried along with it into a period, once all that they lead to is read. The walk then has what was put, rising.
 pub(crate) fn carry<
     'a,
     S: Session,
@@ -90,47 +122,50 @@ pub(crate) fn carry<
     B: Allocator + Copy + Drop,
 >(
     t: &mut Transaction<'a, S, R, A>,
+    walk: &mut Walk<A>,
     benches: &Benches<B>,
     way: Way,
     b: u32,
     period: u32,
-) -> Result<Vec<u32, A>, StepStop>
+) -> Result<(), StepStop>
     requires pit { benches.now ≡ S.instance }
     requires block { b < S.instance.blocks }
     ensures ok { OnOk result (DoesStep S.instance t.old (Step.Carry way b period) true t.new) }
-    ensures members { IfOk result (λ put. put.items ≡ members_of S.instance way (λ c. seen (read_in t.new.work.reads) (own_of t.old.work) c) b period) }
+    ensures members { OnOk result (walk.new.found ≡ members_of S.instance way (λ c. seen (read_in t.new.work.reads) (own_of t.old.work) c) b period) }
     ensures err { IfErr result (λ stop. StopsAt (IsReadNow S.instance way b period t.new) t.old stop t.new) }
     ensures sees { SeesOn t.old.planner t.new.planner }
 {
-    let mut found = walked(t, benches.pit(), way, b, period)?.into_found();
-    found.sort_unstable();
-    put_each(t, &found, period)?;
-    Ok(found)
+    walked(t, walk, benches.pit(), way, b, period)?;
+    walk.sort();
+    put_each(t, walk.found(), period)?;
+    Ok(())
 }
 
 /// Reads from a queue: the block, and then of each that is found what it leads to.
 fn walked<'a, S: Session, R: Wait + Drop, A: Allocator + Copy + Drop, B: Allocator + Copy + Drop>(
     t: &mut Transaction<'a, S, R, A>,
+    walk: &mut Walk<A>,
     pit: &Instance<B>,
     way: Way,
     b: u32,
     period: u32,
-) -> Result<Walk<A>, StepStop>
+) -> Result<(), StepStop>
     requires pit { pit.now ≡ S.instance }
     requires block { b < S.instance.blocks }
-    ensures ok { IfOk result (λ walk. (i : ℕ) × (length walk.found ≤ i) × IsGone S.instance way b period t.old t.new walk i) }
+    ensures ok { OnOk result ((i : ℕ) × (length walk.new.found ≤ i) × IsGone S.instance way b period t.old t.new walk.new i) }
     ensures err { IfErr result (λ stop. StopsAt (IsReadNow S.instance way b period t.new) t.old stop t.new) }
     ensures sees { SeesOn t.old.planner t.new.planner }
 {
-    let mut walk = Walk::new(*t.reads().allocator());
-    visit(t, &mut walk, way, period, b)?;
-    for i in 0..pit.blocks() {
+    let blocks = pit.blocks();
+    walk.restart();
+    visit(t, walk, way, period, b)?;
+    for i in 0..blocks {
         let Some(m) = walk.member(i) else {
-            return Ok(walk);
+            return Ok(());
         };
-        visit_each(t, &mut walk, way, period, led_by(pit, way, m))?;
+        visit_each(t, walk, way, period, led_by(pit, way, m))?;
     }
-    Ok(walk)
+    Ok(())
 }
 
 /// The predecessors of a block, or its successors.
@@ -152,7 +187,8 @@ fn visit_each<'a, S: Session, R: Wait + Drop, A: Allocator + Copy + Drop>(
     period: u32,
     blocks: &[u32],
 ) -> Result<(), StepStop>
-    requires { All (λ b. b < S.instance.blocks) blocks.now }
+    requires few { S.instance.blocks ≤ BLOCKS_MAX }
+    requires blocks { All (λ b. b < S.instance.blocks) blocks.now }
     ensures ok { OnOk result (VisitsEach way period t.old walk.old blocks.now t.new walk.new) }
     ensures err { IfErr result (λ stop. StopsAt (Contains blocks.now) t.old stop t.new) }
     ensures sees { SeesOn t.old.planner t.new.planner }
@@ -171,7 +207,8 @@ fn visit<'a, S: Session, R: Wait + Drop, A: Allocator + Copy + Drop>(
     period: u32,
     b: u32,
 ) -> Result<(), StepStop>
-    requires { b < S.instance.blocks }
+    requires few { S.instance.blocks ≤ BLOCKS_MAX }
+    requires block { b < S.instance.blocks }
     ensures ok { OnOk result (Visits way period t.old walk.old b t.new walk.new) }
     ensures err { IfErr result (λ stop. StopsAt (λ c. c ≡ b) t.old stop t.new) }
     ensures sees { SeesOn t.old.planner t.new.planner }

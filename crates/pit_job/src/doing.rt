@@ -8,7 +8,7 @@ ghost use Rattle.pit_job.specs.Shifts.{shifted as shifted_of};
 ghost use Rattle.pit_job.specs.Inside.Doing.{LooksUp, Puts, DoesStep, DoesSteps, StopsAt, StepStopsAt, IsUnseen, Meets};
 ghost use Rattle.pit_job.specs.Inside.Walking.{PutsEach};
 
-use crate::carry::carry;
+use crate::carry::{Walk, carry};
 use crate::shift::shifted;
 use pit_board::Session;
 use pit_script::{Benches, Step, Way};
@@ -32,7 +32,12 @@ pub(crate) fn do_steps<
     R: Wait + Drop,
     A: Allocator + Copy + Drop,
     B: Allocator + Copy + Drop,
->(t: &mut Transaction<'a, S, R, A>, benches: &Benches<B>, steps: &[Step]) -> Result<bool, StepStop>
+>(
+    t: &mut Transaction<'a, S, R, A>,
+    walk: &mut Walk<A>,
+    benches: &Benches<B>,
+    steps: &[Step],
+) -> Result<bool, StepStop>
     requires pit { benches.now ≡ S.instance }
     requires in_range { All (IsStepIn S.instance) steps.now }
     ensures ok { IfOk result (λ goes. DoesSteps S.instance t.old steps.now goes t.new) }
@@ -40,7 +45,7 @@ pub(crate) fn do_steps<
     ensures sees { SeesOn t.old.planner t.new.planner }
 {
     for step in steps {
-        if !do_step(t, benches, step)? {
+        if !do_step(t, walk, benches, step)? {
             return Ok(false);
         }
     }
@@ -50,6 +55,7 @@ pub(crate) fn do_steps<
 /// Does a step, and says whether it was done. Where not, a shift or an expectation failed.
 fn do_step<'a, S: Session, R: Wait + Drop, A: Allocator + Copy + Drop, B: Allocator + Copy + Drop>(
     t: &mut Transaction<'a, S, R, A>,
+    walk: &mut Walk<A>,
     benches: &Benches<B>,
     step: &Step,
 ) -> Result<bool, StepStop>
@@ -66,7 +72,7 @@ fn do_step<'a, S: Session, R: Wait + Drop, A: Allocator + Copy + Drop, B: Alloca
         Step::Shift { block, is_back, by } => shift(t, benches, block, is_back, by),
         Step::Bench { height, period } => bench(t, benches, height, period),
         Step::Expect { block, period } => expect(t, block, period),
-        Step::Carry { way, block, period } => carry_along(t, benches, way, block, period),
+        Step::Carry { way, block, period } => carry_along(t, walk, benches, way, block, period),
         Step::Revise {
             resource,
             period,
@@ -112,6 +118,7 @@ fn carry_along<
     B: Allocator + Copy + Drop,
 >(
     t: &mut Transaction<'a, S, R, A>,
+    walk: &mut Walk<A>,
     benches: &Benches<B>,
     way: Way,
     b: u32,
@@ -123,7 +130,7 @@ fn carry_along<
     ensures err { IfErr result (λ stop. StepStopsAt S.instance t.old (Step.Carry way b period) stop t.new) }
     ensures sees { SeesOn t.old.planner t.new.planner }
 {
-    let _put = carry(t, benches, way, b, period)?;
+    carry(t, walk, benches, way, b, period)?;
     Ok(true)
 }
 

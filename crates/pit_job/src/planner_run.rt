@@ -7,6 +7,7 @@ ghost use Rattle.pit_job.specs.Inside.Runs.{IsJobNumber, job_numbered, RanJob, e
 ghost use Rattle.pit_job.specs.declared.planner_run.TheConstants.{RETRIES_MAX};
 
 use crate::attempt::attempt;
+use crate::carry::Walk;
 use crate::gate::Gate;
 use crate::outcome::{JobStop, Outcome, RunEnd, Tried, outcome_of};
 use pit_board::Session;
@@ -42,13 +43,14 @@ pub fn run_script<
         × RanFrom S.instance S.max_entries retries planner.entry.seen result.0.seen 1 script.now.jobs es result.1.items result.2 }
 {
     let mut outcomes = Vec::new(alloc);
+    let mut walk = Walk::new(alloc);
     let mut now = planner;
     for i in 0..script.jobs() {
         let n = i + 1;
         let Ok(()) = outcomes.reserve(1) else {
             return (now, outcomes, RunEnd::NoMemory { job: n });
         };
-        let (next, answer) = run_job(rt, now, script, n, retries, gate);
+        let (next, answer) = run_job(rt, now, &mut walk, script, n, retries, gate);
         now = next;
         match answer {
             Err(stop) => return (now, outcomes, end_of(stop, n)),
@@ -70,6 +72,7 @@ fn run_job<
 >(
     rt: &W,
     planner: Planner<'a, S, R, A>,
+    walk: &mut Walk<A>,
     script: &Script<B>,
     n: u32,
     retries: u32,
@@ -83,7 +86,7 @@ fn run_job<
 {
     let mut now = planner;
     for before in 0..retries {
-        let (next, tried) = attempt(rt, now, script, n, gate);
+        let (next, tried) = attempt(rt, now, walk, script, n, gate);
         now = next;
         match tried {
             Tried::Moved { .. } => {}
@@ -91,7 +94,7 @@ fn run_job<
             Tried::Stopped(stop) => return (now, Err(stop)),
         }
     }
-    let (last, tried) = attempt(rt, now, script, n, gate);
+    let (last, tried) = attempt(rt, now, walk, script, n, gate);
     match tried {
         Tried::Moved { block, version } => (
             last,

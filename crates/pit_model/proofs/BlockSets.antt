@@ -1,12 +1,16 @@
 -- What is read of sets of blocks, and of what is known of the blocks in them.
-use Rattle.std.proofs.Common.{◌≡◌, ◌≢◌, ℕ, ◌*◌, ◌/◌, ◌%◌, ◌<◌, ◌≤◌, ◌==◌, Bool, true, false, cond, List, length, get_or, set, replicate, Option, Some, None, is_some, refl, sym, ap, ap₂, ◌∙◌, inl, inr, arith, ext_get_or, length-set, get_or-set_same, get_or-set_other, eq-eqb}
+use Rattle.std.proofs.Common.{◌≡◌, ◌≢◌, ℕ, ◌+◌, ◌*◌, ◌/◌, ◌%◌, ◌<◌, ◌≤◌, ◌==◌, Bool, true, false, cond, List, [], ◌∷◌, length, drop, get_or, set, replicate, Option, Some, None, is_some, refl, sym, ap, ap₂, subst, add-one, ◌∙◌, inl, inr, arith, ext_get_or, length-set, get_or-set_same, get_or-set_other, eq-eqb}
 use Rattle.std.specs.Int.{bit_at}
-use Rattle.std.proofs.lemmas.Bool.{cases_eq, cases_lt}
-use Rattle.std.proofs.lemmas.List.{length-replicate, get_or-replicate, get_or_past}
+use Rattle.std.specs.List.{Contains}
+use Rattle.std.proofs.Math.Seq.{drop-cons}
+use Rattle.std.proofs.lemmas.Bool.{cases_eq, cases_lt, false≢true}
+use Rattle.std.proofs.lemmas.Map.Made.{Contains-tail}
+use Rattle.std.proofs.lemmas.List.{drop_all, length-replicate, get_or-replicate, get_or_past}
 use Rattle.std.proofs.lemmas.List.FromFn.{length-map-range_with_len, get_or-map-range_with_len}
 use Rattle.std.proofs.lemmas.Nat.Bits.{bit_at-zero}
 use Rattle.pit_num.specs.Bits.{IsWithBit}
-use Rattle.pit_model.specs.Inside.BlockSet.{has_block, blocks_in, member_value, member_values}
+use Rattle.pit_model.specs.BlockSet.{has_block, blocks_in}
+use Rattle.pit_model.specs.Inside.BlockSet.{member_value, member_values}
 
 -- ---- the bits of a set
 
@@ -70,6 +74,42 @@ IsWithBlock-insert blocks before room after b below same wide is = record {
   here = ap (λ (l : List Bool). get_or l b false) is ∙ get_or-set_same room b true false (omega arith);
   others = λ k other. ap (λ (l : List Bool). get_or l k false) is ∙ get_or-set_other room b k true false other ∙ same k;
 }
+
+-- ---- taking all out
+
+-- what is in a set whose word was cleared was in it, and isn't of that word
+pub cleared-word : (words : List ℕ) (k c : ℕ) → k < length words → get_or (blocks_in (set words k 0)) c false ≡ true → (get_or (blocks_in words) c false ≡ true) × (c / 64 ≢ k)
+cleared-word words k c within held =
+    let is : has_block (set words k 0) c ≡ true = sym (get_or-blocks_in (set words k 0) c) ∙ held in
+    elim (cases_eq (c / 64) k) [
+      | inl same ↦
+          absurd (false≢true (sym (ap (λ (i : ℕ). bit_at (get_or (set words k 0) i 0) (c % 64) == 1) same ∙ ap (λ (w : ℕ). bit_at w (c % 64) == 1) (get_or-set_same words k 0 0 within)
+          ∙ ap (λ (bit : ℕ). bit == 1) (bit_at-zero (c % 64))) ∙ is))
+      | inr apart ↦ (get_or-blocks_in words c ∙ ap (λ (w : ℕ). bit_at w (c % 64) == 1) (sym (get_or-set_other words k (c / 64) 0 0 apart)) ∙ is, apart)
+    ]
+
+-- what is in the set is among the blocks from i on, and the room is as it was
+pub record IsClearedTo (old held : List Bool) (blocks : List ℕ) (i : ℕ) : Type 0 where
+  pub room : length held ≡ length old
+  pub left : (c : ℕ) → get_or held c false ≡ true → Contains (drop i blocks) c
+
+from-here : (blocks : List ℕ) (i b : ℕ) → i < length blocks → get_or blocks i 0 ≡ b → drop i blocks ≡ b ∷ drop (i + 1) blocks
+from-here blocks i b less at = rw (add-one, drop-cons blocks i 0, at)
+
+pub cleared-more : (old held after : List Bool) (blocks : List ℕ) (i b : ℕ) → i < length blocks → get_or blocks i 0 ≡ b → ((c : ℕ) → get_or after c false ≡ true → (get_or held c false ≡ true) × (c ≢ b)) → length after ≡ length held
+    → IsClearedTo old held blocks i → IsClearedTo old after blocks (i + 1)
+cleared-more old held after blocks i b less at fewer room so_far = record {
+  room = room ∙ so_far.room;
+  left = λ c is.
+      Contains-tail b (drop (i + 1) blocks) c (λ same. (fewer c is).1 (sym same)) (subst (λ (xs : List ℕ). Contains xs c) (from-here blocks i b less at) (so_far.left c (fewer c is).0));
+}
+
+pub cleared-all : (old held : List Bool) (blocks : List ℕ) (i b : ℕ) → length blocks ≤ i → IsClearedTo old held blocks i → get_or held b false ≡ false
+cleared-all old held blocks i b past so_far = by (get_or held b false) refl
+  where
+    by : (x : Bool) → get_or held b false ≡ x → x ≡ false
+    by false is = refl
+    by true is = let among = subst (λ (xs : List ℕ). Contains xs b) (drop_all i blocks past) (so_far.left b is) in absurd (omega (arith, among.1))
 
 -- ---- what is known of the blocks in a set
 

@@ -1,5 +1,5 @@
 //! Sets of blocks.
-ghost use Rattle.std.specs.Prelude.{◌≡◌, ℕ, ◌<◌, ◌≤◌, [], true, false, length, slice_index_or, slice_set, OnOk};
+ghost use Rattle.std.specs.Prelude.{◌≡◌, ◌≢◌, ℕ, ◌<◌, ◌≤◌, [], true, false, length, slice_index_or, slice_set, Contains, OnOk};
 
 use pit_num::{NoMemory, has_bit, with_bit};
 use std::alloc::Allocator;
@@ -9,13 +9,13 @@ use std::marker::Model;
 ///
 /// Contracts see whether each block is in it, as far as it has room.
 #[derive(Drop)]
-pub(crate) struct BlockSet<A: Allocator + Drop> {
+pub struct BlockSet<A: Allocator + Drop> {
     words: Vec<u64, A>,
 }
 
 impl<A: Allocator + Drop> Model for BlockSet<A> {
     ghost use Rattle.std.specs.Prelude.{Bool, List};
-    ghost use Rattle.pit_model.specs.Inside.BlockSet.{blocks_in};
+    ghost use Rattle.pit_model.specs.BlockSet.{blocks_in};
 
     ghost Value = { List Bool };
 
@@ -24,7 +24,7 @@ impl<A: Allocator + Drop> Model for BlockSet<A> {
 
 impl<A: Allocator + Copy + Drop> BlockSet<A> {
     /// An empty set. Takes no memory.
-    pub(crate) fn new(alloc: A) -> BlockSet<A>
+    pub fn new(alloc: A) -> BlockSet<A>
         ensures { result ≡ [] }
     {
         BlockSet {
@@ -33,7 +33,7 @@ impl<A: Allocator + Copy + Drop> BlockSet<A> {
     }
 
     /// Makes room for so many blocks.
-    pub(crate) fn reserve(&mut self, blocks: u32) -> Result<(), NoMemory>
+    pub fn reserve(&mut self, blocks: u32) -> Result<(), NoMemory>
         ensures room { OnOk result (blocks ≤ length self.new) }
         ensures same { (b : ℕ) → slice_index_or self.new b false ≡ slice_index_or self.old b false }
     {
@@ -43,7 +43,7 @@ impl<A: Allocator + Copy + Drop> BlockSet<A> {
     }
 
     /// Whether a block is in the set.
-    pub(crate) fn contains(&self, b: u32) -> bool
+    pub fn contains(&self, b: u32) -> bool
         ensures { result ≡ slice_index_or self.now b false }
     {
         if b as usize / 64 >= self.words.len() {
@@ -53,11 +53,34 @@ impl<A: Allocator + Copy + Drop> BlockSet<A> {
     }
 
     /// Puts a block into the set, which has room for it.
-    pub(crate) fn insert(&mut self, b: u32)
+    pub fn insert(&mut self, b: u32)
         requires { b < length self.old }
         ensures { self.new ≡ slice_set self.old b true }
     {
         let word = with_bit(self.words[b as usize / 64], b % 64);
         self.words[b as usize / 64] = word;
+    }
+
+    /// Takes all blocks out, where these are all that are in it. The room stays. Takes no memory.
+    pub fn clear(&mut self, blocks: &[u32])
+        requires all { (b : ℕ) → slice_index_or self.old b false ≡ true → Contains blocks.now b }
+        ensures none { (b : ℕ) → slice_index_or self.new b false ≡ false }
+        ensures room { length self.new ≡ length self.old }
+    {
+        for b in blocks {
+            self.clear_word(*b);
+        }
+    }
+
+    /// Takes out a block, and with it those of its word.
+    fn clear_word(&mut self, b: u32)
+        ensures less { (c : ℕ) → slice_index_or self.new c false ≡ true → (slice_index_or self.old c false ≡ true) × (c ≢ b) }
+        ensures room { length self.new ≡ length self.old }
+    {
+        let word = b as usize / 64;
+        if word >= self.words.len() {
+            return;
+        }
+        self.words[word] = 0;
     }
 }

@@ -17,6 +17,7 @@ mod profits;
 mod sorted_coefficients;
 mod successors;
 
+pub use block_set::BlockSet;
 pub use bounds::bounds_are_tightest;
 pub use builder::Builder;
 pub use counts::{BLOCKS_MAX, RESOURCES_MAX};

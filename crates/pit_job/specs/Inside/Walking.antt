@@ -25,6 +25,10 @@ pub record WalkState : Type 0 where
   pub visited : List ℕ
   pub found : List ℕ
 
+-- the set has just the blocks that were visited
+abbrev pub AreMarked : List Bool → List ℕ → Type 0
+AreMarked marks visited = (b : ℕ) → slice_index_or marks b false ≡ list_any (nat_eq b) visited
+
 -- a block that was not visited is looked up, and found where it is carried along
 pub record IsVisited (how : Way) (t : ℕ) (old : TransactionState) (walk : WalkState) (b : ℕ) (new : TransactionState) (after : WalkState) : Type 0 where
   pub held : Option ℕ

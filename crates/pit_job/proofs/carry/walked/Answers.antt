@@ -17,7 +17,7 @@ returns-in_err-visit-clause-err g c =
 
 pub loop-i-init : goal.loop-i-init
 loop-i-init g c =
-    gone-first g.S.Session.instance c.args.way c.args.b c.args.period c.args.t.now c.visit.new.t c.new-walk.result c.visit.new.walk c.requires.block c.new-walk.ensures c.in_ok-visit.ensures.ok
+    gone-first g.S.Session.instance c.args.way c.args.b c.args.period c.args.t.now c.visit.new.t c.restart.new.self c.visit.new.walk c.requires.block c.restart.ensures c.in_ok-visit.ensures.ok
 
 pub returns-in_default-clause-ok : goal.returns-in_default-clause-ok
 returns-in_default-clause-ok g c = (c.loop-i.i, past-found c.loop-i.walk c.loop-i.i (sym c.member.ensures ∙ c.in_default.is), c.loop-i.invariant)
@@ -46,7 +46,7 @@ pub returns-clause-ok : goal.returns-clause-ok
 returns-clause-ok g c =
     let few : length c.loop-i.walk.found ≤ g.S.Session.instance.blocks =
     gone-few g.S.Session.instance c.args.way c.args.b c.args.period c.args.t.now c.loop-i.t c.loop-i.walk c.loop-i.i c.loop-i.invariant in
-    let count = c.blocks-i-end.ensures.count in
+    let count = c.blocks-blocks.ensures.count in
     let same = ap (λ (p : Pit). p.blocks) c.requires.pit in
     let past : length c.loop-i.walk.found ≤ c.loop-i.i = omega arith in
     (c.loop-i.i, past, c.loop-i.invariant)

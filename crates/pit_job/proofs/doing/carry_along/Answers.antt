@@ -4,8 +4,8 @@ use Rattle.pit_job.proofs.Meeting.{stop-handed}
 use Rattle.pit_job.proofs.Walking.{carry-stops}
 use Rattle.pit_job.proofs.doing.carry_along.Goals as goal
 
-pub returns-in_err-_put-clause-err : goal.returns-in_err-_put-clause-err
-returns-in_err-_put-clause-err g c =
-    stop-handed c.from_residual.result c.in_err-_put.field-0.0 (λ why. StepStopsAt g.S.Session.instance c.args.t.now (step.Carry c.args.way c.args.b c.args.period) why c.carry.new.t)
+pub returns-in_err-carry-clause-err : goal.returns-in_err-carry-clause-err
+returns-in_err-carry-clause-err g c =
+    stop-handed c.from_residual.result c.in_err-carry.field-0.0 (λ why. StepStopsAt g.S.Session.instance c.args.t.now (step.Carry c.args.way c.args.b c.args.period) why c.carry.new.t)
     c.from_residual.ensures.0 c.from_residual.ensures.1
-    (carry-stops g.S.Session.instance c.args.way c.args.b c.args.period c.args.t.now c.carry.new.t c.in_err-_put.field-0.0 c.in_err-_put.ensures.err)
+    (carry-stops g.S.Session.instance c.args.way c.args.b c.args.period c.args.t.now c.carry.new.t c.in_err-carry.field-0.0 c.in_err-carry.ensures.err)

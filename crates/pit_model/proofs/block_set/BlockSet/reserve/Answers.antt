@@ -1,5 +1,5 @@
 use Rattle.std.proofs.Common.{◌+◌, ◌/◌, ◌≤◌, length, arith, rules}
-use Rattle.pit_model.specs.Inside.BlockSet.{blocks_in}
+use Rattle.pit_model.specs.BlockSet.{blocks_in}
 use Rattle.pit_model.proofs.BlockSets.{length-blocks_in, blocks_in-same}
 use Rattle.pit_model.proofs.Rows.{get_or-filled_up}
 use Rattle.pit_model.proofs.block_set.BlockSet.reserve.Goals as goal
