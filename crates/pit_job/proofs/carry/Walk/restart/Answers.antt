@@ -5,5 +5,5 @@ use Rattle.pit_job.proofs.carry.Walk.restart.Goals as goal
 
 pub clear-requires : goal.clear-requires
 clear-requires g c = record {
-  all = λ b is. subst (λ (xs : List ℕ). Contains xs b) (sym c.deref.ensures.value) (there-is b c.self.inside.visited.items (sym (c.self.invariant b) ∙ is))
+  all = λ b is. subst (λ (xs : List ℕ). Contains xs b) (sym c.deref.ensures.value) (there-is b c.self.inside.visited.items (sym (c.self.invariant b) ∙ is));
 }
