@@ -1,8 +1,8 @@
 #!/usr/bin/env bash
 # Times jobs of `pit plan` that carry blocks along: five rounds.
 # usage: bench/carry.sh [-n JOBS] PIT NAME BLOCK SMALL   reads NAME.cpit, NAME.prec and NAME.sol, whose lines rise by block, and SMALL.cpit and SMALL.prec
-# One job of a planner who starts from the solution puts BLOCK into period 0 with all that stands in its way (`cone`), and aborts. In turn with it a job
-# shifts as many mined blocks by one period, and aborts. Then JOBS jobs (20,000 where it isn't said) on each pit are a cone of up to ten blocks and an
+# Ten jobs of a planner who starts from the solution put BLOCK into period 0 with all that stands in its way (`cone`), and abort. In turn with them ten
+# jobs shift as many mined blocks by one period, and abort. Then JOBS jobs (20,000 where it isn't said) on each pit are a cone of up to ten blocks and an
 # `abort`, from an empty schedule. Of each the seconds of a `plan` of no job are taken off. Prints the middle of the seconds and of the peak memory, and
 # the middle of the ratios in one round: of the cone to the shifts, and of small cones in NAME to those in SMALL. Predecessors have higher numbers, as in
 # the pits that `generate.py` makes. Wants GNU time.
@@ -30,7 +30,7 @@ small_cones() {
 }
 
 : >"$work/script.none"
-printf 'begin\ncone %s 0\nabort\n' "$block" >"$work/script.one"
+for _ in {1..10}; do printf 'begin\ncone %s 0\nabort\n' "$block"; done >"$work/script.one"
 # What the cone takes along, and as many blocks that are mined later than in period 0.
 awk -v block="$block" '
     FILENAME == ARGV[1] { period[$1] = $2; next }
@@ -41,8 +41,9 @@ awk -v block="$block" '
         for (b in period) if (period[b] > 0 && members-- > 0) print "shift", b, "-1"
     }' "$large.sol" "$large.prec" >"$work/shifted"
 members=$(head -n 1 "$work/shifted")
-{ echo begin; tail -n +2 "$work/shifted" | sort -k 2n; echo abort; } >"$work/script.shifts"
-if [ "$(wc -l <"$work/script.shifts")" -ne $((members + 2)) ]; then
+tail -n +2 "$work/shifted" | sort -k 2n >"$work/steps"
+for _ in {1..10}; do echo begin; cat "$work/steps"; echo abort; done >"$work/script.shifts"
+if [ "$(wc -l <"$work/steps")" -ne "$members" ]; then
     echo "$large.sol has too few blocks that are mined later than in period 0" >&2
     exit 1
 fi
