@@ -1,5 +1,5 @@
 //! A block is put into a period with what is carried along: what stands in its way, or what depends on it.
-ghost use Rattle.std.specs.Prelude.{◌≡◌, ℕ, ◌<◌, ◌≤◌, ◌++◌, ◌∷◌, [], length, true, not, slice_get, nat_eq, Some, IfOk, IfErr, OnOk, OnErr, if◌then◌else◌};
+ghost use Rattle.std.specs.Prelude.{◌≡◌, ℕ, ◌<◌, ◌≤◌, ◌++◌, ◌∷◌, [], length, true, false, slice_get, nat_eq, Some, IfOk, IfErr, OnOk, OnErr};
 ghost use Rattle.std.specs.List.{All, Contains, list_any};
 ghost use Rattle.std.specs.List.Sorted.{IsSorted, IsPermutation};
 ghost use Rattle.std.specs.Ordering.{nat_cmp};
@@ -57,17 +57,20 @@ impl<A: Allocator + Copy + Drop> Walk<A> {
         self.found.clear();
     }
 
-    /// Takes a block as visited, and says whether it wasn't.
-    fn enter(&mut self, b: u32) -> Result<bool, StepStop>
-        requires { b < BLOCKS_MAX }
-        ensures fresh { IfOk result (λ is_fresh. is_fresh ≡ not (list_any (nat_eq b) self.old.visited)) }
-        ensures visited { OnOk result (self.new.visited ≡ (if list_any (nat_eq b) self.old.visited then self.old.visited else self.old.visited ++ b ∷ [])) }
+    fn has_visited(&self, b: u32) -> bool
+        ensures { result ≡ list_any (nat_eq b) self.now.visited }
+    {
+        self.marks.contains(b)
+    }
+
+    /// Takes a block as visited that wasn't.
+    fn enter(&mut self, b: u32) -> Result<(), StepStop>
+        requires few { b < BLOCKS_MAX }
+        requires fresh { list_any (nat_eq b) self.old.visited ≡ false }
+        ensures visited { OnOk result (self.new.visited ≡ self.old.visited ++ b ∷ []) }
         ensures found { OnOk result (self.new.found ≡ self.old.found) }
         ensures memory { IfErr result (λ stop. stop ≡ StepStop.NoMemory) }
     {
-        if self.marks.contains(b) {
-            return Ok(false);
-        }
         let Ok(()) = self.marks.reserve(b + 1) else {
             return Err(StepStop::NoMemory);
         };
@@ -75,7 +78,7 @@ impl<A: Allocator + Copy + Drop> Walk<A> {
             return Err(StepStop::NoMemory);
         };
         self.marks.insert(b);
-        Ok(true)
+        Ok(())
     }
 
     /// Takes a block as found.
@@ -199,7 +202,7 @@ fn visit_each<'a, S: Session, R: Wait + Drop, A: Allocator + Copy + Drop>(
     Ok(())
 }
 
-/// Reads a block that wasn't visited.
+/// Reads a block that wasn't visited. Most that members lead to were.
 fn visit<'a, S: Session, R: Wait + Drop, A: Allocator + Copy + Drop>(
     t: &mut Transaction<'a, S, R, A>,
     walk: &mut Walk<A>,
@@ -213,9 +216,10 @@ fn visit<'a, S: Session, R: Wait + Drop, A: Allocator + Copy + Drop>(
     ensures err { IfErr result (λ stop. StopsAt (λ c. c ≡ b) t.old stop t.new) }
     ensures sees { SeesOn t.old.planner t.new.planner }
 {
-    if !walk.enter(b)? {
+    if walk.has_visited(b) {
         return Ok(());
     }
+    walk.enter(b)?;
     let held = look(t, b)?;
     if is_carried(way, period, held) {
         walk.add(b)?;
