@@ -15,7 +15,7 @@ use crate::breach::Breach;
 use crate::limits::Limits;
 use crate::moving::{look_at_revised, moved_loads};
 use crate::overlay::{
-    COPY_ONE_IN, FewWrites, OneWrite, Overlay, Pairs, SEARCHED_MAX, periods_after, revised, written,
+    COPIED_FROM, COPY_ONE_IN, FewWrites, OneWrite, Overlay, Pairs, SEARCHED_MAX, periods_after, revised, written,
 };
 use crate::schedule::{Schedule, first_late, keeps_order};
 use crate::tally::Tally;
@@ -85,7 +85,8 @@ fn first_out_after<A: Allocator + Copy + Drop>(
     if writes.len() <= SEARCHED_MAX {
         return Ok(first_out_near(pit, &FewWrites { kept, writes }, writes));
     }
-    if writes.len() >= kept.len() / COPY_ONE_IN {
+    let many = COPIED_FROM.min(kept.len() / COPY_ONE_IN);
+    if writes.len() >= many {
         let after = periods_after(alloc, kept, writes)?;
         return Ok(first_out_near(pit, &after, writes));
     }

@@ -99,6 +99,9 @@ impl<'a> Schedule for OneWrite<'a> {
 /// Where one block of so many is written, or more, the writes are laid into a copy of all periods, where a period is found without a hash.
 pub(crate) const COPY_ONE_IN: usize = 8;
 
+/// So many writes are laid into such a copy on any pit. Whoever chooses the blocks could choose more of them than a map takes well.
+pub(crate) const COPIED_FROM: usize = 4096;
+
 /// The periods of all blocks.
 impl<A: Allocator + Drop> Schedule for Vec<Option<u32>, A> {
     ghost period_at = { λ periods. by_block periods.items };
