@@ -1,2 +1,3 @@
 -- Definitions that no public contract cites.
 pub mod Filter
+pub mod Hashing

@@ -3,17 +3,17 @@ ghost use Rattle.std.specs.Prelude.{◌≡◌, ◌≤◌, [], ◌∷◌, ◌++�
 ghost use Rattle.pit_keyed.specs.Keyed.{IsFurther, at_key, with_read};
 
 use crate::inserting::insert;
+use crate::keys::Keys;
 use indexmap::IndexMap;
 use pit_num::{NoMemory, has_bit, with_bit};
 use std::alloc::Allocator;
-use std::hash::{BuildHasherDefault, FoldHasher};
 use std::marker::Model;
 
 /// An `IndexMap` of numbers with a filter (Bloom 1970) of two words: for each number `n` that is there, bit `n % 64` of the first word is set, and
 /// bit `n / 64 % 64` of the second. So a number is looked for only where both its bits are set. Contracts see it as the list of its pairs.
 #[derive(Drop)]
 pub struct FilteredSet<V: Copy, A: Allocator + Copy + Drop> {
-    map: IndexMap<u32, V, BuildHasherDefault<FoldHasher>, A>,
+    map: IndexMap<u32, V, Keys, A>,
     low: u64,
     high: u64,
 }
@@ -32,20 +32,20 @@ impl<V: Copy, A: Allocator + Copy + Drop> Model for FilteredSet<V, A> {
 }
 
 impl<V: Copy, A: Allocator + Copy + Drop> FilteredSet<V, A> {
-    /// An empty set with room for so many pairs. Takes memory for these alone.
-    pub fn new(alloc: A, room: usize) -> Result<Self, NoMemory>
+    /// An empty set with room for so many pairs, whose numbers are hashed by these keys. Takes memory for these pairs alone.
+    pub fn new(alloc: A, keys: Keys, room: usize) -> Result<Self, NoMemory>
         requires { 1 ≤ room }
         ensures { IfOk result (λ set. set ≡ []) }
     {
         Ok(FilteredSet {
-            map: IndexMap::with_capacity(alloc, room)?,
+            map: IndexMap::with_capacity_and_hasher(alloc, room, keys)?,
             low: 0,
             high: 0,
         })
     }
 
     /// The pairs, in their order.
-    pub fn map(&self) -> &IndexMap<u32, V, BuildHasherDefault<FoldHasher>, A>
+    pub fn map(&self) -> &IndexMap<u32, V, Keys, A>
         ensures { result.now.entries ≡ self.now }
     {
         &self.map

@@ -6,6 +6,8 @@
 
 mod filtered_set;
 mod inserting;
+mod keys;
 
 pub use filtered_set::FilteredSet;
 pub use inserting::{insert, insert_each};
+pub use keys::{KeyHasher, Keys};
