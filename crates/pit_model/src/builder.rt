@@ -14,6 +14,7 @@ use crate::places::Places;
 use crate::predecessors::Predecessors;
 use crate::profits::Profits;
 use crate::successors::Successors;
+use pit_keyed::Keys;
 use pit_num::{Discount, NoMemory};
 use std::alloc::Allocator;
 use std::marker::Model;
@@ -241,6 +242,7 @@ impl<A: Allocator + Copy + Drop> Builder<A> {
                 blocks,
                 periods,
                 resources,
+                keys: Keys::default(),
                 tables,
             }),
             Err(refused) => {

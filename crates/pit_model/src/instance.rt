@@ -8,6 +8,7 @@ use crate::predecessors::Predecessors;
 use crate::profits::Profits;
 use crate::sorted_coefficients::SortedCoefficients;
 use crate::successors::Successors;
+use pit_keyed::Keys;
 use pit_num::{Discount, NoMemory};
 use std::alloc::Allocator;
 use std::marker::Model;
@@ -19,6 +20,7 @@ pub struct Instance<A: Allocator + Drop> {
     pub(crate) blocks: u32,
     pub(crate) periods: u32,
     pub(crate) resources: u32,
+    pub(crate) keys: Keys,
     pub(crate) tables: Arc<Tables<A>, A>,
 }
 
@@ -57,8 +59,21 @@ impl<A: Allocator + Copy + Drop> Instance<A> {
             blocks: self.blocks,
             periods: self.periods,
             resources: self.resources,
+            keys: self.keys,
             tables: Arc::try_clone(&self.tables)?,
         })
+    }
+
+    /// The same pit, by whose keys the sets of its transactions hash from now on.
+    pub fn keyed(self, keys: Keys) -> Instance<A>
+        ensures { result ≡ self }
+    {
+        Instance { keys, ..self }
+    }
+
+    /// By which keys the sets of a transaction hash: `Keys::default()`, unless others were given.
+    pub fn keys(&self) -> Keys {
+        self.keys
     }
 
     /// The number of blocks; they are numbered from 0.
