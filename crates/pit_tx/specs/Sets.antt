@@ -1,6 +1,7 @@
 -- What contracts see of a transaction's sets.
-use Rattle.std.specs.Prelude.{ℕ, ◌≤◌, ℤ, List, Option, nat_eq, is_some, if◌then◌else◌}
+use Rattle.std.specs.Prelude.{ℕ, ◌≤◌, ℤ, List, [], Option, nat_eq, is_some, if◌then◌else◌}
 use Rattle.pit_model.specs.Fitting.{Fits, RevisionsFit}
+use Rattle.pit_model.specs.Pit.{Pit}
 use Rattle.pit_keyed.specs.Keyed.{at_key}
 use Rattle.pit_num.specs.declared.limits.TheConstants.{PERIODS_MAX}
 use Rattle.pit_model.specs.declared.counts.TheConstants.{BLOCKS_MAX, RESOURCES_MAX}
@@ -19,6 +20,20 @@ pub record Sets : Type 0 where
   pub writes : List (ℕ × Option ℕ)
   -- resources in periods, each with an upper limit or none, in the order of first use
   pub revises : List ((ℕ × ℕ) × Option ℤ)
+
+-- empty sets over what a pit has
+abbrev pub empty_sets : Pit → ℕ → ℕ → ℕ → Sets
+empty_sets pit planner job start = record {
+  planner = planner;
+  job = job;
+  start = start;
+  blocks = pit.blocks;
+  periods = pit.periods;
+  resources = pit.resources;
+  reads = [];
+  writes = [];
+  revises = [];
+}
 
 -- the own write, else the first noted read
 abbrev pub known_of : Sets → ℕ → Option (Option ℕ)

@@ -4,29 +4,29 @@ ghost use Rattle.pit_model.specs.Fitting.{Fits, RevisionsFit, pair_eq};
 ghost use Rattle.pit_num.specs.Refused.{IsRefusedBy};
 ghost use Rattle.pit_keyed.specs.Keyed.{IsFurther, at_key, with_each, with_read, with_write};
 ghost use Rattle.pit_tx.specs.Refusals.{refusal_of, first_refusal_of, revision_refusal_of};
-ghost use Rattle.pit_tx.specs.Sets.{known_of, AreSound};
+ghost use Rattle.pit_tx.specs.Sets.{empty_sets, known_of, AreSound};
+ghost use Rattle.pit_tx.specs.Inside.Kept.{IsEmptied};
 
 use crate::error::WorkError;
 use indexmap::IndexMap;
-use pit_keyed::{FilteredSet, insert, insert_each};
-use pit_model::{BLOCKS_MAX, RESOURCES_MAX};
+use pit_keyed::{FilteredSet, Keys, insert, insert_each};
+use pit_model::{BLOCKS_MAX, Instance, RESOURCES_MAX};
 use pit_num::{NoMemory, PERIODS_MAX};
 use std::alloc::Allocator;
-use std::hash::{BuildHasherDefault, FoldHasher};
 use std::marker::Model;
 
 /// There is room for so many pairs of each set from the start.
 const FIRST_ROOM: usize = 2;
 
 /// Blocks, each with a period or none.
-pub type PeriodMap<A> = IndexMap<u32, Option<u32>, BuildHasherDefault<FoldHasher>, A>;
+pub type PeriodMap<A> = IndexMap<u32, Option<u32>, Keys, A>;
 
 /// Resources in periods, each with an upper limit in millionths, or none.
-pub type LimitMap<A> = IndexMap<(u32, u32), Option<i64>, BuildHasherDefault<FoldHasher>, A>;
+pub type LimitMap<A> = IndexMap<(u32, u32), Option<i64>, Keys, A>;
 
 /// The reads and the writes of a transaction, each a block with a period or none, and the upper limits that it revises, in the order
-/// of first use. A transaction is what one planner does for one of its jobs, after so many commits. Only `new`, `with_room`, `note`,
-/// `note_unknown`, `put`, `put_each`, `clear` and `revise` take memory, and a refused one leaves all as it was.
+/// of first use. A transaction is what one planner does for one of its jobs, after so many commits. Only `new`, `over`, `note`, `note_unknown`,
+/// `put`, `put_each`, `clear` and `revise` take memory, and a refused one leaves all as it was.
 #[derive(Drop)]
 pub struct Work<A: Allocator + Copy + Drop> {
     planner: u32,
@@ -45,6 +45,29 @@ struct Kept<A: Allocator + Copy + Drop> {
     reads: FilteredSet<Option<u32>, A>,
     writes: PeriodMap<A>,
     revises: LimitMap<A>,
+}
+
+/// Empty sets, which hash by these keys, with room for so many reads.
+fn empty_kept<A: Allocator + Copy + Drop>(
+    alloc: A,
+    keys: Keys,
+    room: usize,
+) -> Result<Box<Kept<A>, A>, NoMemory>
+    requires { 1 ≤ room }
+    ensures { IfOk result (λ sets. IsEmptied sets.value) }
+{
+    let reads = FilteredSet::new(alloc, keys, room)?;
+    let writes = IndexMap::with_capacity_and_hasher(alloc, FIRST_ROOM, keys)?;
+    let revises = IndexMap::with_capacity_and_hasher(alloc, FIRST_ROOM, keys)?;
+    let kept = Kept {
+        reads,
+        writes,
+        revises,
+    };
+    match Box::new(alloc, kept) {
+        Ok(sets) => Ok(sets),
+        Err(_) => Err(NoMemory),
+    }
 }
 
 impl<A: Allocator + Copy + Drop> Model for Work<A> {
@@ -106,89 +129,54 @@ impl<A: Allocator + Copy + Drop> Work<A> {
           revises = [];
         }) }
     {
-        Work::with_room(
-            alloc, planner, job, start, blocks, periods, resources, FIRST_ROOM,
-        )
+        let sets = empty_kept(alloc, Keys::default(), FIRST_ROOM)?;
+        Ok(Work {
+            planner,
+            job,
+            start,
+            blocks,
+            periods,
+            resources,
+            sets,
+        })
     }
 
-    /// Empty sets, as `new` makes them, with room for so many reads.
-    pub fn with_room(
+    /// Empty sets over what a pit has, with room for so many reads, which hash by the pit's keys. Takes memory as `new` does.
+    pub fn over<B: Allocator + Copy + Drop>(
         alloc: A,
+        pit: &Instance<B>,
         planner: u32,
         job: u32,
         start: u32,
-        blocks: u32,
-        periods: u32,
-        resources: u32,
         room: usize,
     ) -> Result<Self, NoMemory>
-        requires some_block { 1 ≤ blocks }
-        requires few_blocks { blocks ≤ BLOCKS_MAX }
-        requires some_period { 1 ≤ periods }
-        requires few_periods { periods ≤ PERIODS_MAX }
-        requires few_resources { resources ≤ RESOURCES_MAX }
-        requires room { 1 ≤ room }
-        ensures { IfOk result (λ w. w ≡ record {
-          planner = planner;
-          job = job;
-          start = start;
-          blocks = blocks;
-          periods = periods;
-          resources = resources;
-          reads = [];
-          writes = [];
-          revises = [];
-        }) }
+        requires { 1 ≤ room }
+        ensures { IfOk result (λ w. w ≡ empty_sets pit.now planner job start) }
     {
-        let reads = FilteredSet::new(alloc, room)?;
-        let writes = IndexMap::with_capacity(alloc, FIRST_ROOM)?;
-        let revises = IndexMap::with_capacity(alloc, FIRST_ROOM)?;
-        let kept = Kept {
-            reads,
-            writes,
-            revises,
-        };
-        match Box::new(alloc, kept) {
-            Ok(sets) => Ok(Work {
-                planner,
-                job,
-                start,
-                blocks,
-                periods,
-                resources,
-                sets,
-            }),
-            Err(_) => Err(NoMemory),
-        }
+        pit.shows_sound();
+        let sets = empty_kept(alloc, pit.keys(), room)?;
+        Ok(Work {
+            planner,
+            job,
+            start,
+            blocks: pit.blocks(),
+            periods: pit.periods(),
+            resources: pit.resources(),
+            sets,
+        })
     }
 
-    /// Empty sets, as `new` makes them, in the memory of this work's sets. Takes no memory.
-    pub fn emptied(
+    /// Empty sets, as `over` makes them, in the memory of this work's sets, which hash as they did. Takes no memory.
+    pub fn emptied<B: Allocator + Copy + Drop>(
         self,
+        pit: &Instance<B>,
         planner: u32,
         job: u32,
         start: u32,
-        blocks: u32,
-        periods: u32,
-        resources: u32,
     ) -> Work<A>
-        requires some_block { 1 ≤ blocks }
-        requires few_blocks { blocks ≤ BLOCKS_MAX }
-        requires some_period { 1 ≤ periods }
-        requires few_periods { periods ≤ PERIODS_MAX }
-        requires few_resources { resources ≤ RESOURCES_MAX }
-        ensures { result ≡ record {
-          planner = planner;
-          job = job;
-          start = start;
-          blocks = blocks;
-          periods = periods;
-          resources = resources;
-          reads = [];
-          writes = [];
-          revises = [];
-        } }
+        ensures { result ≡ empty_sets pit.now planner job start }
     {
+        pit.shows_sound();
         let Work { mut sets, .. } = self;
         sets.reads.clear();
         sets.writes.clear();
@@ -199,9 +187,9 @@ impl<A: Allocator + Copy + Drop> Work<A> {
             planner,
             job,
             start,
-            blocks,
-            periods,
-            resources,
+            blocks: pit.blocks(),
+            periods: pit.periods(),
+            resources: pit.resources(),
             sets,
         }
     }
