@@ -7,7 +7,7 @@ use Rattle.pit_model.specs.Pit.{Pit}
 use Rattle.pit_plan.specs.Schedule.{Commit, held_period, last_number}
 use Rattle.pit_plan.proofs.CallerLemmas.{one_snapshot, held_in_range}
 use Rattle.pit_keyed.specs.Keyed.{at_key, with_read}
-use Rattle.pit_tx.specs.Sets.{Sets, known_of}
+use Rattle.pit_tx.specs.Sets.{Sets, empty_sets, known_of}
 use Rattle.pit_tx.specs.Refusals.{refusal_of}
 use Rattle.pit_desk.specs.History.{Answered, commits_of}
 use Rattle.pit_desk.proofs.CallerLemmas.{commits_of-prefix}
@@ -15,7 +15,7 @@ use Rattle.pit_board.specs.Boards.{slot_of}
 use Rattle.pit_board.specs.Prefixes.{AreLawful}
 use Rattle.pit_board.specs.declared.slot.Slot.{Slot}
 use Rattle.pit_desk.specs.Noted.{AreHeld}
-use Rattle.pit_share.specs.Planners.{PlannerState, TransactionState, planner_of, empty_sets, SeesOn, IsTransactionKept}
+use Rattle.pit_share.specs.Planners.{PlannerState, TransactionState, planner_of, SeesOn, IsTransactionKept}
 use Rattle.pit_share.specs.Reads.{IsNoted}
 use Rattle.pit_share.proofs.Noted.{of-start-grows}
 

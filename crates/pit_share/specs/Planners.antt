@@ -1,8 +1,8 @@
 -- What contracts see of planners and of their transactions.
-use Rattle.std.specs.Prelude.{◌≡◌, ℕ, List, [], length}
+use Rattle.std.specs.Prelude.{◌≡◌, ℕ, List, length}
 use mathlib.Core.List.{IsPrefix}
 use Rattle.pit_model.specs.Pit.{Pit}
-use Rattle.pit_tx.specs.Sets.{Sets}
+use Rattle.pit_tx.specs.Sets.{Sets, empty_sets}
 use Rattle.pit_desk.specs.History.{Answered, commits_of}
 use Rattle.pit_desk.specs.Calls.{WorkFits}
 use Rattle.pit_share.specs.Snapshots.{AreOfStart}
@@ -28,20 +28,6 @@ pub record SeesOn (old new : PlannerState) : Type 0 where
   pub number : new.number ≡ old.number
   pub items : new.items ≡ old.items
   pub seen : IsPrefix old.seen new.seen
-
--- the sets of a transaction that has just begun
-abbrev pub empty_sets : Pit → ℕ → ℕ → ℕ → Sets
-empty_sets pit planner job start = record {
-  planner = planner;
-  job = job;
-  start = start;
-  blocks = pit.blocks;
-  periods = pit.periods;
-  resources = pit.resources;
-  reads = [];
-  writes = [];
-  revises = [];
-}
 
 -- a transaction begins after all commits that its planner has then seen
 pub record Begins (pit : Pit) (old : PlannerState) (job : ℕ) (begun : TransactionState) : Type 0 where

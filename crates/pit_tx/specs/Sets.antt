@@ -21,7 +21,7 @@ pub record Sets : Type 0 where
   -- resources in periods, each with an upper limit or none, in the order of first use
   pub revises : List ((ℕ × ℕ) × Option ℤ)
 
--- empty sets over what a pit has
+-- the sets of a transaction that has just begun
 abbrev pub empty_sets : Pit → ℕ → ℕ → ℕ → Sets
 empty_sets pit planner job start = record {
   planner = planner;

@@ -11,4 +11,4 @@ mod error;
 mod work;
 
 pub use error::WorkError;
-pub use work::{LimitMap, PeriodMap, Work};
+pub use work::{FIRST_ROOM, LimitMap, PeriodMap, Work};

@@ -16,7 +16,7 @@ use std::alloc::Allocator;
 use std::marker::Model;
 
 /// There is room for so many pairs of each set from the start.
-const FIRST_ROOM: usize = 2;
+pub const FIRST_ROOM: usize = 2;
 
 /// Blocks, each with a period or none.
 pub type PeriodMap<A> = IndexMap<u32, Option<u32>, Keys, A>;
