@@ -1,3 +1,5 @@
+use pit_keyed::Keys;
+
 /// How a plan is run and reported.
 #[derive(Clone, Copy, Debug, PartialEq, Eq)]
 pub struct PlanOptions {
@@ -7,4 +9,6 @@ pub struct PlanOptions {
     pub is_in_turn: bool,
     /// Whether a job that was refused is a reason to answer `Failed`.
     pub is_strict: bool,
+    /// By which keys the sets of transactions hash. No output depends on them.
+    pub keys: Keys,
 }

@@ -44,7 +44,7 @@ pub fn run_scripts<R: Threads + Wait + Sync, A: Allocator + Copy + Drop + Send +
         let run = in_turn desk_judged (in_turn count_judged (planners_step options)) in
         MatchResult result (λ report. run.Gives setup (report.closed, report.runs.items)) (run.Fails setup) }
 {
-    match desk_of(alloc, pit, opening) {
+    match desk_of(alloc, pit.keyed(options.keys), opening) {
         Ok(desk) => run_as(rt, alloc, desk, scripts, options),
         Err(fault) => Err(fault),
     }

@@ -28,16 +28,12 @@ pub(crate) fn work_of<A: Allocator + Copy + Drop>(
     requires wanted_in { (b : ℕ) → b < plan.now.pit.blocks → IfSome (wanted_of edit.now b) (λ t. t < plan.now.pit.periods) }
     ensures { IfOk result (λ work. work ≡ sets_of plan.now.pit edit.now blocks.now) }
 {
-    let pit = plan.instance();
-    pit.shows_sound();
-    let mut work = Work::with_room(
+    let mut work = Work::over(
         alloc,
+        plan.instance(),
         edit.number,
         1,
         edit.start,
-        pit.blocks(),
-        pit.periods(),
-        pit.resources(),
         blocks.len(),
     )?;
     for b in blocks {

@@ -6,7 +6,7 @@ ghost use Rattle.std.specs.Ordering.{nat_cmp};
 ghost use Rattle.pit_share.specs.Planners.{SeesOn};
 ghost use Rattle.pit_job.specs.Effect.{is_carried as is_carried_of, leads_to, members_of, read_in, seen};
 ghost use Rattle.pit_job.specs.Inside.Doing.{DoesStep, StopsAt, own_of};
-ghost use Rattle.pit_job.specs.Inside.Walking.{Visits, VisitsEach, IsGone, IsReadNow};
+ghost use Rattle.pit_job.specs.Inside.Walking.{IsVisited, VisitsEach, IsGone, IsReadNow};
 
 use crate::doing::{StepStop, look, put_each};
 use pit_board::Session;
@@ -197,12 +197,15 @@ fn visit_each<'a, S: Session, R: Wait + Drop, A: Allocator + Copy + Drop>(
     ensures sees { SeesOn t.old.planner t.new.planner }
 {
     for b in blocks {
+        if walk.has_visited(*b) {
+            continue;
+        }
         visit(t, walk, way, period, *b)?;
     }
     Ok(())
 }
 
-/// Reads a block that wasn't visited. Most that members lead to were.
+/// Reads a block that wasn't visited.
 fn visit<'a, S: Session, R: Wait + Drop, A: Allocator + Copy + Drop>(
     t: &mut Transaction<'a, S, R, A>,
     walk: &mut Walk<A>,
@@ -212,13 +215,11 @@ fn visit<'a, S: Session, R: Wait + Drop, A: Allocator + Copy + Drop>(
 ) -> Result<(), StepStop>
     requires few { S.instance.blocks ≤ BLOCKS_MAX }
     requires block { b < S.instance.blocks }
-    ensures ok { OnOk result (Visits way period t.old walk.old b t.new walk.new) }
+    requires fresh { list_any (nat_eq b) walk.old.visited ≡ false }
+    ensures ok { OnOk result (IsVisited way period t.old walk.old b t.new walk.new) }
     ensures err { IfErr result (λ stop. StopsAt (λ c. c ≡ b) t.old stop t.new) }
     ensures sees { SeesOn t.old.planner t.new.planner }
 {
-    if walk.has_visited(b) {
-        return Ok(());
-    }
     walk.enter(b)?;
     let held = look(t, b)?;
     if is_carried(way, period, held) {

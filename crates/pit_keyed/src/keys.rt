@@ -7,7 +7,7 @@ use std::hash::{BuildHasher, Hasher};
 /// Multiply-shift (Dietzfelbinger et al. 1997): a number is multiplied, and the upper half of the product is its hash. Of two numbers few odd
 /// multipliers make one hash, so whoever doesn't know the multiplier can't choose numbers that a map takes badly. What a map holds, and in which
 /// order, doesn't depend on it.
-#[derive(Clone, Copy)]
+#[derive(Clone, Copy, Debug, PartialEq, Eq)]
 pub struct Keys {
     multiplier: u64,
 }

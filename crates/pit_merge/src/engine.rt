@@ -87,7 +87,7 @@ fn merged<A: Allocator + Copy + Drop, E: Source>(
         MatchResult result (run.Gives tt) (run.Fails tt) }
     ensures same { length edits.new ≡ length edits.old }
 {
-    match Merger::begin(alloc, input) {
+    match Merger::begin(alloc, options.keys, input) {
         Ok(merger) => merger.take_each(alloc, json, options, edits, 1),
         Err(fault) => Err(fault),
     }

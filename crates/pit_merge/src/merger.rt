@@ -21,6 +21,7 @@ use crate::parts::wanted_of;
 use pit_base::base_periods;
 use pit_desk::Desk;
 use pit_edit::{Edit, Merging};
+use pit_keyed::Keys;
 use pit_num::{NoMemory, Source};
 use pit_opening::desk_of;
 use pit_step::{CliFault, INPUT_BYTES_MAX, Input, bytes_of};
@@ -48,11 +49,15 @@ impl<A: Allocator + Copy + Drop> Model for Merger<A> {
 
 impl<A: Allocator + Copy + Drop> Merger<A> {
     /// Opens a desk with what is begun with. That is freed on a fault.
-    pub(crate) fn begin(alloc: A, input: MergeInput<A>) -> Result<Merger<A>, CliFault>
+    pub(crate) fn begin(
+        alloc: A,
+        keys: Keys,
+        input: MergeInput<A>,
+    ) -> Result<Merger<A>, CliFault>
         ensures { MatchResult result (IsBegun input) (IsNoDesk input) }
     {
         let is_resumed = input.opening.is_resumed();
-        match desk_of(alloc, input.pit, input.opening) {
+        match desk_of(alloc, input.pit.keyed(keys), input.opening) {
             Ok(desk) => Merger::begin_on(alloc, desk, is_resumed),
             Err(fault) => Err(fault),
         }

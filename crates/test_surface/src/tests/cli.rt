@@ -7,7 +7,7 @@ use LinesCause::Shape;
 use ScriptCause::Order;
 use pit_book::{LinesCause, LinesError};
 use pit_cli::{
-    Beginning, BreachLine, CliFault, Input, MergeInput, MergeOptions, PlanInput, PlanOptions,
+    Beginning, BreachLine, CliFault, Input, Keys, MergeInput, MergeOptions, PlanInput, PlanOptions,
     ReadError, Status, Stream, check, check_all, diff, info, log, merge, plan, read_all, replay,
     show, table, value, write_report,
 };
@@ -187,6 +187,7 @@ fn planned<R: Threads + Wait + Abort + Sync>(
         retries: 3,
         is_in_turn,
         is_strict: true,
+        keys: Keys::default(),
     };
     plan(rt, alloc, alloc, input, options, solution, report, history)
 }
@@ -283,6 +284,7 @@ fn merged(
     let options = MergeOptions {
         from: None,
         is_partial: false,
+        keys: Keys::default(),
     };
     merge(
         alloc, alloc, input, &mut edits, options, solution, report, history,

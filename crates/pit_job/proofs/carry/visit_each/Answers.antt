@@ -1,4 +1,4 @@
-use Rattle.std.proofs.Common.{◌≡◌, get_or, subst, sym, arith}
+use Rattle.std.proofs.Common.{inr, ◌≡◌, get_or, subst, sym, arith}
 use Rattle.std.specs.List.{Contains}
 use Rattle.std.proofs.lemmas.List.Elements.{Contains-get_or}
 use Rattle.pit_job.specs.declared.doing.StepStop.TheVariants as stop
@@ -12,9 +12,9 @@ loop-b-preserved g c = record {
   so_far = stopped-more (Contains c.args.blocks.now) c.args.t.now c.loop-b.t c.visit.new.t stop.NoMemory c.loop-b.invariant.so_far
       (stopped-map (λ b. b ≡ get_or c.args.blocks.now c.loop-b.b-index 0) (Contains c.args.blocks.now) c.loop-b.t c.visit.new.t stop.NoMemory
       (λ b same absent. subst (Contains c.args.blocks.now) (sym same) (Contains-get_or c.args.blocks.now c.loop-b.b-index 0 (omega arith)))
-      (visit-stops c.args.way c.args.period c.loop-b.t c.loop-b.walk _ c.visit.new.t c.visit.new.walk c.in_ok-visit.ensures.ok));
+      (visit-stops c.args.way c.args.period c.loop-b.t c.loop-b.walk _ c.visit.new.t c.visit.new.walk (inr c.in_ok-visit.ensures.ok)));
   does = λ new after rest. c.loop-b.invariant.does new after
-      (visits-next c.args.way c.args.period c.loop-b.t c.visit.new.t new c.loop-b.walk c.visit.new.walk after c.args.blocks.now c.loop-b.b-index _ (omega arith) c.in_ok-visit.ensures.ok rest);
+      (visits-next c.args.way c.args.period c.loop-b.t c.visit.new.t new c.loop-b.walk c.visit.new.walk after c.args.blocks.now c.loop-b.b-index _ (omega arith) (inr c.in_ok-visit.ensures.ok) rest);
 }
 
 pub returns-in_err-visit-clause-err : goal.returns-in_err-visit-clause-err

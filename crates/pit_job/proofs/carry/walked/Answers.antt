@@ -1,4 +1,4 @@
-use Rattle.std.proofs.Common.{inl, ◌≡◌, ◌<◌, ◌≤◌, length, sym, ap, subst, ◌∙◌, arith}
+use Rattle.std.proofs.Common.{inl, inr, ◌≡◌, ◌<◌, ◌≤◌, length, sym, ap, subst, ◌∙◌, arith}
 use Rattle.std.specs.List.{All}
 use Rattle.pit_model.specs.Pit.{Pit}
 use Rattle.pit_job.specs.Effect.{leads_to}
@@ -17,7 +17,7 @@ returns-in_err-visit-clause-err g c =
 
 pub loop-i-init : goal.loop-i-init
 loop-i-init g c =
-    gone-first g.S.Session.instance c.args.way c.args.b c.args.period c.args.t.now c.visit.new.t c.restart.new.self c.visit.new.walk c.requires.block c.restart.ensures c.in_ok-visit.ensures.ok
+    gone-first g.S.Session.instance c.args.way c.args.b c.args.period c.args.t.now c.visit.new.t c.restart.new.self c.visit.new.walk c.requires.block c.restart.ensures (inr c.in_ok-visit.ensures.ok)
 
 pub returns-in_default-clause-ok : goal.returns-in_default-clause-ok
 returns-in_default-clause-ok g c = (c.loop-i.i, past-found c.loop-i.walk c.loop-i.i (sym c.member.ensures ∙ c.in_default.is), c.loop-i.invariant)
