@@ -54,8 +54,19 @@ script() {
         }' "$1.sol" "$1.cpit" >"$work/script.$2"
 }
 
-# middle: the third of five numbers.
-middle() { sort -g | sed -n 3p; }
+# middle: the middle one of five numbers; of an even number of them the lesser.
+middle() { sort -g | awk '{ n[NR] = $1 } END { print n[int((NR + 1) / 2)] }'; }
+
+# range: the middle, the least and the greatest.
+range() { sort -g | awk '{ n[NR] = $1 } END { printf "%.2f (%.2f to %.2f)", n[int((NR + 1) / 2)], n[1], n[NR] }'; }
+
+# held SIDE BOUND RANGE: a range, and whether its middle, as it is printed, meets a bound. SIDE is `least` or `most`.
+held() {
+    awk -v side="$1" -v bound="$2" -v range="$3" 'BEGIN {
+        is_met = side == "least" ? range + 0 >= bound : range + 0 <= bound
+        printf "%s, at %s %s: %s", range, side, bound, is_met ? "met" : "missed"
+    }'
+}
 
 # turn KEY BASE PROGRAM WORD..: one run, whose seconds and memory go to the file KEY of work, with those of the last run of BASE, the bytes that were
 # written, and the seconds of processor time of both. A status above 1 ends the script.
@@ -81,3 +92,6 @@ both() {
 
 # middle_of KEY EXPRESSION: the middle of what an expression of awk gives for each line of the file KEY.
 middle_of() { awk "{ print $2 }" "$work/$1" | middle; }
+
+# range_of KEY EXPRESSION: the same of the range.
+range_of() { awk "{ print $2 }" "$work/$1" | range; }

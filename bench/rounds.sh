@@ -13,9 +13,6 @@ run_on "${others[@]}"
 
 other=twin
 
-# range_of KEY EXPRESSION: the middle, the least and the greatest of what an expression of awk gives for each of five lines of the file KEY.
-range_of() { awk "{ print $2 }" "$work/$1" | sort -g | awk '{ n[NR] = $1 } END { printf "%.2f (%.2f to %.2f)", n[3], n[1], n[5] }'; }
-
 for name in "${names[@]}"; do
     rm -f "$work"/*
     files=("$name.cpit" "$name.prec")

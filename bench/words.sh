@@ -6,18 +6,20 @@ usage() {
     exit 2
 }
 
-# words OPTIONS COUNT WORD..: reads -n, -b and -t, as far as OPTIONS has them, into count, which is COUNT where it isn't said, among and twin. Sets
-# others to the words behind these.
+# words OPTIONS COUNT WORD..: reads -n, -b, -o and -t, as far as OPTIONS has them, into count, which is COUNT where it isn't said, among, old and twin.
+# Sets others to the words behind these.
 words() {
     local options=$1 option number OPTIND=1
     count=$2
     among=4294967295
+    old=
     twin=
     shift 2
     while getopts "$options" option; do
         case $option in
         n) count=$OPTARG ;;
         b) among=$OPTARG ;;
+        o) old=$(realpath "$OPTARG") ;;
         t) twin=$(realpath "$OPTARG") ;;
         *) usage ;;
         esac
