@@ -2,13 +2,18 @@
 
 . "$(dirname "$(realpath "${BASH_SOURCE[0]}")")/words.sh"
 
-# run_on PIT NAME..: sets pit to the program, names to the pits, and work to a folder that is gone when the script ends.
-run_on() {
-    [ $# -ge 1 ] && [ -x "$1" ] || usage
+# run_alone PIT: sets pit to the program, and work to a folder that is gone when the script ends.
+run_alone() {
+    [ $# -eq 1 ] && [ -x "$1" ] || usage
     pit=$(realpath "$1")
-    named "${@:2}"
     work=$(mktemp -d)
     trap 'rm -rf "$work"' EXIT
+}
+
+# run_on PIT NAME..: does so, and sets names to the pits.
+run_on() {
+    named "${@:2}"
+    run_alone "${@:1:1}"
 }
 
 # best KEY STATUS PROGRAM WORD..: keeps the least seconds and the least peak memory, in KB, of the runs so far. A status above STATUS ends the

@@ -6,12 +6,13 @@ usage() {
     exit 2
 }
 
-# words OPTIONS COUNT WORD..: reads -n, -b, -o and -t, as far as OPTIONS has them, into count, which is COUNT where it isn't said, among, old and twin.
-# Sets others to the words behind these.
+# words OPTIONS COUNT WORD..: reads -n, -b, -m, -o and -t, as far as OPTIONS has them, into count, which is COUNT where it isn't said, among, multiplier,
+# old and twin. Sets others to the words behind these.
 words() {
     local options=$1 option number OPTIND=1
     count=$2
     among=4294967295
+    multiplier=
     old=
     twin=
     shift 2
@@ -19,6 +20,7 @@ words() {
         case $option in
         n) count=$OPTARG ;;
         b) among=$OPTARG ;;
+        m) multiplier=$OPTARG ;;
         o) old=$(realpath "$OPTARG") ;;
         t) twin=$(realpath "$OPTARG") ;;
         *) usage ;;
