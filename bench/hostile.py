@@ -5,14 +5,13 @@ usage: bench/hostile.py PREFIX COUNT [MULTIPLIER]      writes PREFIX.chosen and 
 
 The lowest bits of a number's hash name the group of the table in which the number is looked for first; then come the groups behind it, as long as these
 have overflowed. So blocks are chosen whose first groups lie as close together as can be, in a table that has just grown for COUNT of them. MULTIPLIER
-is the hash's own; where none is said, that of the kit's `FoldHasher`. The same words always make the same files.
+is the hash's own; where none is said, the one that serves where none is drawn. The same words always make the same files.
 """
 import random
 import sys
 from array import array
 
 BLOCKS = 4_194_304
-SEED = 0x243F_6A88_85A3_08D3
 MULTIPLIER = 0x9E37_79B9_7F4A_7C15
 # How many numbers a group has on average before the table grows, which doubles its groups.
 LOAD = 9
@@ -45,10 +44,8 @@ def chosen(count, multiplier):
 
 
 def hash_of(block, multiplier):
-    """The hash of a number of four bytes, as a table of the kit has it: `FoldHasher`, whose halves are joined once more."""
-    product = (SEED ^ (block | block << 32)) * (multiplier ^ 8)
-    folded = (product & 0xFFFF_FFFF_FFFF_FFFF) ^ (product >> 64)
-    return (folded ^ folded >> 32) & 0xFFFF_FFFF
+    """The hash of a number of four bytes, by `Keys` of `pit_keyed`."""
+    return block * (multiplier | 1) % 2**64 >> 32
 
 
 def shortest_run(in_group, count):

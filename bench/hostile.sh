@@ -2,15 +2,22 @@
 # Times `pit` on blocks whose numbers are chosen to collide in the hash of its sets, in turn with as many that are drawn: five rounds.
 # usage: bench/hostile.sh [-n BLOCKS] [-m MULTIPLIER] PIT
 # The pit has 4,194,304 blocks, by a header of five lines. BLOCKS of them (400,000 where it isn't said) are put into a period by the one job of a `plan`,
-# whose history is then replayed, and by an edit that `merge` takes in. MULTIPLIER is that of the program's hash, where it isn't the kit's own. Prints the
-# middle of the seconds on chosen and on drawn blocks, and on none; and of the ratios of chosen to drawn in the same round the middle, the least and the
-# greatest, and whether the middle is at most 2. A run is ended after 120 seconds, and its command's rounds with it. Wants python3.
+# whose history is then replayed, and by an edit that `merge` takes in. They are chosen for the multiplier that the sources name, and each run draws its
+# own. Where MULTIPLIER is said, they are chosen for that, and each run is told to draw it: so it is seen what the choice does. Prints the middle of the
+# seconds on chosen and on drawn blocks, and on none; and of the ratios of chosen to drawn in the same round the middle, the least and the greatest, and
+# whether the middle is at most 2. A run is ended after 120 seconds, and its command's rounds with it. Wants python3, and for MULTIPLIER a C compiler.
 set -eu
 
 . "$(dirname "$(realpath "$0")")/measure.sh"
 words n:m: 400000 "$@"
 run_alone "${others[@]}"
 python3 "$(dirname "$(realpath "$0")")/hostile.py" "$work/blocks" "$count" ${multiplier:+"$multiplier"}
+
+drawing=()
+if [ -n "$multiplier" ]; then
+    ${CC:-cc} -shared -fPIC -O1 -o "$work/draw.so" "$(dirname "$(realpath "$0")")/../tests/keys/draw.c"
+    drawing=(env "GIVEN=$(printf %x "$multiplier")" "LD_PRELOAD=$work/draw.so")
+fi
 
 # The most seconds that a run may take.
 limit=120
@@ -26,7 +33,7 @@ done
 # timed COMMAND BLOCKS WORD..: a run, whose seconds go to the file COMMAND.BLOCKS. Fails where it was ended.
 timed() {
     local status=0 begun=$EPOCHREALTIME
-    timeout "$limit" "$pit" "$1" "$work/model" "$work/precedence" "${@:3}" >"$work/out" 2>"$work/err" || status=$?
+    timeout "$limit" ${drawing[@]+"${drawing[@]}"} "$pit" "$1" "$work/model" "$work/precedence" "${@:3}" >"$work/out" 2>"$work/err" || status=$?
     awk "BEGIN { print $EPOCHREALTIME - $begun }" >>"$work/$1.$2"
     [ $status -ne 124 ] || return 1
     if [ $status -ne 0 ]; then

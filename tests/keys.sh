@@ -11,51 +11,13 @@ if [ $# -ne 2 ] || [ ! -x "$1" ] || [ ! -r "$2/hill.cpit" ]; then
 fi
 pit=$(realpath "$1")
 hill=$(realpath "$2")/hill
+source=$(realpath "$(dirname "$0")")/keys/draw.c
 folder=$(realpath "$2")
 work=$(mktemp -d)
 trap 'rm -rf "$work"' EXIT
 cd "$work" || exit 2
 
-# Each draw of eight bytes is a line of the file DREW: their sixteen digits. With GIVEN it gives these digits in place of the system's, or is refused.
-cat >draw.c <<'TEXT'
-#define _GNU_SOURCE
-#include <errno.h>
-#include <fcntl.h>
-#include <stdio.h>
-#include <stdlib.h>
-#include <string.h>
-#include <sys/syscall.h>
-#include <unistd.h>
-
-int getentropy(void *to, size_t length)
-{
-    const char *given = getenv("GIVEN"), *drew = getenv("DREW");
-    unsigned long long number = 0;
-    char line[64];
-    int file;
-
-    if (given && !strcmp(given, "refused")) {
-        errno = EIO;
-        return -1;
-    }
-    if (given) {
-        memset(to, 0, length);
-        number = strtoull(given, NULL, 16);
-        memcpy(to, &number, length < 8 ? length : 8);
-    } else if (syscall(SYS_getrandom, to, length, 0) != (long)length) {
-        return -1;
-    }
-    memcpy(&number, to, length < 8 ? length : 8);
-    file = drew ? open(drew, O_WRONLY | O_CREAT | O_APPEND, 0666) : -1;
-    if (file >= 0) {
-        length = sprintf(line, "%016llx\n", number);
-        if (write(file, line, length) != (long)length) return -1;
-        close(file);
-    }
-    return 0;
-}
-TEXT
-${CC:-cc} -shared -fPIC -O1 -o draw.so draw.c || exit 2
+${CC:-cc} -shared -fPIC -O1 -o draw.so "$source" || exit 2
 
 plan=(plan "$hill.cpit" "$hill.prec" --blocks "$hill.blocks" --start "$hill.sol" --history kept --in-turn "$folder"/{east,west,top,second,deep}.script)
 merge=(merge "$hill.cpit" "$hill.prec" --start "$hill.sol" --history kept "$folder"/{north,south}.sol)
