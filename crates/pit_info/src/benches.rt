@@ -1,16 +1,11 @@
 //! The benches of a pit.
-ghost use Rattle.std.specs.Prelude.{◌≡◌, IfOk, OnOk};
-ghost use Rattle.pit_info.specs.Figures.{bench_count, benches_if as count_if};
-ghost use Rattle.pit_info.specs.Inside.Heights.{with_height};
+ghost use Rattle.std.specs.Prelude.{◌≡◌, ◌<◌, IfOk};
+ghost use Rattle.pit_info.specs.Figures.{bench_count, benches_if as count_if, height_of};
 
-use indexmap::IndexSet;
 use pit_model::Instance;
 use pit_num::NoMemory;
 use std::alloc::Allocator;
-use std::hash::{BuildHasherDefault, FoldHasher};
-
-/// Heights, in millionths, each once.
-type Heights<A> = IndexSet<i64, BuildHasherDefault<FoldHasher>, A>;
+use std::collections::BTreeSet;
 
 /// The number of benches, where it is wanted.
 pub(crate) fn benches_if<A: Allocator + Copy + Drop>(
@@ -27,27 +22,23 @@ pub(crate) fn benches_if<A: Allocator + Copy + Drop>(
     Ok(Some(count))
 }
 
-/// The number of different heights at which some block has its place. Takes the memory of these.
+/// The number of different heights at which some block has its place. Takes the memory of these. They are kept in order, since whoever writes
+/// the places could choose heights that a hash brings together.
 fn benches<A: Allocator + Copy + Drop>(alloc: A, pit: &Instance<A>) -> Result<u64, NoMemory>
     ensures { IfOk result (λ count. count ≡ bench_count pit.now) }
 {
-    let mut heights = Heights::with_hasher(alloc, BuildHasherDefault::new());
+    let mut heights = BTreeSet::new(alloc);
     for b in 0..pit.blocks() {
-        note(&mut heights, pit.place(b))?;
+        heights.extend(height(pit, b))?;
     }
     Ok(heights.len() as u64)
 }
 
-/// Adds the height of a place, where there is one.
-fn note<A: Allocator + Copy + Drop>(
-    heights: &mut Heights<A>,
-    place: Option<(i64, i64, i64)>,
-) -> Result<(), NoMemory>
-    ensures { OnOk result (heights.new.keys ≡ with_height heights.old.keys place) }
+/// The height of a block's place in millionths, where it has one.
+fn height<A: Allocator + Copy + Drop>(pit: &Instance<A>, b: u32) -> Option<i64>
+    requires { b < pit.now.blocks }
+    ensures { result ≡ height_of pit.now b }
 {
-    let Some((_, _, height)) = place else {
-        return Ok(());
-    };
-    heights.insert(height)?;
-    Ok(())
+    let (_, _, height) = pit.place(b)?;
+    Some(height)
 }

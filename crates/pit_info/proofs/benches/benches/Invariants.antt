@@ -1,8 +1,8 @@
-use Rattle.std.proofs.Common.{◌≡◌, []}
+use Rattle.std.proofs.Common.{◌≡◌, ℤ}
 use Rattle.std.specs.Ordering.{int_eq}
-use Rattle.indexmap.specs.IndexSet.{insert_all}
+use Rattle.std.specs.Set.{is_member}
 use Rattle.pit_info.specs.Figures.{heights_in}
 use Rattle.pit_info.proofs.benches.benches.Given as goal
 
 abbrev pub invariant-loop-b : goal.invariant-loop-b
-invariant-loop-b g l = l.heights.keys ≡ insert_all int_eq [] (heights_in l.pit l.b)
+invariant-loop-b g l = (q : ℤ) → is_member int_eq l.heights.keys q ≡ is_member int_eq (heights_in l.pit l.b) q
