@@ -17,3 +17,4 @@ pub mod Least
 pub mod Touched
 pub mod SomeBreach
 pub mod CallerLemmas
+mod CellLists

@@ -4,3 +4,4 @@ pub mod Schedule
 pub mod Touched
 pub mod Limits
 pub mod Totals
+pub mod CellLists

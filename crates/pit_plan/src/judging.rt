@@ -12,10 +12,12 @@ ghost use Rattle.pit_plan.specs.Inside.Limits.{by_cell};
 ghost use Rattle.pit_plan.specs.Inside.Touched.{overlaid_item, lesser_of, IsOutNear, IsOverAt, IsLeastOver, IsNamed};
 
 use crate::breach::Breach;
+use crate::cell_list::CellList;
 use crate::limits::Limits;
 use crate::moving::{look_at_revised, moved_loads};
 use crate::overlay::{
-    COPIED_FROM, COPY_ONE_IN, FewWrites, OneWrite, Overlay, Pairs, SEARCHED_MAX, periods_after, revised, written,
+    COPIED_FROM, COPY_ONE_IN, FewWrites, OneWrite, Overlay, SEARCHED_MAX, periods_after, revised,
+    written,
 };
 use crate::schedule::{Schedule, first_late, keeps_order};
 use crate::tally::Tally;
@@ -56,7 +58,7 @@ pub(crate) fn first_breach_after<A: Allocator + Copy + Drop>(
     };
     let mut loads = moved_loads(alloc, pit, tally, writes)?;
     look_at_revised(pit, revises, &mut loads)?;
-    Ok(first_over_after(pit, &revised, &loads.pairs))
+    Ok(first_over_after(pit, &revised, &loads.cells))
 }
 
 /// The least pair of a block and its predecessor that the writes leave out of order, of which one is written. Takes memory for more than
@@ -169,16 +171,16 @@ fn lesser(one: Option<(u32, u32)>, other: Option<(u32, u32)>) -> Option<(u32, u3
 fn first_over_after<L: Limits, A: Allocator + Copy + Drop>(
     pit: &Instance<A>,
     limits: &L,
-    cells: &Pairs<i128, A>,
+    cells: &CellList<A>,
 ) -> Option<Breach>
     requires limits { L.cells limits.now ≡ pit.now.periods * pit.now.resources }
-    requires cells { (cell : ℕ) → IsNamed cells.now.entries cell → cell < pit.now.periods * pit.now.resources }
-    ensures none { IfNone result (IsLeast ComesBefore (IsOverAt pit.now (at_cell pit.now (L.limit_in limits.now)) cells.now.entries) None) }
-    ensures some { IfSome result (IsLeastOver pit.now (at_cell pit.now (L.limit_in limits.now)) cells.now.entries) }
+    requires cells { (cell : ℕ) → IsNamed cells.now cell → cell < pit.now.periods * pit.now.resources }
+    ensures none { IfNone result (IsLeast ComesBefore (IsOverAt pit.now (at_cell pit.now (L.limit_in limits.now)) cells.now) None) }
+    ensures some { IfSome result (IsLeastOver pit.now (at_cell pit.now (L.limit_in limits.now)) cells.now) }
 {
     let (period, resource) = least_over(pit, limits, cells)?;
     let cell = pit.cell(resource, period);
-    let load = load_in(cells, cell)?;
+    let load = cells.load(cell)?;
     let limit = limits.limit(cell)?;
     Some(Breach::Over {
         resource,
@@ -192,11 +194,11 @@ fn first_over_after<L: Limits, A: Allocator + Copy + Drop>(
 fn least_over<L: Limits, A: Allocator + Copy + Drop>(
     pit: &Instance<A>,
     limits: &L,
-    cells: &Pairs<i128, A>,
+    cells: &CellList<A>,
 ) -> Option<(u32, u32)>
     requires limits { L.cells limits.now ≡ pit.now.periods * pit.now.resources }
-    requires cells { (cell : ℕ) → IsNamed cells.now.entries cell → cell < pit.now.periods * pit.now.resources }
-    ensures { IsLeast ComesBefore (IsOverAt pit.now (at_cell pit.now (L.limit_in limits.now)) cells.now.entries) result }
+    requires cells { (cell : ℕ) → IsNamed cells.now cell → cell < pit.now.periods * pit.now.resources }
+    ensures { IsLeast ComesBefore (IsOverAt pit.now (at_cell pit.now (L.limit_in limits.now)) cells.now) result }
 {
     let mut least: Option<(u32, u32)> = None;
     for i in 0..cells.len() {
@@ -209,38 +211,19 @@ fn least_over<L: Limits, A: Allocator + Copy + Drop>(
 fn over_at<L: Limits, A: Allocator + Copy + Drop>(
     pit: &Instance<A>,
     limits: &L,
-    cells: &Pairs<i128, A>,
+    cells: &CellList<A>,
     i: usize,
 ) -> Option<(u32, u32)>
     requires limits { L.cells limits.now ≡ pit.now.periods * pit.now.resources }
-    requires within { i < length cells.now.entries }
-    requires cells { (cell : ℕ) → IsNamed cells.now.entries cell → cell < pit.now.periods * pit.now.resources }
-    ensures { IsLeast ComesBefore (λ p. IsOverAt pit.now (at_cell pit.now (L.limit_in limits.now)) cells.now.entries p
-        × (cell_of pit.now p.1 p.0 ≡ (slice_index_or cells.now.entries i (0, pos 0)).0)) result }
+    requires within { i < length cells.now }
+    requires cells { (cell : ℕ) → IsNamed cells.now cell → cell < pit.now.periods * pit.now.resources }
+    ensures { IsLeast ComesBefore (λ p. IsOverAt pit.now (at_cell pit.now (L.limit_in limits.now)) cells.now p
+        × (cell_of pit.now p.1 p.0 ≡ (slice_index_or cells.now i (0, pos 0)).0)) result }
 {
-    let (cell, load) = cell_at(cells, i);
+    let (cell, load) = cells.at(i);
     let limit = limits.limit(cell)?;
     if load <= i128::from(limit) {
         return None;
     }
     Some((cell / pit.resources(), cell % pit.resources()))
-}
-
-/// The load of a cell that is there.
-fn load_in<A: Allocator + Copy + Drop>(cells: &Pairs<i128, A>, cell: u32) -> Option<i128>
-    ensures { result ≡ lookup (nat_eq cell) cells.now.entries }
-{
-    cells.get(&cell).copied()
-}
-
-/// The cell at this place, with its load.
-fn cell_at<A: Allocator + Copy + Drop>(cells: &Pairs<i128, A>, i: usize) -> (u32, i128)
-    requires { i < length cells.now.entries }
-    ensures cell { result.0 ≡ (slice_index_or cells.now.entries i (0, pos 0)).0 }
-    ensures load { lookup (nat_eq result.0) cells.now.entries ≡ Some result.1 }
-{
-    match cells.get_index(i) {
-        Some((cell, load)) => (*cell, *load),
-        None => unreachable!(),
-    }
 }

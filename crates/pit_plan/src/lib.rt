@@ -6,6 +6,7 @@
 #![tactic(auto)]
 
 mod breach;
+mod cell_list;
 mod judging;
 mod laws;
 mod limits;

@@ -5,61 +5,45 @@ ghost use Rattle.pit_plan.specs.Inside.Totals.{cell_load, IsTally};
 ghost use Rattle.pit_plan.specs.Inside.Limits.{by_cell};
 ghost use Rattle.pit_plan.specs.Inside.Touched.{overlaid_item, IsNamed, AreMoved, SetsCell, LooksAt};
 
+use crate::cell_list::CellList;
 use crate::loads::{Loads, plus, shift};
-use crate::overlay::Pairs;
 use crate::schedule::Schedule;
 use crate::tally::Tally;
-use indexmap::IndexMap;
 use pit_model::Instance;
 use pit_num::NoMemory;
 use std::alloc::Allocator;
-
-/// There is room for so many moved loads from the start.
-const FIRST_ROOM: usize = 8;
 
 /// Loads, over which those that are moved are laid, each by its cell.
 #[derive(Drop)]
 pub(crate) struct Moved<'a, A: Allocator + Copy + Drop> {
     pub(crate) kept: &'a [i128],
-    pub(crate) pairs: Pairs<i128, A>,
+    pub(crate) cells: CellList<A>,
 }
 
 impl<'a, A: Allocator + Copy + Drop> Loads for Moved<'a, A> {
-    ghost load_in = { λ loads. overlaid_item (cell_load loads.kept.now) loads.pairs.entries };
+    ghost load_in = { λ loads. overlaid_item (cell_load loads.kept.now) loads.cells };
 
     ghost base = { λ loads. loads.kept.now };
 
-    ghost is_sound = { λ loads. (cell : ℕ) → IsNamed loads.pairs.entries cell → cell < length loads.kept.now };
+    ghost is_sound = { λ loads. (cell : ℕ) → IsNamed loads.cells cell → cell < length loads.kept.now };
 
     ghost can_refuse = { true };
 
     fn add(&mut self, cell: u32, term: i128) -> Result<(), NoMemory> {
-        let load = plus(load_of(self.kept, &self.pairs, cell), term);
-        set_load(&mut self.pairs, cell, load)
+        let load = plus(load_of(self.kept, &self.cells, cell), term);
+        self.cells.set(cell, load)
     }
 }
 
 /// The load of a cell: the one that it was moved to, else the one that is kept.
-fn load_of<A: Allocator + Copy + Drop>(kept: &[i128], moved: &Pairs<i128, A>, cell: u32) -> i128
+fn load_of<A: Allocator + Copy + Drop>(kept: &[i128], moved: &CellList<A>, cell: u32) -> i128
     requires { cell < length kept.now }
-    ensures { result ≡ overlaid_item (cell_load kept.now) moved.now.entries cell }
+    ensures { result ≡ overlaid_item (cell_load kept.now) moved.now cell }
 {
-    match moved.get(&cell) {
-        Some(load) => *load,
+    match moved.load(cell) {
+        Some(load) => load,
         None => kept[cell as usize],
     }
-}
-
-/// Moves the load of a cell to this one.
-fn set_load<A: Allocator + Copy + Drop>(
-    moved: &mut Pairs<i128, A>,
-    cell: u32,
-    load: i128,
-) -> Result<(), NoMemory>
-    ensures { OnOk result (SetsCell moved.old.entries cell load moved.new.entries) }
-{
-    moved.insert(cell, load)?;
-    Ok(())
 }
 
 /// The loads as the writes leave them.
@@ -71,11 +55,11 @@ pub(crate) fn moved_loads<'a, A: Allocator + Copy + Drop>(
 ) -> Result<Moved<'a, A>, NoMemory>
     requires tally { IsTally pit.now tally.now }
     requires fits { Fits pit.now.blocks pit.now.periods writes.now }
-    ensures { IfOk result (λ loads. AreMoved pit.now tally.now writes.now loads.kept.now loads.pairs.entries) }
+    ensures { IfOk result (λ loads. AreMoved pit.now tally.now writes.now loads.kept.now loads.cells) }
 {
     let mut loads = Moved {
         kept: &tally.loads,
-        pairs: IndexMap::with_capacity(alloc, FIRST_ROOM)?,
+        cells: CellList::new(alloc)?,
     };
     for k in 0..writes.len() {
         move_block(pit, tally, writes, k, &mut loads)?;
@@ -94,8 +78,8 @@ fn move_block<'a, A: Allocator + Copy + Drop>(
     requires tally { IsTally pit.now tally.now }
     requires fits { Fits pit.now.blocks pit.now.periods writes.now }
     requires within { k < length writes.now }
-    requires moved { AreMoved pit.now tally.now (take k writes.now) loads.old.kept.now loads.old.pairs.entries }
-    ensures { OnOk result (AreMoved pit.now tally.now (take (k + 1) writes.now) loads.new.kept.now loads.new.pairs.entries) }
+    requires moved { AreMoved pit.now tally.now (take k writes.now) loads.old.kept.now loads.old.cells }
+    ensures { OnOk result (AreMoved pit.now tally.now (take (k + 1) writes.now) loads.new.kept.now loads.new.cells) }
 {
     pit.shows_sound();
     let (block, period) = writes[k];
@@ -112,8 +96,8 @@ pub(crate) fn look_at_revised<'a, A: Allocator + Copy + Drop>(
 ) -> Result<(), NoMemory>
     requires fits { RevisionsFit pit.now.resources pit.now.periods (revisions_of revises.now) }
     requires each { length loads.old.kept.now ≡ pit.now.periods * pit.now.resources }
-    requires in_range { (cell : ℕ) → IsNamed loads.old.pairs.entries cell → cell < length loads.old.kept.now }
-    ensures looks { OnOk result (LooksAt (by_cell pit.now (revisions_of revises.now)) loads.old.kept.now loads.old.pairs.entries loads.new.kept.now loads.new.pairs.entries) }
+    requires in_range { (cell : ℕ) → IsNamed loads.old.cells cell → cell < length loads.old.kept.now }
+    ensures looks { OnOk result (LooksAt (by_cell pit.now (revisions_of revises.now)) loads.old.kept.now loads.old.cells loads.new.kept.now loads.new.cells) }
     ensures refused { IfErr result (λ e. revises.now ≢ []) }
 {
     for (resource, period, _) in revises {
@@ -129,8 +113,8 @@ fn look_at<'a, A: Allocator + Copy + Drop>(
 ) -> Result<(), NoMemory>
     requires within { cell < length loads.old.kept.now }
     ensures stays { OnOk result (loads.new.kept.now ≡ loads.old.kept.now) }
-    ensures sets { OnOk result (SetsCell loads.old.pairs.entries cell (overlaid_item (cell_load loads.old.kept.now) loads.old.pairs.entries cell) loads.new.pairs.entries) }
+    ensures sets { OnOk result (SetsCell loads.old.cells cell (overlaid_item (cell_load loads.old.kept.now) loads.old.cells cell) loads.new.cells) }
 {
-    let load = load_of(loads.kept, &loads.pairs, cell);
-    set_load(&mut loads.pairs, cell, load)
+    let load = load_of(loads.kept, &loads.cells, cell);
+    loads.cells.set(cell, load)
 }

@@ -42,8 +42,8 @@ returns-clause-breach g c = λ good.
     let loads = c.look_at_revised.new.loads in
     let looks = c.in_ok-look_at_revised.ensures.looks in
     let lim = at_cell pit (overlaid_item limits revised) in
-    over-found pit c.args.tally.now writes loads.kept.now loads.pairs.entries (at_cell pit limits) lim c.first_over_after.result c.requires.tally
-    (moved-looked pit c.args.tally.now writes revised c.in_ok-loads.loads.kept.now loads.kept.now c.in_ok-loads.loads.pairs.entries loads.pairs.entries c.in_ok-loads.ensures looks)
-    (revised-looked pit limits revised loads.pairs.entries looks.named) good.within (ordered-from_none pit (overlaid_item s writes) none)
-    (subst (λ (xs : List (ℕ × Option ℤ)). IfNone c.first_over_after.result (IsLeast ComesBefore (IsOverAt pit (at_cell pit (overlaid_item limits xs)) loads.pairs.entries) None)) c.in_ok-revised.ensures.entries c.first_over_after.ensures.none)
-    (subst (λ (xs : List (ℕ × Option ℤ)). IfSome c.first_over_after.result (IsLeastOver pit (at_cell pit (overlaid_item limits xs)) loads.pairs.entries)) c.in_ok-revised.ensures.entries c.first_over_after.ensures.some)
+    over-found pit c.args.tally.now writes loads.kept.now loads.cells (at_cell pit limits) lim c.first_over_after.result c.requires.tally
+    (moved-looked pit c.args.tally.now writes revised c.in_ok-loads.loads.kept.now loads.kept.now c.in_ok-loads.loads.cells loads.cells c.in_ok-loads.ensures looks)
+    (revised-looked pit limits revised loads.cells looks.named) good.within (ordered-from_none pit (overlaid_item s writes) none)
+    (subst (λ (xs : List (ℕ × Option ℤ)). IfNone c.first_over_after.result (IsLeast ComesBefore (IsOverAt pit (at_cell pit (overlaid_item limits xs)) loads.cells) None)) c.in_ok-revised.ensures.entries c.first_over_after.ensures.none)
+    (subst (λ (xs : List (ℕ × Option ℤ)). IfSome c.first_over_after.result (IsLeastOver pit (at_cell pit (overlaid_item limits xs)) loads.cells)) c.in_ok-revised.ensures.entries c.first_over_after.ensures.some)

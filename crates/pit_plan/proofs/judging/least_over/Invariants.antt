@@ -7,4 +7,4 @@ use Rattle.pit_plan.proofs.judging.least_over.Given as goal
 
 abbrev pub invariant-loop-i : goal.invariant-loop-i
 invariant-loop-i g l =
-    IsLeast ComesBefore (λ p. IsOverAt l.pit (at_cell l.pit (g.L.Limits.limit_in l.limits)) l.cells.entries p × IsNamed (take l.i l.cells.entries) (cell_of l.pit p.1 p.0)) l.least
+    IsLeast ComesBefore (λ p. IsOverAt l.pit (at_cell l.pit (g.L.Limits.limit_in l.limits)) l.cells p × IsNamed (take l.i l.cells) (cell_of l.pit p.1 p.0)) l.least

@@ -6,4 +6,4 @@ use Rattle.pit_plan.proofs.moving.look_at_revised.Given as goal
 
 abbrev pub invariant-loop-resource : goal.invariant-loop-resource
 invariant-loop-resource g l =
-    LooksAt (take l.resource-index (by_cell l.pit (revisions_of l.revises))) l.fn.loads.kept.now l.fn.loads.pairs.entries l.loads.kept.now l.loads.pairs.entries
+    LooksAt (take l.resource-index (by_cell l.pit (revisions_of l.revises))) l.fn.loads.kept.now l.fn.loads.cells l.loads.kept.now l.loads.cells

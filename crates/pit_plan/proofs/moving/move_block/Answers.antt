@@ -26,7 +26,7 @@ shift-requires-clause-room g c =
     let w = get_or c.args.writes.now c.args.k (0, None) in
     let s = overlaid_item (by_block c.args.tally.now.periods) (take c.args.k c.args.writes.now) in
     let below = c.requires.fits.keys c.args.k (0, None) c.requires.within in
-    room-for pit s w.0 c.period.result false (at_cell pit (of-loads c.args.loads.now.kept.now c.args.loads.now.pairs.entries)) c.shows_sound.ensures below
+    room-for pit s w.0 c.period.result false (at_cell pit (of-loads c.args.loads.now.kept.now c.args.loads.now.cells)) c.shows_sound.ensures below
     (overlaid_item-next c.args.tally.now.periods c.args.writes.now c.args.k c.requires.fits.once c.requires.within ∙ sym c.period.ensures) c.requires.moved.loads
     (period-in_range pit c.args.tally.now w.0 c.period.result c.requires.tally below (sym c.period.ensures))
 
@@ -39,8 +39,8 @@ shift-requires-2-clause-room g c =
     let w = get_or c.args.writes.now c.args.k (0, None) in
     let s = overlaid_item (by_block c.args.tally.now.periods) (take c.args.k c.args.writes.now) in
     let below = c.requires.fits.keys c.args.k (0, None) c.requires.within in
-    let old = at_cell pit (of-loads c.args.loads.now.kept.now c.args.loads.now.pairs.entries) in
-    let new = at_cell pit (of-loads c.shift.new.loads.kept.now c.shift.new.loads.pairs.entries) in
+    let old = at_cell pit (of-loads c.args.loads.now.kept.now c.args.loads.now.cells) in
+    let new = at_cell pit (of-loads c.shift.new.loads.kept.now c.shift.new.loads.cells) in
     let out = shifted pit s w.0 c.period.result false old new below
     (overlaid_item-next c.args.tally.now.periods c.args.writes.now c.args.k c.requires.fits.once c.requires.within ∙ sym c.period.ensures) c.requires.moved.loads c.in_ok-shift.ensures.moves in
     room-for pit (with_period s w.0 None) w.0 w.1 true new c.shows_sound.ensures below (with_period-here s w.0 None) out (c.requires.fits.values c.args.k (0, None) c.requires.within)
@@ -51,9 +51,9 @@ returns g c =
     let w = get_or c.args.writes.now c.args.k (0, None) in
     let s = overlaid_item (by_block c.args.tally.now.periods) (take c.args.k c.args.writes.now) in
     let below = c.requires.fits.keys c.args.k (0, None) c.requires.within in
-    let old = at_cell pit (of-loads c.args.loads.now.kept.now c.args.loads.now.pairs.entries) in
-    let new = at_cell pit (of-loads c.shift.new.loads.kept.now c.shift.new.loads.pairs.entries) in
-    let last = at_cell pit (of-loads c.shift-2.new.loads.kept.now c.shift-2.new.loads.pairs.entries) in
+    let old = at_cell pit (of-loads c.args.loads.now.kept.now c.args.loads.now.cells) in
+    let new = at_cell pit (of-loads c.shift.new.loads.kept.now c.shift.new.loads.cells) in
+    let last = at_cell pit (of-loads c.shift-2.new.loads.kept.now c.shift-2.new.loads.cells) in
     let out = shifted pit s w.0 c.period.result false old new below
     (overlaid_item-next c.args.tally.now.periods c.args.writes.now c.args.k c.requires.fits.once c.requires.within ∙ sym c.period.ensures) c.requires.moved.loads c.in_ok-shift.ensures.moves in
     record {
