@@ -1,5 +1,5 @@
 -- What is read of sets of blocks, and of what is known of the blocks in them.
-use Rattle.std.proofs.Common.{◌≡◌, ◌≢◌, ℕ, ◌+◌, ◌*◌, ◌/◌, ◌%◌, ◌<◌, ◌≤◌, ◌==◌, Bool, true, false, cond, List, [], ◌∷◌, length, drop, get_or, set, replicate, Option, Some, None, is_some, refl, sym, ap, ap₂, subst, add-one, ◌∙◌, inl, inr, arith, ext_get_or, length-set, get_or-set_same, get_or-set_other, eq-eqb}
+use Rattle.std.proofs.Common.{◌≡◌, ◌≢◌, ℕ, ◌+◌, ◌*◌, ◌/◌, ◌%◌, ◌<◌, ◌≤◌, ◌==◌, Bool, true, false, cond, List, ◌∷◌, length, drop, get_or, set, replicate, Option, Some, None, is_some, refl, sym, ap, ap₂, subst, add-one, ◌∙◌, inl, inr, arith, ext_get_or, length-set, get_or-set_same, get_or-set_other, eq-eqb}
 use Rattle.std.specs.Int.{bit_at}
 use Rattle.std.specs.List.{Contains}
 use Rattle.std.proofs.Math.Seq.{drop-cons}
