@@ -21,7 +21,7 @@ use Rattle.pit_cli.specs.Texts.{Texts, Setup}
 use Rattle.pit_cli.specs.Planning.{Ran, IsRan, IsRunFault, plan_judged}
 use Rattle.pit_output.specs.Outputs.{new_line, Keeping, Outputs, IsUnwritten, HasFailed}
 use Rattle.pit_output.proofs.CallerLemmas.{same_text, shown, AllWritten, outputs_given, outputs_failed, outputs_left}
-use Rattle.pit_cli.specs.Output.{status_by, all_whole, all_granted, report_text, outputs_of, ran_end, ran_run, plan_run}
+use Rattle.pit_cli.specs.Output.{status_by, all_whole, all_granted, report_text, outputs_of, ran_end, IsKeptInRange, ran_run, plan_run}
 use Rattle.pit_cli.specs.Outcomes.{MayRun, AreRefused, IsWritten, IsDecisive}
 use Rattle.pit_opening.proofs.CallerLemmas.{IsEarly}
 use Rattle.pit_cli.proofs.DecidedTexts.{IsOneBeginning}
@@ -76,20 +76,30 @@ module _ (out lines : Writing) (kept : Option Keeping) where
     pub data Failure (fault : CliFault) : Type 0 where
       early : (plan_judged texts).Fails tt fault → IsUnwritten out lines kept → Failure fault
       in_run : (setup : Setup) → (plan_judged texts).Gives tt setup → IsRunFault setup options fault → IsUnwritten out lines kept → Failure fault
-      late : (setup : Setup) (ran : Ran) → (plan_judged texts).Gives tt setup → IsRan setup options ran → EndsLate ran fault → Failure fault
+      late : (setup : Setup) (ran : Ran) → (plan_judged texts).Gives tt setup → IsRan setup options ran → IsKeptInRange kept ran.0.history → EndsLate ran fault → Failure fault
+
+    -- what is handed on is the run
+    as_ran : (setup : Setup) (ran same : Ran) → same ≡ ran → IsRan setup options ran → IsRan setup options same
+    as_ran setup ran same is run = subst (λ (r : Ran). IsRan setup options r) (sym is) run
+
+    in_range : (ran same : Ran) → same ≡ ran → IsKeptInRange kept ran.0.history → IsKeptInRange kept same.0.history
+    in_range ran same is range = subst (λ (r : Ran). IsKeptInRange kept r.0.history) (sym is) range
 
     failure : (fault : CliFault) → (plan_run texts options out lines kept).Fails tt fault → Failure fault
-    failure fault (inl (p, (a, left))) = early p left
-    failure fault (inr (setup, judged, inl (p, left))) = in_run setup judged p left
-    failure fault (inr (setup, judged, inr (ran, run, p))) = late setup ran judged run (ran_failed ran fault p)
+    failure fault (inl (p, (a, (b, left)))) = early p left
+    failure fault (inr (setup, judged, inl (p, (b, left)))) = in_run setup judged p left
+    failure fault (inr (setup, judged, inr (ran, run, inl (p, left)))) = absurd p
+    failure fault (inr (setup, judged, inr (ran, run, inr (same, (is, range), p)))) =
+        late setup same judged (as_ran setup ran same is run) (in_range ran same is range) (ran_failed same fault p)
 
-    written_of : (setup : Setup) (ran : Ran) (result : Result Status CliFault) → (plan_judged texts).Gives tt setup → IsRan setup options ran → result ≡ end_of ran → AllWritten out lines kept (outputs ran)
+    written_of : (setup : Setup) (ran : Ran) (result : Result Status CliFault) → (plan_judged texts).Gives tt setup → IsRan setup options ran → IsKeptInRange kept ran.0.history → result ≡ end_of ran → AllWritten out lines kept (outputs ran)
         → IsWritten texts options out lines kept result
-    written_of setup ran result judged run is all = record {
+    written_of setup ran result judged run range is all = record {
       setup = setup;
       ran = ran;
       judged = judged;
       run = run;
+      range = range;
       ended = is;
       solution = all.0;
       report = all.1;
@@ -98,8 +108,9 @@ module _ (out lines : Writing) (kept : Option Keeping) where
     }
 
     pub given_written : (status : Status) → (plan_run texts options out lines kept).Gives tt status → IsWritten texts options out lines kept (Ok status)
-    given_written status (setup, judged, (ran, run, (a, m, p))) =
-        let given = outputs_given out lines kept (outputs ran) (end_of ran) (is_carried_on texts.beginning) status p in written_of setup ran (Ok status) judged run (sym given.0) given.1
+    given_written status (setup, judged, (ran, run, (same, (is, range), (a, m, p)))) =
+        let given = outputs_given out lines kept (outputs same) (end_of same) (is_carried_on texts.beginning) status p in
+        written_of setup same (Ok status) judged (as_ran setup ran same is run) (in_range ran same is range) (sym given.0) given.1
 
     -- ---- by the fault
 
@@ -118,16 +129,16 @@ module _ (out lines : Writing) (kept : Option Keeping) where
     late_three ran fault (inr (inl p)) = ap fault_status p.0
     late_three ran fault (inr (inr p)) = ap fault_status (end_stopped options.is_strict ran fault p.0)
 
-    late_stopped : (setup : Setup) (ran : Ran) → (plan_judged texts).Gives tt setup → IsRan setup options ran → EndsLate ran cli.Stopped
+    late_stopped : (setup : Setup) (ran : Ran) → (plan_judged texts).Gives tt setup → IsRan setup options ran → IsKeptInRange kept ran.0.history → EndsLate ran cli.Stopped
         → IsWritten texts options out lines kept (Err cli.Stopped)
-    late_stopped setup ran judged run (inl p) = let clash : ⊥ = absurd (let is = p.0 in cc) in absurd clash
-    late_stopped setup ran judged run (inr (inl p)) = let clash : ⊥ = absurd (let is = p.0 in cc) in absurd clash
-    late_stopped setup ran judged run (inr (inr p)) = written_of setup ran (Err cli.Stopped) judged run (sym p.0) p.1
+    late_stopped setup ran judged run range (inl p) = let clash : ⊥ = absurd (let is = p.0 in cc) in absurd clash
+    late_stopped setup ran judged run range (inr (inl p)) = let clash : ⊥ = absurd (let is = p.0 in cc) in absurd clash
+    late_stopped setup ran judged run range (inr (inr p)) = written_of setup ran (Err cli.Stopped) judged run range (sym p.0) p.1
 
     of_stopped : Failure cli.Stopped → IsWritten texts options out lines kept (Err cli.Stopped)
     of_stopped (early p left) = absurd (never_early cli.Stopped refl (λ is. cc) (plan_early texts cli.Stopped p))
     of_stopped (in_run setup judged p left) = absurd p
-    of_stopped (late setup ran judged run p) = late_stopped setup ran judged run p
+    of_stopped (late setup ran judged run range p) = late_stopped setup ran judged run range p
 
     pub stopped_written : (plan_run texts options out lines kept).Fails tt cli.Stopped → IsWritten texts options out lines kept (Err cli.Stopped)
     stopped_written p = of_stopped (failure cli.Stopped p)
@@ -140,7 +151,7 @@ module _ (out lines : Writing) (kept : Option Keeping) where
     of_failed : Failure cli.CannotWrite → MayRun texts × HasFailed out lines kept
     of_failed (early p left) = absurd (never_early cli.CannotWrite refl (λ is. cc) (plan_early texts cli.CannotWrite p))
     of_failed (in_run setup judged p left) = absurd p
-    of_failed (late setup ran judged run p) = ((setup, judged), late_failed ran p)
+    of_failed (late setup ran judged run range p) = ((setup, judged), late_failed ran p)
 
     pub failed_device : (plan_run texts options out lines kept).Fails tt cli.CannotWrite → MayRun texts × HasFailed out lines kept
     failed_device p = of_failed (failure cli.CannotWrite p)
@@ -153,7 +164,7 @@ module _ (out lines : Writing) (kept : Option Keeping) where
     of_unwritten : (fault : CliFault) → fault ≢ cli.Stopped → fault ≢ cli.CannotWrite → Failure fault → IsUnwritten out lines kept
     of_unwritten fault some also (early p left) = left
     of_unwritten fault some also (in_run setup judged p left) = left
-    of_unwritten fault some also (late setup ran judged run p) = late_unwritten ran fault some also p
+    of_unwritten fault some also (late setup ran judged run range p) = late_unwritten ran fault some also p
 
     pub fault_unwritten : (fault : CliFault) → fault ≢ cli.Stopped → fault ≢ cli.CannotWrite → (plan_run texts options out lines kept).Fails tt fault → IsUnwritten out lines kept
     fault_unwritten fault some also p = of_unwritten fault some also (failure fault p)
@@ -175,7 +186,7 @@ module _ (out lines : Writing) (kept : Option Keeping) where
     of_refuses : (fault : CliFault) → fault_status fault ≡ 2 → Failure fault → AreRefused texts fault
     of_refuses fault two (early p left) = (p, two)
     of_refuses fault two (in_run setup judged p left) = absurd (never_two (sym (run_three setup fault p) ∙ two))
-    of_refuses fault two (late setup ran judged run p) = absurd (never_two (sym (late_three ran fault p) ∙ two))
+    of_refuses fault two (late setup ran judged run range p) = absurd (never_two (sym (late_three ran fault p) ∙ two))
 
     pub refuses : (fault : CliFault) → fault_status fault ≡ 2 → (plan_run texts options out lines kept).Fails tt fault → AreRefused texts fault
     refuses fault two p = of_refuses fault two (failure fault p)
@@ -188,7 +199,7 @@ module _ (out lines : Writing) (kept : Option Keeping) where
       of_wanting : (fault : CliFault) → MayRun texts → Failure fault → fault_status fault ≡ 3
       of_wanting fault may (early p left) = early_three fault may p (plan_early texts fault p)
       of_wanting fault may (in_run setup judged p left) = run_three setup fault p
-      of_wanting fault may (late setup ran judged run p) = late_three ran fault p
+      of_wanting fault may (late setup ran judged run range p) = late_three ran fault p
 
       pub wanting_only : (fault : CliFault) → MayRun texts → (plan_run texts options out lines kept).Fails tt fault → fault_status fault ≡ 3
       wanting_only fault may p = of_wanting fault may (failure fault p)
@@ -204,7 +215,7 @@ module _ (out lines : Writing) (kept : Option Keeping) where
         of_refused : (other : CliFault) → Failure other → IsUnwritten out lines kept × ((err_of other ≡ err_of fault) ⊎ (err_of other ≡ err_of cli.NoMemory))
         of_refused other (early p left) = (left, answer_of other p (plan_early texts other p))
         of_refused other (in_run setup judged p left) = absurd (no_run setup judged)
-        of_refused other (late setup ran judged run p) = absurd (no_run setup judged)
+        of_refused other (late setup ran judged run range p) = absurd (no_run setup judged)
 
         pub refused_so : (result : Result Status CliFault) → IsResultOf (plan_run texts options out lines kept) tt result
             → IsUnwritten out lines kept × ((result ≡ Err fault) ⊎ (result ≡ Err cli.NoMemory))

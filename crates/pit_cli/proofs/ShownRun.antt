@@ -1,5 +1,5 @@
 -- What is shown of the history of a run.
-use Rattle.std.proofs.Common.{◌≡◌, ℕ, ◌≤◌, Bool, List, [], ◌∷◌, ◌++◌, length, get_or, Option, Some, None, Result, All, refl, sym, ap, subst, ◌∙◌, arith}
+use Rattle.std.proofs.Common.{◌≡◌, ℕ, ◌≤◌, Bool, List, [], ◌∷◌, ◌++◌, length, get_or, Option, Some, None, IsSome, Result, All, refl, sym, ap, subst, ◌∙◌, arith}
 use Rattle.std.specs.Prelude.{slice_get}
 use Rattle.std.proofs.lemmas.Option.{slice_get-get_or}
 use Rattle.pit_model.specs.Pit.{Pit}
@@ -108,11 +108,11 @@ module _ (some : (entries : List Answered) (count : ℕ) → count ≤ length (c
       }
 
   pub written-shown : (texts : Texts) (options : PlanOptions) (out lines : Writing) (kept : Option Keeping) (result : Result Status CliFault) (pit : Pit) (one : IsOfOneHistory texts options out lines kept result)
-      → All IsInRange one.written.ran.0.history → IsModel texts.model pit → IsShownRun pit one.written.ran.0.history (outputs_of (is_unbegun texts.beginning) one.written.ran)
-  written-shown texts options out lines kept result pit one range model =
+      → IsSome kept → IsModel texts.model pit → IsShownRun pit one.written.ran.0.history (outputs_of (is_unbegun texts.beginning) one.written.ran)
+  written-shown texts options out lines kept result pit one there model =
       let ran : Ran = one.written.ran in
       let planned : Pit = ran.0.plan.pit in
       let found = as-model texts ((planned, one.one_history.opening), one.one_history.scripts) one.one_history.stand in
       let same : found.0 ≡ pit = (decided-model texts.model).once.values found.0 pit found.1 model in
       let large : IsAsLarge planned pit = subst (λ (p : Pit). IsAsLarge planned p) same found.2 in
-      ran-shown pit (is_unbegun texts.beginning) ran range (each-fits pit planned ran.0.history large one.one_history.one_thread.fits) large.blocks
+      ran-shown pit (is_unbegun texts.beginning) ran (one.written.range there) (each-fits pit planned ran.0.history large one.one_history.one_thread.fits) large.blocks

@@ -1,5 +1,5 @@
 -- What the texts of a plan decide alone, and what its answer says.
-use Rattle.std.specs.Prelude.{◌≡◌, ◌⊎◌, ℕ, ◌+◌, true, false, List, length, take, drop, slice_get, Option, Some, Result, Ok, Err, ⊤}
+use Rattle.std.specs.Prelude.{◌≡◌, ◌⊎◌, ℕ, ◌+◌, true, false, List, length, drop, slice_get, Option, Some, Result, Ok, Err, ⊤}
 use Rattle.std.specs.Io.KnownBytes.{Appends}
 use Rattle.pit_plan.specs.Schedule.{held_period, value_of}
 use Rattle.pit_desk.specs.History.{commits_of}
@@ -7,6 +7,7 @@ use Rattle.pit_desk.specs.OneThread.{IsOfOneThread}
 use Rattle.pit_desk.specs.State.{State}
 use Rattle.pit_desk.specs.declared.entry.TheConstants.{ENTRIES_MAX}
 use Rattle.pit_script.specs.Jobs.{Job}
+use Rattle.pit_share.specs.GoingOn.{GoesOn}
 use Rattle.pit_share.specs.Logs.{entries_of}
 use Rattle.pit_run.specs.Laws.{IsOneByOne}
 use Rattle.pit_run.specs.Reports.{RunState, RanScript}
@@ -22,7 +23,7 @@ use Rattle.pit_cli.specs.declared.plan_options.PlanOptions.{PlanOptions}
 use Rattle.pit_cli.specs.Texts.{Texts, Setup, texts_judged}
 use Rattle.pit_cli.specs.Planning.{Ran, plan_judged, IsRan}
 use Rattle.pit_output.specs.Outputs.{Keeping, HasWhole}
-use Rattle.pit_cli.specs.Output.{outputs_of, ran_end}
+use Rattle.pit_cli.specs.Output.{outputs_of, ran_end, IsKeptInRange}
 
 -- ---- by the texts alone
 
@@ -41,28 +42,29 @@ IsDecisive (Err fault) = (fault ≡ Stopped) ⊎ (fault_status fault ≡ 2)
 
 -- ---- what was written
 
--- a run of the texts ended so, and all of it was written
+-- A run of the texts ended so, and all of it was written. Where the history was, its numbers are in the ranges of their types.
 pub record IsWritten (texts : Texts) (options : PlanOptions) (out lines : Writing) (kept : Option Keeping) (result : Result Status CliFault) : Type 0 where
   pub setup : Setup
   pub ran : Ran
   pub judged : (plan_judged texts).Gives tt setup
   pub run : IsRan setup options ran
+  pub range : IsKeptInRange kept ran.0.history
   pub ended : result ≡ ran_end options.is_strict ran
   pub solution : Appends out.before out.after (outputs_of (is_unbegun texts.beginning) ran).solution
   pub report : Appends lines.before lines.after (outputs_of (is_unbegun texts.beginning) ran).report
   pub sound : lines.failed ≡ false
   pub history : HasWhole kept (outputs_of (is_unbegun texts.beginning) ran).history
 
--- The history is one of one thread on the pit of the texts, and may have as many entries as a history can. It begins with what they begin with;
--- behind that each committed entry is a job of a planner's script, done on the schedule that the entries before it leave; and each planner's entries
--- and outcomes are those of its script. Where planners take turns, their entries stand in the order of their numbers.
+-- The history is one of one thread on the pit of the texts. It goes on from what they begin with, and may have as many entries as a history can: each
+-- entry behind that is of one of the planners, and noted one snapshot of it, unless its start is past the commits before it. Each of these that was
+-- committed is a job of a planner's script, done on the schedule that the entries before it leave; and each planner's entries and outcomes are those of
+-- its script. Where planners take turns, their entries stand in the order of their numbers.
 pub record IsOneHistory (texts : Texts) (options : PlanOptions) (closed : State) (runs : List RunState) : Type 0 where
   pub opening : Opened
   pub scripts : List (List Job)
   pub stand : (texts_judged texts).Gives tt ((closed.plan.pit, opening), scripts)
   pub good_opening : IsGoodOpening closed.plan.pit opening
-  pub begins : take (length (entries_before opening)) closed.history ≡ entries_before opening
-  pub limit : closed.max_entries ≡ ENTRIES_MAX
+  pub goes_on : GoesOn closed.plan.pit (entries_before opening) ENTRIES_MAX (length scripts) closed
   pub one_thread : IsOfOneThread closed.plan.pit closed.history (value_of closed.plan.pit (held_period (commits_of closed.history)))
   pub one_by_one : IsOneByOne closed.plan.pit (length (entries_before opening)) scripts closed.history
   pub turns : options.is_in_turn ≡ true → IsInTurn (length scripts) (entries_before opening) closed.history

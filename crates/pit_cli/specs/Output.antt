@@ -1,11 +1,11 @@
 -- What `plan` writes of a run, and how it ends.
-use Rattle.std.specs.Prelude.{ℕ, Bool, true, false, if◌then◌else◌, List, [], ◌∷◌, ◌++◌, ◌&&◌, not, Option, Result, Ok, Err, codes}
+use Rattle.std.specs.Prelude.{ℕ, Bool, true, false, if◌then◌else◌, List, [], ◌∷◌, ◌++◌, ◌&&◌, not, Option, IsSome, Result, Ok, Err, All, codes}
 use Rattle.std.specs.List.{list_all}
 use Rattle.pit_model.specs.Pit.{Pit}
 use Rattle.pit_plan.specs.Schedule.{Commit, held_period, value_of}
 use Rattle.pit_plan.specs.Shortfalls.{shortfalls_of}
 use Rattle.pit_plan.specs.declared.short.Short.{Short}
-use Rattle.pit_desk.specs.History.{commits_of}
+use Rattle.pit_desk.specs.History.{Answered, commits_of}
 use Rattle.pit_job.specs.declared.outcome.Outcome.{Outcome}
 use Rattle.pit_job.specs.declared.outcome.Outcome.TheVariants.{Refused}
 use Rattle.pit_job.specs.declared.outcome.RunEnd.{RunEnd}
@@ -13,9 +13,10 @@ use Rattle.pit_job.specs.declared.outcome.RunEnd.TheVariants as end
 use Rattle.pit_run.specs.Reports.{RunState}
 use Rattle.pit_cli.specs.ReportText.{runs_text}
 use Rattle.pit_step.specs.LineTexts.{value_text, shorts_text, left_text}
-use Rattle.pit_step.specs.Steps.{Step, in_turn, may_step, run_step}
+use Rattle.pit_step.specs.Steps.{Step, in_turn, pass_step, may_step, run_step}
 use Rattle.pit_step.specs.Devices.{Writing, write_step}
 use Rattle.pit_output.specs.Outputs.{new_line, Keeping, Outputs, outputs_run, IsUnwritten}
+use Rattle.pit_lines.specs.Ranges.{IsInRange}
 use Rattle.pit_lines.specs.Texts.{history_text}
 use Rattle.pit_step.specs.declared.fault.CliFault.{CliFault}
 use Rattle.pit_step.specs.declared.fault.CliFault.TheVariants.{NoMemory, Stopped}
@@ -76,6 +77,13 @@ outputs_of is_new ran = record {
 abbrev pub ran_end : Bool → Ran → Result Status CliFault
 ran_end is_strict ran = ended_of is_strict ran.1 (shortfalls_of ran.0.plan.pit (held_period (commits_of ran.0.history)))
 
+-- where there is an output for the history, its numbers are in the ranges of their types
+abbrev pub IsKeptInRange : Option Keeping → List Answered → Type 0
+IsKeptInRange kept history = IsSome kept → All IsInRange history
+
+abbrev pub range_step : Option Keeping → Step CliFault Ran Ran
+range_step kept = pass_step (λ ran. IsKeptInRange kept ran.0.history) (λ ran fault. ⊥)
+
 -- the outputs are gathered, or there is no memory for them; and then they are written
 abbrev pub ran_run : Begun → Bool → Writing → Writing → Option Keeping → Ran → Step CliFault (Unit {0}) Status
 ran_run beginning is_strict out lines kept ran =
@@ -84,4 +92,5 @@ ran_run beginning is_strict out lines kept ran =
 -- What `plan` does: the judgements of the texts, the planners' run, and the outputs.
 abbrev pub plan_run : Texts → PlanOptions → Writing → Writing → Option Keeping → Step CliFault (Unit {0}) Status
 plan_run texts options out lines kept =
-    in_turn (plan_judged texts) (in_turn (planners_step options) (run_step (ran_run texts.beginning options.is_strict out lines kept) (IsUnwritten out lines kept)))
+    in_turn (plan_judged texts)
+    (in_turn (planners_step options) (in_turn (range_step kept) (run_step (ran_run texts.beginning options.is_strict out lines kept) (IsUnwritten out lines kept))))
