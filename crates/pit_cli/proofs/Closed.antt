@@ -5,6 +5,7 @@ use Rattle.pit_desk.specs.History.{Answered}
 use Rattle.pit_desk.specs.declared.entry.TheConstants.{ENTRIES_MAX}
 use Rattle.pit_opening.specs.Openings.{entries_before, IsGoodOpening}
 use Rattle.pit_run.specs.Reports.{IsReport}
+use Rattle.pit_run.specs.Turns.{HadTurns}
 use Rattle.pit_run.proofs.CallerLemmas.{each-planner, of-one-thread, one-by-one}
 use Rattle.pit_step.specs.Devices.{Writing}
 use Rattle.pit_step.specs.declared.status.Status.{Status}
@@ -45,6 +46,7 @@ one-history texts options setup ran judged run =
       one_thread = of-one-thread pit before ENTRIES_MAX options.retries scripts ran.0 ran.1 report;
       one_by_one = one-by-one pit before ENTRIES_MAX options.retries scripts ran.0 ran.1 report;
       turns = run.turns;
+      had_turns = λ asked. subst (λ (p : Pit). HadTurns p ENTRIES_MAX options.retries before ran.0.history scripts ran.1) same (run.had_turns asked);
       each = each-planner pit before ENTRIES_MAX options.retries scripts ran.0 ran.1 report;
     }
 

@@ -11,7 +11,7 @@ use Rattle.pit_share.specs.GoingOn.{GoesOn}
 use Rattle.pit_share.specs.Logs.{entries_of}
 use Rattle.pit_run.specs.Laws.{IsOneByOne}
 use Rattle.pit_run.specs.Reports.{RunState, RanScript}
-use Rattle.pit_run.specs.Turns.{IsInTurn}
+use Rattle.pit_run.specs.Turns.{IsInTurn, HadTurns}
 use Rattle.pit_step.specs.Devices.{Writing}
 use Rattle.pit_step.specs.declared.status.Status.{Status}
 use Rattle.pit_step.specs.declared.fault.CliFault.{CliFault}
@@ -58,7 +58,7 @@ pub record IsWritten (texts : Texts) (options : PlanOptions) (out lines : Writin
 -- The history is one of one thread on the pit of the texts. It goes on from what they begin with, and may have as many entries as a history can: each
 -- entry behind that is of one of the planners, and noted one snapshot of it, unless its start is past the commits before it. Each of these that was
 -- committed is a job of a planner's script, done on the schedule that the entries before it leave; and each planner's entries and outcomes are those of
--- its script. Where planners take turns, their entries stand in the order of their numbers.
+-- its script. Where planners take turns, their entries stand in the order of their numbers, and each began behind all that the one before left.
 pub record IsOneHistory (texts : Texts) (options : PlanOptions) (closed : State) (runs : List RunState) : Type 0 where
   pub opening : Opened
   pub scripts : List (List Job)
@@ -68,6 +68,7 @@ pub record IsOneHistory (texts : Texts) (options : PlanOptions) (closed : State)
   pub one_thread : IsOfOneThread closed.plan.pit closed.history (value_of closed.plan.pit (held_period (commits_of closed.history)))
   pub one_by_one : IsOneByOne closed.plan.pit (length (entries_before opening)) scripts closed.history
   pub turns : options.is_in_turn ≡ true → IsInTurn (length scripts) (entries_before opening) closed.history
+  pub had_turns : options.is_in_turn ≡ true → HadTurns closed.plan.pit ENTRIES_MAX options.retries (entries_before opening) closed.history scripts runs
   pub each : (place : ℕ) (script : List Job) → slice_get scripts place ≡ Some script → (run : RunState) × (slice_get runs place ≡ Some run)
       × RanScript closed.plan.pit ENTRIES_MAX options.retries (entries_before opening) closed.history script (1 + place) (entries_of (1 + place) (drop (length (entries_before opening)) closed.history)) run
 

@@ -13,7 +13,7 @@ use Rattle.pit_share.specs.Planners.{PlannerState}
 use Rattle.pit_share.specs.declared.error.CloseError.{CloseError}
 use Rattle.pit_script.specs.Jobs.{Job}
 use Rattle.pit_run.specs.Reports.{RunState, IsReport, IsUnclosed}
-use Rattle.pit_run.specs.Turns.{IsInTurn, IsTurnUnclosed}
+use Rattle.pit_run.specs.Turns.{IsInTurn, HadTurns, IsTurnUnclosed}
 use Rattle.pit_cli.specs.Texts.{Texts, Setup, pit_in, opening_in, scripts_in, texts_judged}
 use Rattle.pit_cli.specs.declared.plan_options.PlanOptions.{PlanOptions}
 
@@ -51,10 +51,11 @@ IsRunFault setup options NoPlace = ⊤
 IsRunFault setup options NotClosed = IsNotClosed options.is_in_turn (pit_in setup) (entries_before (opening_in setup)) ENTRIES_MAX options.retries (scripts_in setup)
 IsRunFault setup options other = ⊥
 
--- planners did their scripts after this history, in turn where that is asked for
+-- planners did their scripts after this history; where that is asked for in turn, each behind all that the one before left
 pub record AreDone (is_in_turn : Bool) (pit : Pit) (opening : List Answered) (max_entries retries : ℕ) (scripts : List (List Job)) (ran : Ran) : Type 0 where
   pub report : IsReport pit opening max_entries retries scripts ran.0 ran.1
   pub turns : is_in_turn ≡ true → IsInTurn (length scripts) opening ran.0.history
+  pub had_turns : is_in_turn ≡ true → HadTurns pit max_entries retries opening ran.0.history scripts ran.1
 
 -- after the history that the desk was opened with, on a desk that may have as many entries as a history can
 abbrev pub IsRan : Setup → PlanOptions → Ran → Type 0

@@ -71,7 +71,7 @@ entries_of-earlier q k past own early all =
     let none = entries_of-others q own (All-weaker (IsOf (suc k)) (λ e. e.call.planner ≢ q) (λ e is same. absurd (omega (arith, is, same, early))) own all) in
     entries_of-append q past own ∙ (ap (λ (es : List Answered). entries_of q past ++ es) none ∙ append-nil (entries_of q past))
 
-by_planner-earlier : (m k : ℕ) (past own : List Answered) → m ≤ k → All (IsOf (suc k)) own → entries_by_planner m (past ++ own) ≡ entries_by_planner m past
+pub by_planner-earlier : (m k : ℕ) (past own : List Answered) → m ≤ k → All (IsOf (suc k)) own → entries_by_planner m (past ++ own) ≡ entries_by_planner m past
 by_planner-earlier zero k past own early all = refl
 by_planner-earlier (suc m) k past own early all =
     let before = by_planner-earlier m k past own (omega (arith, early)) all in
@@ -101,12 +101,21 @@ get-front (y ∷ xs) ys (suc k) x less at = get-front xs ys k x (omega (arith, l
 all-at : {X : Type 0} (P : X → Type 0) (xs : List X) (i : ℕ) (x : X) → All P xs → slice_get xs i ≡ Some x → P x
 all-at P xs i x all at = subst P (get_or_from_slice_get xs i x x at) (all i x (slice_get_within xs i x at))
 
-get-back : {X : Type 0} (xs ys : List X) (i : ℕ) (x : X) → length xs ≤ i → slice_get (xs ++ ys) i ≡ Some x → (m : ℕ) × (i ≡ length xs + m) × (slice_get ys m ≡ Some x)
+pub get-back : {X : Type 0} (xs ys : List X) (i : ℕ) (x : X) → length xs ≤ i → slice_get (xs ++ ys) i ≡ Some x → (m : ℕ) × (i ≡ length xs + m) × (slice_get ys m ≡ Some x)
 get-back [] ys i x past at = (i, omega arith, at)
 get-back (y ∷ xs) ys zero x past at = absurd (omega (arith, past))
 get-back (y ∷ xs) ys (suc i) x past at =
     let back = get-back xs ys i x (omega (arith, past)) at in
     (back.0, omega (arith, back.1), back.2)
+
+pub get-more : {X : Type 0} (xs ys : List X) (k : ℕ) (x : X) → slice_get xs k ≡ Some x → slice_get (xs ++ ys) k ≡ Some x
+get-more [] ys k x at = absurd (cc at)
+get-more (y ∷ xs) ys zero x at = at
+get-more (y ∷ xs) ys (suc k) x at = get-more xs ys k x at
+
+pub get-last : {X : Type 0} (xs : List X) (x : X) → slice_get (xs ++ x ∷ []) (length xs) ≡ Some x
+get-last [] x = refl
+get-last (y ∷ xs) x = get-last xs x
 
 by_planner-rises : (k : ℕ) (es : List Answered) (i j : ℕ) (e f : Answered) → i ≤ j → slice_get (entries_by_planner k es) i ≡ Some e → slice_get (entries_by_planner k es) j ≡ Some f
     → e.call.planner ≤ f.call.planner

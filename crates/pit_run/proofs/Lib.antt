@@ -1,5 +1,6 @@
 pub mod Threading
 pub mod ByPlanner
 pub mod Turns
+pub mod OwnTurn
 pub mod Closing
 pub mod CallerLemmas

@@ -1,11 +1,11 @@
 -- How turns are put together.
 use Rattle.std.proofs.lemmas.List.{take-append-drop, take-append-le, take_all, drop-append-le, drop_all, append-nil}
 use Rattle.std.proofs.lemmas.List.Elements.{All-nil, All-cons, All-append, All-push, All-contains, Contains-get_or, Contains-append_left, Contains-append_right, Contains-append_cases, Contains-push_cases}
-use Rattle.std.proofs.lemmas.Option.{slice_get-get_or}
+use Rattle.std.proofs.lemmas.Option.{slice_get-get_or, slice_get_within}
 use Rattle.std.proofs.lemmas.Bool.Decides.{leb_tells, nat_tests}
 use Rattle.std.proofs.Math.Seq.{take-suc}
 use Rattle.std.proofs.Common.{◌≡◌, ℕ, zero, suc, ◌+◌, ◌<◌, ◌≤◌, ◌==◌, Bool, true, false, List, [], ◌∷◌, ◌++◌, length, get_or, take, drop, refl, sym, ap, subst, ◌∙◌, arith, inl, inr, append_assoc, length-append, length-take, add-zero, add-one}
-use Rattle.std.specs.Prelude.{All, Contains, ◌≢◌, ◌||◌, ◌⊎◌}
+use Rattle.std.specs.Prelude.{All, Contains, Some, slice_get, ◌≢◌, ◌||◌, ◌⊎◌}
 use mathlib.Core.List.{IsPrefix}
 use Rattle.pit_model.specs.Pit.{Pit}
 use Rattle.pit_desk.specs.History.{Answered, commits_of}
@@ -27,9 +27,9 @@ use Rattle.pit_job.specs.declared.outcome.RunEnd.{RunEnd}
 use Rattle.pit_job.specs.declared.outcome.RunEnd.TheVariants as end
 use Rattle.pit_job.proofs.CallerLemmas.{all-from, all-on}
 use Rattle.pit_run.specs.Reports.{RunState, RanScript, AllDid, IsReport}
-use Rattle.pit_run.specs.Turns.{entries_by_planner, TookTurn, DidInTurn, IsTurnUnclosed, IsInTurnError}
+use Rattle.pit_run.specs.Turns.{entries_by_planner, after_turns, DidBehind, HadTurns, TookTurn, DidInTurn, IsTurnUnclosed, IsInTurnError}
 use Rattle.pit_run.proofs.Threading.{script-on}
-use Rattle.pit_run.proofs.ByPlanner.{IsOf, IsUpTo, entries_of-own, none-of, by_planner-up_to, entries_of-earlier, entries_of-last, by_planner-next, get-front}
+use Rattle.pit_run.proofs.ByPlanner.{IsOf, IsUpTo, entries_of-own, none-of, by_planner-up_to, entries_of-earlier, by_planner-earlier, entries_of-last, by_planner-next, get-front, get-back, get-more, get-last}
 use Rattle.pit_run.specs.Inside.Turns.{IsTurn, IsUnclosedTurn, IsTurnError}
 use Rattle.pit_run.specs.declared.report.InTurnError.{InTurnError}
 use Rattle.pit_run.specs.declared.report.InTurnError.TheVariants as error
@@ -192,6 +192,68 @@ turn-ran pit opening max_entries planners retries planner script desk run turn o
     let logged : entries_of planner past ≡ took.log.items = (turn.closed.logged.each planner one).each took.log took.among took.did.of_log in
     subst (λ (es : List Answered). RanFrom pit max_entries retries opening took.log.seen 1 script es run.jobs run.ended) (sym logged ∙ entries_of-own planner past own) took.did.ran
 
+-- ---- behind all that stood
+
+-- entries of a later planner leave the turns of the earlier ones
+had-earlier : (pit : Pit) (max_entries retries : ℕ) (opening history more own : List Answered) (k place : ℕ) (script : List Job) (run : RunState)
+    → suc place ≤ k → drop (length opening) more ≡ drop (length opening) history ++ own → All (IsOf (suc k)) own
+    → DidBehind pit max_entries retries (after_turns place opening history) script (1 + place) (entries_of (1 + place) (drop (length opening) history)) run
+    → DidBehind pit max_entries retries (after_turns place opening more) script (1 + place) (entries_of (1 + place) (drop (length opening) more)) run
+had-earlier pit max_entries retries opening history more own k place script run early is all did =
+    let past = drop (length opening) history in
+    let before : after_turns place opening more ≡ after_turns place opening history =
+    ap (λ (es : List Answered). opening ++ es) (ap (entries_by_planner place) is ∙ by_planner-earlier place k past own (omega (arith, early)) all) in
+    let mine : entries_of (1 + place) (drop (length opening) more) ≡ entries_of (1 + place) past = ap (entries_of (1 + place)) is ∙ entries_of-earlier (1 + place) k past own (omega (arith, early)) all in
+    subst (λ (b : List Answered). DidBehind pit max_entries retries b script (1 + place) (entries_of (1 + place) (drop (length opening) more)) run) (sym before)
+    (subst (λ (es : List Answered). DidBehind pit max_entries retries (after_turns place opening history) script (1 + place) es run) (sym mine) did)
+
+-- one planner more, behind all of them
+had-last : (pit : Pit) (max_entries retries : ℕ) (opening history more own : List Answered) (k place : ℕ) (script : List Job) (run : RunState)
+    → place ≡ k → history ≡ after_turns k opening history → drop (length opening) more ≡ drop (length opening) history ++ own → All (IsOf (suc k)) own
+    → run.planner ≡ suc k → RanFrom pit max_entries retries history (history ++ own) 1 script own run.jobs run.ended
+    → DidBehind pit max_entries retries (after_turns place opening more) script (1 + place) (entries_of (1 + place) (drop (length opening) more)) run
+had-last pit max_entries retries opening history more own k place script run here stood is all number ran =
+    let past = drop (length opening) history in
+    let turns : past ≡ entries_by_planner k past = ap (drop (length opening)) stood ∙ rest-is opening (entries_by_planner k past) in
+    let few : All (IsUpTo k) past = subst (All (IsUpTo k)) (sym turns) (by_planner-up_to k past) in
+    let planner : suc k ≡ 1 + place = omega (arith, here) in
+    let before : after_turns place opening more ≡ history =
+    ap (λ (n : ℕ). after_turns n opening more) here ∙ (ap (λ (es : List Answered). opening ++ es) (ap (entries_by_planner k) is ∙ by_planner-earlier k k past own (omega arith) all) ∙ sym stood) in
+    let mine : entries_of (1 + place) (drop (length opening) more) ≡ own =
+    ap (λ (n : ℕ). entries_of n (drop (length opening) more)) (sym planner) ∙ (ap (entries_of (suc k)) is ∙ entries_of-last k past own few all) in
+    let did : DidBehind pit max_entries retries history script (1 + place) own run = record { of_run = number ∙ planner; ran = ran } in
+    subst (λ (b : List Answered). DidBehind pit max_entries retries b script (1 + place) (entries_of (1 + place) (drop (length opening) more)) run) (sym before)
+    (subst (λ (es : List Answered). DidBehind pit max_entries retries history script (1 + place) es run) (sym mine) did)
+
+had-next : (pit : Pit) (max_entries retries : ℕ) (opening history more own : List Answered) (done : List (List Job)) (runs : List RunState) (script : List Job) (run : RunState)
+    → HadTurns pit max_entries retries opening history done runs → history ≡ after_turns (length done) opening history → drop (length opening) more ≡ drop (length opening) history ++ own
+    → All (IsOf (suc (length done))) own → run.planner ≡ suc (length done) → RanFrom pit max_entries retries history (history ++ own) 1 script own run.jobs run.ended
+    → HadTurns pit max_entries retries opening more (done ++ script ∷ []) (runs ++ run ∷ [])
+had-next pit max_entries retries opening history more own done runs script run had stood is all number ran = record {
+  many = omega (arith, had.many, length-append runs (run ∷ []), length-append done (script ∷ []));
+  each = λ place s at.
+      elim (leb_tells (length done) place) [
+        | inl late ↦
+            let back = get-back done (script ∷ []) place s late.1 at in
+            let within : back.0 < 1 = slice_get_within (script ∷ []) back.0 s back.2 in
+            let none : back.0 ≡ 0 = omega (arith, within) in
+            let here : place ≡ length done = omega (arith, back.1, none) in
+            let same : script ≡ s = let first = subst (λ (m : ℕ). slice_get (script ∷ []) m ≡ Some s) none back.2 in cc first in
+            let there : slice_get (runs ++ run ∷ []) place ≡ Some run =
+            subst (λ (n : ℕ). slice_get (runs ++ run ∷ []) n ≡ Some run) (had.many ∙ sym here) (get-last runs run) in
+            let did = had-last pit max_entries retries opening history more own (length done) place script run here stood is all number ran in
+            let own_es = entries_of (1 + place) (drop (length opening) more) in
+            (run, there, subst (λ (t : List Job). DidBehind pit max_entries retries (after_turns place opening more) t (1 + place) own_es run) same did)
+        | inr early ↦
+            let less : place < length done = omega (arith, early.1) in
+            let before = had.each place s (get-front done (script ∷ []) place s less at) in (
+              before.0,
+              get-more runs (run ∷ []) place before.0 before.1,
+              had-earlier pit max_entries retries opening history more own (length done) place s before.0 (omega (arith, less)) is all before.2,
+            )
+      ];
+}
+
 -- ---- turn after turn
 
 pub in-turn-none : (retries planners : ℕ) (desk : State) → IsDeskKept desk → DidInTurn desk.plan.pit desk.history desk.max_entries retries planners [] desk []
@@ -201,6 +263,7 @@ in-turn-none retries planners desk kept = record {
   did = tt;
   started = All-nil (λ run. run.ended ≢ end.NoThread);
   in_turn = record { turns = sym (append-nil desk.history) };
+  had_turns = record { many = refl; each = λ place script at. absurd (cc at) };
 }
 
 pub in-turn-next : (pit : Pit) (opening : List Answered) (max_entries retries planners : ℕ) (done : List (List Job)) (desk : State) (runs : List RunState) (script : List Job) (next : State) (run : RunState)
@@ -227,6 +290,10 @@ in-turn-next pit opening max_entries retries planners done desk runs script next
     let last : RanScript pit max_entries retries opening next.history script (suc k) (entries_of (suc k) (drop (length opening) next.history)) run =
     record { number = turn.took.did.of_run; ran = inl (subst (λ (es : List Answered). RanFrom pit max_entries retries opening next.history 1 script es run.jobs run.ended) there whole) } in
     let before = did-earlier pit max_entries retries opening desk.history next.history own 1 k done runs (omega arith) all on.1 begins so_far.did in
+    let all_own : RanFrom pit max_entries retries desk.history (desk.history ++ own) 1 script own run.jobs run.ended =
+    subst (λ (es : List Answered). RanFrom pit max_entries retries desk.history es 1 script own run.jobs run.ended) parts.1
+    (all-on pit max_entries retries 1 desk.history seen next.history script own run.jobs run.ended shown ran) in
+    let had = had-next pit max_entries retries opening desk.history next.history own done runs script run so_far.had_turns so_far.in_turn.turns on.1 all turn.took.did.of_run all_own in
     let more = did-more pit max_entries retries opening next.history 1 done runs script run before
     (subst (λ (n : ℕ). RanScript pit max_entries retries opening next.history script n (entries_of n (drop (length opening) next.history)) run) number last) in
     let many : suc k ≡ length (done ++ script ∷ []) = omega (arith, length-append done (script ∷ [])) in
@@ -240,6 +307,7 @@ in-turn-next pit opening max_entries retries planners done desk runs script next
       did = more;
       started = All-push (λ run. run.ended ≢ end.NoThread) runs run so_far.started (ran-not-without pit max_entries retries 1 desk.history seen script own run.jobs run.ended ran);
       in_turn = record { turns = parts.0 ∙ ap (λ (es : List Answered). opening ++ es) (sym on.1 ∙ in_order) };
+      had_turns = had;
     }
 
 -- a desk that goes on has the opening one's pit and limit

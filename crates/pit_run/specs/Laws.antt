@@ -1,7 +1,8 @@
 -- What a report comes to.
-use Rattle.std.specs.Prelude.{◌≡◌, ℕ, ◌+◌, List, Option, slice_get, Some}
+use Rattle.std.specs.Prelude.{◌≡◌, ℕ, ◌+◌, true, List, Option, slice_get, Some, is_some, Contains}
 use Rattle.pit_model.specs.Pit.{Pit}
-use Rattle.pit_desk.specs.History.{Answered}
+use Rattle.pit_plan.specs.Schedule.{write_of}
+use Rattle.pit_desk.specs.History.{Answered, commit_of}
 use Rattle.pit_desk.specs.OneThread.{held_period_after}
 use Rattle.pit_desk.specs.declared.reply.EntryReply.TheVariants.{Committed}
 use Rattle.pit_script.specs.Jobs.{Job}
@@ -20,3 +21,10 @@ pub record DidOwnJob (pit : Pit) (scripts : List (List Job)) (schedule : ℕ →
 pub record IsOneByOne (pit : Pit) (opened : ℕ) (scripts : List (List Job)) (history : List Answered) : Type 0 where
   pub each : (i number : ℕ) (e : Answered) → slice_get history (opened + i) ≡ Some e → e.reply ≡ Committed number
       → DidOwnJob pit scripts (held_period_after history (opened + i)) e
+
+-- one of these entries made the commit of this number, which writes the block
+pub record IsOwnWriter (own : List Answered) (version block : ℕ) : Type 0 where
+  pub writer : Answered
+  pub among : Contains own writer
+  pub number : writer.reply ≡ Committed version
+  pub writes : is_some (write_of (commit_of writer.call) block) ≡ true

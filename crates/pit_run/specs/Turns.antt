@@ -25,6 +25,21 @@ entries_by_planner (suc before) es = entries_by_planner before es ++ entries_of 
 pub record IsInTurn (planners : ℕ) (opening history : List Answered) : Type 0 where
   pub turns : history ≡ opening ++ entries_by_planner planners (drop (length opening) history)
 
+-- what stood once the first so many planners had ended: the opening history, and then their entries
+abbrev pub after_turns : ℕ → List Answered → List Answered → List Answered
+after_turns planners opening history = opening ++ entries_by_planner planners (drop (length opening) history)
+
+-- a planner did its script behind these entries, with its own, and has seen no more than both
+pub record DidBehind (pit : Pit) (max_entries retries : ℕ) (before : List Answered) (script : List Job) (planner : ℕ) (own : List Answered) (run : RunState) : Type 0 where
+  pub of_run : run.planner ≡ planner
+  pub ran : RanFrom pit max_entries retries before (before ++ own) 1 script own run.jobs run.ended
+
+-- each planner did its script, with its own of the entries past the opening ones, behind all that stood once the planner before it had ended
+pub record HadTurns (pit : Pit) (max_entries retries : ℕ) (opening history : List Answered) (scripts : List (List Job)) (runs : List RunState) : Type 0 where
+  pub many : length runs ≡ length scripts
+  pub each : (place : ℕ) (script : List Job) → slice_get scripts place ≡ Some script → (run : RunState) × (slice_get runs place ≡ Some run)
+      × DidBehind pit max_entries retries (after_turns place opening history) script (1 + place) (entries_of (1 + place) (drop (length opening) history)) run
+
 -- no planner went without a thread
 abbrev pub AllStarted : List RunState → Type 0
 AllStarted runs = All (λ run. run.ended ≢ end.NoThread) runs
@@ -49,6 +64,7 @@ pub record DidInTurn (pit : Pit) (opening : List Answered) (max_entries retries 
   pub did : AllDid pit max_entries retries opening desk.history 1 scripts runs
   pub started : AllStarted runs
   pub in_turn : IsInTurn (length scripts) opening desk.history
+  pub had_turns : HadTurns pit max_entries retries opening desk.history scripts runs
 
 -- the planners before this one did their scripts in turn; then it did its own on what they left, and the workspace was not closed by the logs of all
 pub record IsTurnUnclosed (pit : Pit) (opening : List Answered) (max_entries retries : ℕ) (scripts : List (List Job)) (planner : ℕ) (cause : CloseError) : Type 0 where

@@ -8,7 +8,7 @@ ghost use Rattle.pit_share.specs.Opening.{AreSeats, IsPlannerCount, IsOpenError}
 ghost use Rattle.pit_share.specs.declared.new_session.TheConstants.{PLANNERS_MAX};
 ghost use Rattle.pit_job.specs.declared.planner_run.TheConstants.{RETRIES_MAX};
 ghost use Rattle.pit_run.specs.Reports.{IsReport};
-ghost use Rattle.pit_run.specs.Turns.{AllStarted, IsInTurn, TookTurn, DidInTurn, IsInTurnError};
+ghost use Rattle.pit_run.specs.Turns.{AllStarted, IsInTurn, HadTurns, TookTurn, DidInTurn, IsInTurnError};
 ghost use Rattle.pit_run.specs.Inside.Turns.{IsTurn, IsTurnError};
 
 use crate::planner_run::{PlannerRun, run_planner};
@@ -41,6 +41,8 @@ pub fn run_in_turn<R: Wait, A: Allocator + Copy + Drop, G: Gate>(
     ensures ok { IfOk result (λ report.
         IsReport desk.plan.pit desk.history desk.max_entries retries (map (λ script. script.jobs) scripts.now) report.closed report.runs.items) }
     ensures in_turn { IfOk result (λ report. IsInTurn (length scripts.now) desk.history report.closed.history) }
+    ensures had_turns { IfOk result (λ report.
+        HadTurns desk.plan.pit desk.max_entries retries desk.history report.closed.history (map (λ script. script.jobs) scripts.now) report.runs.items) }
     ensures started { IfOk result (λ report. AllStarted report.runs.items) }
     ensures err { IfErr result (IsInTurnError desk.plan.pit desk.history desk.max_entries retries (map (λ script. script.jobs) scripts.now)) }
 {

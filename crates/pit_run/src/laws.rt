@@ -1,10 +1,11 @@
 //! Laws of runs.
-ghost use Rattle.std.specs.Prelude.{◌≡◌, ℕ, ◌+◌, ◌<◌, ◌≤◌, List, slice_get, Some, length, drop};
+ghost use Rattle.std.specs.Prelude.{◌≡◌, ℕ, ◌+◌, ◌<◌, ◌≤◌, ℤ, List, slice_get, Some, length, drop, Contains};
 ghost use Rattle.pit_model.specs.Pit.{Pit};
 ghost use Rattle.pit_plan.specs.Schedule.{held_period, value_of};
 ghost use Rattle.pit_desk.specs.History.{Answered, commits_of};
 ghost use Rattle.pit_desk.specs.State.{State};
 ghost use Rattle.pit_desk.specs.OneThread.{IsOfOneThread};
+ghost use Rattle.pit_desk.specs.declared.reply.EntryReply.TheVariants.{Refused as refused};
 ghost use Rattle.pit_desk.specs.declared.reply.Refusal.TheVariants.{Moved};
 ghost use Rattle.pit_script.specs.Jobs.{Job};
 ghost use Rattle.pit_share.specs.Logs.{entries_of};
@@ -12,8 +13,8 @@ ghost use Rattle.pit_job.specs.JobByJob.{IsWriter};
 ghost use Rattle.pit_job.specs.declared.outcome.Outcome.TheVariants.{Refused};
 ghost use Rattle.pit_job.specs.declared.outcome.RunEnd.TheVariants.{Full};
 ghost use Rattle.pit_run.specs.Reports.{RunState, IsReport, RanScript};
-ghost use Rattle.pit_run.specs.Turns.{IsInTurn};
-ghost use Rattle.pit_run.specs.Laws.{IsOneByOne};
+ghost use Rattle.pit_run.specs.Turns.{IsInTurn, HadTurns};
+ghost use Rattle.pit_run.specs.Laws.{IsOneByOne, IsOwnWriter};
 
 /// A law of reports: the run of each planner is that of its own script and of its own entries past the opening ones. An end since the history is full
 /// comes only where it is. An outcome Moved names a commit of the history past the opening, which writes the block.
@@ -43,4 +44,17 @@ pub fn in_turn()
     ensures { (planners : ℕ) (opening history : List Answered) → IsInTurn planners opening history
         → (i j : ℕ) (e f : Answered) → length opening ≤ i → i ≤ j → slice_get history i ≡ Some e → slice_get history j ≡ Some f
         → e.call.planner ≤ f.call.planner }
+{}
+
+/// A law of turns: no planner meets a commit of another one. Where planners took turns on a history of one thread, an entry that was refused as Moved, and
+/// an outcome Moved, name a commit of the same planner's turn, which writes the block.
+pub fn own_turn()
+    ensures entries { (pit : Pit) (value : ℤ) (opening history : List Answered) (max_entries retries : ℕ) (scripts : List (List Job)) (runs : List RunState)
+        → IsOfOneThread pit history value → IsInTurn (length scripts) opening history → HadTurns pit max_entries retries opening history scripts runs
+        → (p block version : ℕ) (e : Answered) → p < length scripts → Contains (entries_of (1 + p) (drop (length opening) history)) e
+        → e.reply ≡ refused (Moved block version) → IsOwnWriter (entries_of (1 + p) (drop (length opening) history)) version block }
+    ensures outcomes { (pit : Pit) (value : ℤ) (opening history : List Answered) (max_entries retries : ℕ) (scripts : List (List Job)) (runs : List RunState)
+        → IsOfOneThread pit history value → IsInTurn (length scripts) opening history → HadTurns pit max_entries retries opening history scripts runs
+        → (p j block version tries : ℕ) (run : RunState) → slice_get runs p ≡ Some run → slice_get run.jobs j ≡ Some (Refused (Moved block version) tries)
+        → IsOwnWriter (entries_of (1 + p) (drop (length opening) history)) version block }
 {}

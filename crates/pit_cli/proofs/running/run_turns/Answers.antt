@@ -9,6 +9,7 @@ returns-in-Ok-clause-ok g c = record {
   report = c.in-Ok.ensures.ok;
   turns = λ asked.
       subst (λ (n : ℕ). IsInTurn n c.args.desk.history c.in-Ok.report.closed.history) (sym (length-map c.args.scripts.now (λ script. script.jobs))) c.in-Ok.ensures.in_turn;
+  had_turns = λ asked. c.in-Ok.ensures.had_turns;
 }
 
 pub returns-in-Err-PlannerCount-clause-err : goal.returns-in-Err-PlannerCount-clause-err

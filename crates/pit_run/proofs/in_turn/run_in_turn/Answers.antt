@@ -4,7 +4,7 @@ use Rattle.std.proofs.Common.{◌≡◌, ℕ, List, length, map, true≢false, r
 use Rattle.pit_script.specs.Jobs.{Job}
 use Rattle.pit_share.specs.Opening.{IsPlannerCount}
 use Rattle.pit_run.specs.Reports.{IsReport}
-use Rattle.pit_run.specs.Turns.{AllStarted, IsInTurn, DidInTurn}
+use Rattle.pit_run.specs.Turns.{AllStarted, IsInTurn, HadTurns, DidInTurn}
 use Rattle.pit_run.proofs.Turns.{in-turn-report}
 use Rattle.pit_run.proofs.in_turn.run_in_turn.Goals as goal
 
@@ -30,6 +30,14 @@ returns-clause-in_turn g c =
     IfOk-weaker c.turns.result (λ report. DidInTurn desk.plan.pit desk.history desk.max_entries c.args.retries (length scripts) jobs report.closed report.runs.items)
     (λ report. IsInTurn (length scripts) desk.history report.closed.history)
     (λ report did. subst (λ (n : ℕ). IsInTurn n desk.history report.closed.history) many did.in_turn) c.turns.ensures.ok
+
+pub returns-clause-had_turns : goal.returns-clause-had_turns
+returns-clause-had_turns g c =
+    let desk = c.args.desk in
+    let scripts = c.args.scripts.now in
+    let jobs = map {B = List Job} (λ script. script.jobs) scripts in
+    IfOk-weaker c.turns.result (λ report. DidInTurn desk.plan.pit desk.history desk.max_entries c.args.retries (length scripts) jobs report.closed report.runs.items)
+    (λ report. HadTurns desk.plan.pit desk.max_entries c.args.retries desk.history report.closed.history jobs report.runs.items) (λ report did. did.had_turns) c.turns.ensures.ok
 
 pub returns-clause-started : goal.returns-clause-started
 returns-clause-started g c =
