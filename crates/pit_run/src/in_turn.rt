@@ -110,6 +110,7 @@ fn turn<R: Wait, A: Allocator + Copy + Drop, G: Gate>(
     k: usize,
 ) -> Result<(Closed<A>, PlannerRun<A>), InTurnError>
     requires pit { All (λ script. script.pit ≡ desk.plan.pit) runner.now.scripts }
+    requires few { length runner.now.scripts ≤ PLANNERS_MAX }
     requires place { k < length runner.now.scripts }
     ensures ok { let script = slice_index_or (map (λ script. script.jobs) runner.now.scripts) k [] in IfOk result (λ turn.
         IsTurn desk.plan.pit desk.history desk.max_entries (length runner.now.scripts) runner.now.retries (k + 1) script turn.0 turn.1) }
@@ -134,6 +135,7 @@ fn turn_in<S: Session, R: Wait, A: Allocator + Copy + Drop, G: Gate>(
     requires parts { S.parts ≡ PLANNERS_MAX }
     requires book { new_session.book ≡ S.book }
     requires scripts { All (λ script. script.pit ≡ S.instance) runner.now.scripts }
+    requires few { length runner.now.scripts ≤ PLANNERS_MAX }
     requires place { k < length runner.now.scripts }
     ensures ok { let script = slice_index_or (map (λ script. script.jobs) runner.now.scripts) k [] in
         IfOk result (λ turn. IsTurn S.instance S.opening S.max_entries S.planners runner.now.retries (k + 1) script turn.0 turn.1) }

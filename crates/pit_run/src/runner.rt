@@ -1,11 +1,12 @@
-ghost use Rattle.std.specs.Prelude.{◌≡◌, ◌<◌, [], All, length, map, slice_index_or};
+ghost use Rattle.std.specs.Prelude.{◌≡◌, ◌<◌, ◌≤◌, [], All, length, map, slice_index_or};
 ghost use Rattle.pit_model.specs.Pit.{Pit};
+ghost use Rattle.pit_share.specs.declared.new_session.TheConstants.{PLANNERS_MAX};
 
 use pit_script::Script;
 use std::alloc::Allocator;
 use std::marker::Model;
 
-/// The scripts of all planners, the first planner's first, and what planners do them with. `PLANNERS_MAX` and `RETRIES_MAX` are kept.
+/// The scripts of all planners, the first planner's first, and what planners do them with. `RETRIES_MAX` is kept.
 #[derive(Drop)]
 pub(crate) struct Runner<'s, R, A: Allocator + Copy + Drop, G> {
     pub(crate) rt: &'s R,
@@ -16,8 +17,7 @@ pub(crate) struct Runner<'s, R, A: Allocator + Copy + Drop, G> {
 }
 
 impl<'s, R, A: Allocator + Copy + Drop, G> Model for Runner<'s, R, A, G> {
-    ghost use Rattle.std.specs.Prelude.{◌≤◌, length};
-    ghost use Rattle.pit_share.specs.declared.new_session.TheConstants.{PLANNERS_MAX};
+    ghost use Rattle.std.specs.Prelude.{◌≤◌};
     ghost use Rattle.pit_job.specs.declared.planner_run.TheConstants.{RETRIES_MAX};
     ghost use Rattle.pit_run.specs.Inside.Runner.{RunnerState};
 
@@ -25,12 +25,13 @@ impl<'s, R, A: Allocator + Copy + Drop, G> Model for Runner<'s, R, A, G> {
 
     ghost view = { λ r. record { retries = r.retries; scripts = r.scripts.now } };
 
-    ghost invariant = { λ r. (r.retries ≤ RETRIES_MAX) × (length r.scripts.now ≤ PLANNERS_MAX) };
+    ghost invariant = { λ r. r.retries ≤ RETRIES_MAX };
 }
 
 impl<'s, R, A: Allocator + Copy + Drop, G> Runner<'s, R, A, G> {
     /// How many planners there are.
     pub(crate) fn planners(&self) -> u32
+        requires { length self.now.scripts ≤ PLANNERS_MAX }
         ensures { result ≡ length self.now.scripts }
     {
         self.scripts.len() as u32

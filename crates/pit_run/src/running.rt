@@ -1,7 +1,6 @@
 ghost use Rattle.std.specs.Prelude.{◌≡◌, ◌≤◌, All, length, map, IfOk, IfErr};
 ghost use Rattle.pit_share.specs.Opening.{AreSeats};
 ghost use Rattle.pit_run.specs.Reports.{IsReport, IsRunError};
-ghost use Rattle.pit_share.specs.declared.new_session.TheConstants.{PLANNERS_MAX};
 ghost use Rattle.pit_job.specs.declared.planner_run.TheConstants.{RETRIES_MAX};
 
 use crate::report::{Report, RunError};
@@ -37,7 +36,6 @@ pub fn run<
     requires few { retries ≤ RETRIES_MAX }
     requires seats { AreSeats S.planners seats.items }
     requires each { length scripts.now ≡ S.planners }
-    requires planners { S.planners ≤ PLANNERS_MAX }
     ensures ok { IfOk result (λ report.
         IsReport S.instance S.opening S.max_entries retries (map (λ script. script.jobs) scripts.now) report.closed report.runs.items) }
     ensures err { IfErr result (IsRunError S.instance S.opening S.max_entries retries (map (λ script. script.jobs) scripts.now) seats.items) }

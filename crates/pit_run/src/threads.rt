@@ -2,7 +2,6 @@
 ghost use Rattle.std.specs.Prelude.{◌≡◌, ℕ, ◌+◌, ◌<◌, ◌≤◌, ◌++◌, ◌∷◌, List, [], length, take, IfOk, IfErr, vec_capacity};
 ghost use Rattle.pit_script.specs.Jobs.{Job};
 ghost use Rattle.pit_share.specs.Opening.{AreSeats};
-ghost use Rattle.pit_share.specs.declared.new_session.TheConstants.{PLANNERS_MAX};
 ghost use Rattle.pit_run.specs.Reports.{PlannerRan, AllRan};
 ghost use Rattle.pit_run.specs.Inside.Threads.{IsReady};
 
@@ -39,7 +38,7 @@ fn finish_planner<S: Session, O: Wait + Drop, A: Allocator + Copy + Drop>(
 #[derive(Drop)]
 pub(crate) struct RunOf<A: Allocator + Copy + Drop> {
     retries: u32,
-    planner: u32,
+    planner: u64,
     script: Snapshot<Script<A>>,
 }
 
@@ -53,12 +52,12 @@ fn run_unless_refused<S: Session, O: Wait + Drop, A: Allocator + Copy + Drop, R:
     shared: &Shared<'_, S, O, A, R, G>,
     seat: Seat<S, A>,
     script: &Script<A>,
-    number: u32,
+    number: u64,
 ) -> (PlannerLog<S, A>, PlannerRun<A>)
     requires { script.now.pit ≡ S.instance }
     ensures { PlannerRan S.instance S.max_entries shared.now.retries S.opening script.now.jobs seat result.0 result.1 }
 {
-    if shared.refused.load(Ordering::SeqCst) == number as u64 {
+    if shared.refused.load(Ordering::SeqCst) == number {
         return finish_planner(shared.runner.alloc, shared.workspace, seat);
     }
     run_planner(&shared.runner, shared.workspace, seat, script)
@@ -78,7 +77,7 @@ fn start<
     shared: &'s Shared<'s, S, O, A, R, G>,
     seat: Seat<S, A>,
     script: &'s Script<A>,
-    number: u32,
+    number: u64,
 ) -> Result<
     PromisedHandle<(PlannerLog<S, A>, PlannerRun<A>), RunOf<A>>,
     (PlannerLog<S, A>, PlannerRun<A>),
@@ -104,7 +103,7 @@ fn start<
         Ok(handle) => Ok(handle),
         Err(error) => {
             // The closure comes back, and not the seat. Called here, it finds its own number and hands in an empty log.
-            shared.refused.store(number as u64, Ordering::SeqCst);
+            shared.refused.store(number, Ordering::SeqCst);
             Err((error.value)())
         }
     }
@@ -119,7 +118,7 @@ fn joined<S: Session, A: Allocator + Copy + Drop, R: Threads>(
     >,
     script: &Script<A>,
     retries: u32,
-    number: u32,
+    number: u64,
 ) -> (PlannerLog<S, A>, PlannerRun<A>)
     requires ok { IfOk started (λ h. (h.promise.retries ≡ retries) × (h.promise.planner ≡ number) × (h.promise.script.value ≡ script.now)) }
     requires err { IfErr started (λ d. PlannerRan S.instance S.max_entries retries S.opening script.now.jobs number d.0 d.1) }
@@ -149,7 +148,6 @@ fn run_all<
 )
     requires seats { AreSeats (length seats.old.items) seats.old.items }
     requires each { length seats.old.items ≤ length shared.now.scripts }
-    requires planners { length seats.old.items ≤ PLANNERS_MAX }
     requires none { (logs.old.items ≡ []) × (runs.old.items ≡ []) }
     requires room { (length seats.old.items ≤ vec_capacity logs.old) × (length seats.old.items ≤ vec_capacity runs.old) }
     ensures ran { AllRan S.instance S.max_entries shared.now.retries S.opening 1 (take (length seats.old.items) shared.now.scripts) logs.new.items runs.new.items }
@@ -161,7 +159,7 @@ fn run_all<
     };
     let k = seats.len();
     let script = shared.script(k);
-    let number = k as u32 + 1;
+    let number = k as u64 + 1;
     let started = start(scope, shared, seat, script, number);
     run_all(scope, shared, seats, logs, runs);
     let runner = &shared.runner;

@@ -70,4 +70,4 @@ returns-in_default-clause-err g c =
     subst IsPlannerCount (sym many) (c.if-not-is_planner_count.ensures.0 refl)
 
 pub invariant_of-runner : goal.invariant_of-runner
-invariant_of-runner g c = (c.requires.few, (c.if-not-is_planner_count.ensures.0 refl).1)
+invariant_of-runner g c = c.requires.few

@@ -50,7 +50,6 @@ run_scoped-logs-requires-after_bounds g c κs within =
     record {
       numbered = subst (λ (n : ℕ). AreSeats n seats) (sym many) c.requires.seats;
       each = scripts ∙ c.requires.each ∙ sym many;
-      planners = omega (arith, many, c.requires.planners);
       no_log = c.in-Ok.ensures.items;
       no_run = c.in-Ok-with_capacity.ensures.items;
       room_for_logs = omega (arith, c.in-Ok.ensures.capacity, long);
