@@ -49,11 +49,7 @@ impl<A: Allocator + Copy + Drop> Model for Merger<A> {
 
 impl<A: Allocator + Copy + Drop> Merger<A> {
     /// Opens a desk with what is begun with. That is freed on a fault.
-    pub(crate) fn begin(
-        alloc: A,
-        keys: Keys,
-        input: MergeInput<A>,
-    ) -> Result<Merger<A>, CliFault>
+    pub(crate) fn begin(alloc: A, keys: Keys, input: MergeInput<A>) -> Result<Merger<A>, CliFault>
         ensures { MatchResult result (IsBegun input) (IsNoDesk input) }
     {
         let is_resumed = input.opening.is_resumed();

@@ -167,7 +167,7 @@ impl<'a, S: Session, R: Wait + Drop, A: Allocator + Copy + Drop> Transaction<'a,
     /// Ends it by its writes and revisions, which are applied and published where it is answered Committed. Each answer makes one entry and one
     /// item of the planner's log, and shows the planner all commits up to the entry. On a stop the transaction is handed back. Where memory
     /// ran out it is as it was. On `Full` its planner has seen the full history, maybe more than before, and nothing else of it has changed. Waits
-    /// for the lock, and for readers that still look at the board from before.
+    /// for the lock, for readers that still look at the board from before, and, though nothing leads to it, for the list, for room or for a place.
     pub fn commit<W: Wait>(
         self,
         rt: &W,
@@ -188,7 +188,8 @@ impl<'a, S: Session, R: Wait + Drop, A: Allocator + Copy + Drop> Transaction<'a,
     }
 
     /// Ends it without its writes and revisions. The answer makes one entry, which is Withdrawn, and one item of the planner's log, and shows
-    /// the planner all commits up to the entry. On a stop the transaction is handed back, as by `commit`. Waits for the lock.
+    /// the planner all commits up to the entry. On a stop the transaction is handed back, as by `commit`. Waits for the lock, and,
+    /// though nothing leads to it, for the list and for a place.
     pub fn abort<W: Wait>(
         self,
         rt: &W,
