@@ -1,7 +1,8 @@
-pub mod PlanFiles
+pub mod Apart
+pub mod Each
+pub mod History
 pub mod MergeFiles
 pub mod MergeReadings
-pub mod Apart
-pub mod History
-pub mod EngineRuns
-pub mod InfoRun
+pub mod Opening
+pub mod Reading
+pub mod Views

@@ -1,10 +1,8 @@
 pub mod Ending
 pub mod Files
 pub mod Histories
-pub mod Options
-pub mod PlanInputs
-pub mod PlanRun
 pub mod MergeRun
-pub mod Retries
+pub mod OpenFiles
+pub mod PlanRun
 pub mod Runs
-pub mod Inside
+pub mod Sources

@@ -1,49 +1,44 @@
 //! The inputs, looked at again for the lines that explain a fault.
-use clap::ArgMatches;
+use crate::histories::kept_path;
+use crate::paths::path_of;
 use pit_cli::Input;
-use pit_command::{Engine, continue_path, history_path, path_of};
+use pit_command::Command;
 use pit_explain::{Given, holder_in};
 use pit_file::{HostNames, Place, found};
 use std::io::ErrorKind;
 use std::path::Path;
 use std::{fs, io};
 
-/// The words of the command line, and the files that they name.
+/// What the words ask for, and the files that they name.
 #[derive(Drop)]
 pub struct Looked<'a, 'b> {
     rt: &'a HostRuntime,
-    engine: Engine,
-    given: &'a ArgMatches<'b>,
+    command: &'a Command<'b>,
 }
 
 impl<'a, 'b> Looked<'a, 'b> {
-    /// The files that these words name for this engine.
-    pub fn new(rt: &'a HostRuntime, engine: Engine, given: &'a ArgMatches<'b>) -> Looked<'a, 'b> {
-        Looked { rt, engine, given }
+    /// The files that a command names.
+    pub fn new(rt: &'a HostRuntime, command: &'a Command<'b>) -> Looked<'a, 'b> {
+        Looked { rt, command }
     }
 
     /// Whether it is `value` or `check`, whose answer may hang on what the model passes over.
     pub fn tells_value(&self) -> bool {
-        matches!(
-            self.engine,
-            Engine::Value | Engine::Check | Engine::CheckAll
-        )
+        matches!(self.command, Command::Value(_) | Command::Check(_))
     }
 }
 
 /// Only a regular file is read again: a pipe gave what it had.
 impl<'a, 'b> Given for Looked<'a, 'b> {
     fn path(&self, input: Input) -> Option<&str> {
-        path_of(self.given, input)
+        path_of(self.command, input)
     }
 
     fn history(&self) -> Option<&str> {
-        if !matches!(self.engine, Engine::Plan | Engine::Merge) {
-            return None;
-        }
-        match history_path(self.given) {
-            Some(path) => Some(path),
-            None => continue_path(self.given),
+        match self.command {
+            Command::Plan(words) => kept_path(&words.origin),
+            Command::Merge(words) => kept_path(&words.origin),
+            _ => None,
         }
     }
 
@@ -75,7 +70,7 @@ impl<'a, 'b> Given for Looked<'a, 'b> {
     }
 
     fn read(&self, input: Input) -> io::Result<Vec<u8>> {
-        let Some(path) = path_of(self.given, input) else {
+        let Some(path) = path_of(self.command, input) else {
             return Err(io::Error::from(ErrorKind::NotFound));
         };
         let found = fs::metadata(self.rt, path)?;

@@ -8,20 +8,20 @@ mod histories;
 mod looked;
 mod merge_files;
 mod merges;
-mod options;
-mod plan_files;
+mod paths;
+mod plan_texts;
 mod plans;
-mod retries;
 mod runs;
+mod source_files;
+mod sources;
 mod streams;
 mod system_disk;
 mod words;
 
-use clap::error::ErrorKind;
 use fault::Fault;
 use looked::Looked;
 use pit_cli::{CliFault, Status};
-use pit_command::{Engine, asked, has_conflict, has_many, matched, refusal};
+use pit_command::{Command, asked, matched, refusal};
 use pit_explain::{Watched, explain};
 use pit_num::{Out, Sink};
 use pit_step::{Text, empty_text};
@@ -50,39 +50,23 @@ fn answer<R: Threads + Wait + Sync>(
 ) -> Result<Status, Fault> {
     let words = words::words(rt)?;
     let matches = matched(rt.alloc(), words.as_slice())?;
-    let Some((engine, given)) = asked(&matches) else {
-        let refused = refusal(rt.alloc(), ErrorKind::MissingSubcommand);
-        return Err(Fault::from(refused));
+    let command = match asked(&matches) {
+        Ok(command) => command,
+        Err(kind) => return Err(Fault::from(refusal(rt.alloc(), kind))),
     };
-    if has_conflict(given) {
-        let refused = refusal(rt.alloc(), ErrorKind::ArgumentConflict);
-        return Err(Fault::from(refused));
-    }
-    if has_many(given) {
-        let refused = refusal(rt.alloc(), ErrorKind::TooManyValues);
-        return Err(Fault::from(refused));
-    }
     let disk = SystemDisk::new(rt);
     let mut out = Out::new(rt.stdout());
     let is_terminal = rt.stderr().is_terminal();
-    let mut report = Watched::new(Out::new(rt.stderr()), is_watched(is_terminal, engine));
-    let answer = run(
-        threads,
-        rt.alloc(),
-        &disk,
-        engine,
-        given,
-        &mut out,
-        &mut report,
-    );
-    let looked = Looked::new(rt, engine, given);
+    let mut report = Watched::new(Out::new(rt.stderr()), is_watched(is_terminal, &command));
+    let answer = run(threads, rt.alloc(), &disk, &command, &mut out, &mut report);
+    let looked = Looked::new(rt, &command);
     note(rt, is_terminal, &answer, &looked, &report, notes);
     Ok(answer?)
 }
 
 /// Whether a person is told what helps against a refusal: where there is a terminal, and the report is of jobs.
-fn is_watched(is_terminal: bool, engine: Engine) -> bool {
-    is_terminal && matches!(engine, Engine::Plan)
+fn is_watched(is_terminal: bool, command: &Command<'_>) -> bool {
+    is_terminal && matches!(command, Command::Plan(_))
 }
 
 /// On a terminal, notes on a fault; on what a model passes over, where its value was told; or on a refusal in a report.

@@ -4,17 +4,16 @@ ghost use Rattle.std.specs.Prelude.{◌≡◌, ◌≤◌, true, false, length, i
 ghost use Rattle.pit_step.specs.Steps.{IsResultOf};
 ghost use Rattle.pit_step.specs.Devices.{writing_of, known_if};
 ghost use Rattle.pit_output.specs.Outputs.{keeping_of};
-ghost use Rattle.pit_command.specs.Asked.{edits_of, edits_max};
-ghost use Rattle.pit.specs.PlanRun.{told_of};
-ghost use Rattle.pit.specs.MergeRun.{AreMergeOptions, merge_by, held_merge};
-ghost use Rattle.pit.specs.Runs.{IsMergeRun};
+ghost use Rattle.pit_command.specs.Words.{edits_max};
+ghost use Rattle.pit.specs.Histories.{is_continued};
+ghost use Rattle.pit.specs.MergeRun.{merge_by, merge_options, held_merge};
 
 use crate::files::Disk;
-use crate::histories::{is_carried_on, is_history_there, let_go, prepared};
+use crate::histories::{is_continued, is_history_there, let_go, prepared};
 use crate::merge_files::merge_files;
-use clap::ArgMatches;
+use crate::sources::merge_sources;
 use pit_cli::{CliFault, MergeInput, MergeOptions, Status, merge};
-use pit_command::{from_of, is_partial};
+use pit_command::MergeWords;
 use pit_num::Sink;
 use std::alloc::Global;
 
@@ -22,48 +21,39 @@ use std::alloc::Global;
 pub fn run_merge<D: Disk, W: Sink, L: Sink>(
     alloc: Global,
     disk: &D,
-    given: &ArgMatches<'_>,
+    words: &MergeWords<'_>,
     out: &mut W,
     report: &mut L,
 ) -> Result<Status, CliFault>
-    requires few { length (edits_of given.now) ≤ edits_max }
+    requires few { length words.now.edits.now ≤ edits_max }
     ensures { let written = writing_of (W.contents out.old) (W.contents out.new) (W.has_failed out.new) in
         let lines = writing_of (L.contents report.old) (L.contents report.new) (L.has_failed report.new) in
-        let told = told_of (D.opens_at disk.now) (D.bytes_at disk.now) (D.meets_at disk.now) (D.is_there_at disk.now) (D.refusal_at disk.now) given.now in
-        IsMergeRun told given.now ((out.new ≡ out.old) × (report.new ≡ report.old)) written lines result }
+        IsResultOf (merge_by (is_continued words.now.origin) (D.told disk.now) words.now (merge_options words.now) written lines ((out.new ≡ out.old) × (report.new ≡ report.old))) tt result }
 {
-    let options = options_of(given);
-    if is_carried_on(given) {
-        return carry_on(alloc, disk, given, options, out, report);
+    let options = MergeOptions {
+        from: words.from,
+        is_partial: words.is_partial,
+    };
+    if is_continued(&words.origin) {
+        return carry_on(alloc, disk, words, options, out, report);
     }
-    begin(alloc, disk, given, options, out, report)
-}
-
-/// How the words have edits merged.
-fn options_of(given: &ArgMatches<'_>) -> MergeOptions
-    ensures { AreMergeOptions given.now result }
-{
-    MergeOptions {
-        from: from_of(given),
-        is_partial: is_partial(given),
-    }
+    begin(alloc, disk, words, options, out, report)
 }
 
 fn begin<D: Disk, W: Sink, L: Sink>(
     alloc: Global,
     disk: &D,
-    given: &ArgMatches<'_>,
+    words: &MergeWords<'_>,
     options: MergeOptions,
     out: &mut W,
     report: &mut L,
 ) -> Result<Status, CliFault>
-    requires few { length (edits_of given.now) ≤ edits_max }
+    requires few { length words.now.edits.now ≤ edits_max }
     ensures { let written = writing_of (W.contents out.old) (W.contents out.new) (W.has_failed out.new) in
         let lines = writing_of (L.contents report.old) (L.contents report.new) (L.has_failed report.new) in
-        let told = told_of (D.opens_at disk.now) (D.bytes_at disk.now) (D.meets_at disk.now) (D.is_there_at disk.now) (D.refusal_at disk.now) given.now in
-        IsResultOf (merge_by false told given.now options written lines ((out.new ≡ out.old) × (report.new ≡ report.old))) tt result }
+        IsResultOf (merge_by false (D.told disk.now) words.now options written lines ((out.new ≡ out.old) × (report.new ≡ report.old))) tt result }
 {
-    let mut files = match merge_files(alloc, disk, given, false) {
+    let mut files = match merge_files(alloc, disk, words, false) {
         Ok(files) => files,
         Err(fault) => return Err(fault),
     };
@@ -78,7 +68,7 @@ fn begin<D: Disk, W: Sink, L: Sink>(
         Ok(input) => input,
         Err(fault) => return Err(fault),
     };
-    let mut history = match prepared(disk, given) {
+    let mut history = match prepared(disk, &words.origin) {
         Ok(history) => history,
         Err(fault) => return Err(fault),
     };
@@ -92,30 +82,29 @@ fn begin<D: Disk, W: Sink, L: Sink>(
         report,
         &mut history,
     );
-    let_go(disk, given, &mut history, &answer);
+    let_go(disk, &merge_sources(words, false), &mut history, &answer);
     answer
 }
 
 fn carry_on<D: Disk, W: Sink, L: Sink>(
     alloc: Global,
     disk: &D,
-    given: &ArgMatches<'_>,
+    words: &MergeWords<'_>,
     options: MergeOptions,
     out: &mut W,
     report: &mut L,
 ) -> Result<Status, CliFault>
-    requires few { length (edits_of given.now) ≤ edits_max }
+    requires few { length words.now.edits.now ≤ edits_max }
     ensures { let written = writing_of (W.contents out.old) (W.contents out.new) (W.has_failed out.new) in
         let lines = writing_of (L.contents report.old) (L.contents report.new) (L.has_failed report.new) in
-        let told = told_of (D.opens_at disk.now) (D.bytes_at disk.now) (D.meets_at disk.now) (D.is_there_at disk.now) (D.refusal_at disk.now) given.now in
-        IsResultOf (merge_by true told given.now options written lines ((out.new ≡ out.old) × (report.new ≡ report.old))) tt result }
+        IsResultOf (merge_by true (D.told disk.now) words.now options written lines ((out.new ≡ out.old) × (report.new ≡ report.old))) tt result }
 {
-    let mut history = match prepared(disk, given) {
+    let mut history = match prepared(disk, &words.origin) {
         Ok(history) => history,
         Err(fault) => return Err(fault),
     };
-    let answer = merge_held(alloc, disk, given, options, out, report, &mut history);
-    let_go(disk, given, &mut history, &answer);
+    let answer = merge_held(alloc, disk, words, options, out, report, &mut history);
+    let_go(disk, &merge_sources(words, false), &mut history, &answer);
     answer
 }
 
@@ -123,22 +112,21 @@ fn carry_on<D: Disk, W: Sink, L: Sink>(
 fn merge_held<D: Disk, W: Sink, L: Sink>(
     alloc: Global,
     disk: &D,
-    given: &ArgMatches<'_>,
+    words: &MergeWords<'_>,
     options: MergeOptions,
     out: &mut W,
     report: &mut L,
     history: &mut Option<D::History>,
 ) -> Result<Status, CliFault>
-    requires few { length (edits_of given.now) ≤ edits_max }
+    requires few { length words.now.edits.now ≤ edits_max }
     ensures done { let written = writing_of (W.contents out.old) (W.contents out.new) (W.has_failed out.new) in
         let lines = writing_of (L.contents report.old) (L.contents report.new) (L.has_failed report.new) in
         let kept = known_if (λ old new. keeping_of (D.History.state old) (D.History.state new)) history.old history.new in
-        let told = told_of (D.opens_at disk.now) (D.bytes_at disk.now) (D.meets_at disk.now) (D.is_there_at disk.now) (D.refusal_at disk.now) given.now in
-        IsResultOf (held_merge told given.now options written lines kept ((out.new ≡ out.old) × (report.new ≡ report.old))) tt result }
+        IsResultOf (held_merge (D.told disk.now) words.now options written lines kept ((out.new ≡ out.old) × (report.new ≡ report.old))) tt result }
     ensures same { is_some history.new ≡ is_some history.old }
 {
-    let is_there = is_history_there(disk, given);
-    let mut files = match merge_files(alloc, disk, given, is_there) {
+    let is_there = is_history_there(disk, &words.origin);
+    let mut files = match merge_files(alloc, disk, words, is_there) {
         Ok(files) => files,
         Err(fault) => return Err(fault),
     };

@@ -5,15 +5,15 @@ ghost use Rattle.pit_job.specs.declared.planner_run.TheConstants.{RETRIES_MAX};
 ghost use Rattle.pit_step.specs.Steps.{IsResultOf};
 ghost use Rattle.pit_step.specs.Devices.{writing_of, known_if};
 ghost use Rattle.pit_output.specs.Outputs.{keeping_of};
-ghost use Rattle.pit.specs.PlanRun.{told_of, plan_by, held_run};
-ghost use Rattle.pit.specs.Runs.{IsPlanRun};
+ghost use Rattle.pit.specs.Histories.{is_continued};
+ghost use Rattle.pit.specs.PlanRun.{plan_by, plan_options, held_run};
 
 use crate::files::Disk;
-use crate::histories::{is_carried_on, is_history_there, let_go, prepared};
-use crate::options::options_of;
-use crate::plan_files::plan_input;
-use clap::ArgMatches;
+use crate::histories::{is_continued, is_history_there, let_go, prepared};
+use crate::plan_texts::plan_input;
+use crate::sources::plan_sources;
 use pit_cli::{CliFault, PlanOptions, Status, plan};
+use pit_command::PlanWords;
 use pit_num::Sink;
 use std::alloc::Global;
 use std::sync::Wait;
@@ -24,27 +24,31 @@ pub fn run_plan<D: Disk, R: Threads + Wait + Sync, W: Sink, L: Sink>(
     rt: &R,
     alloc: Global,
     disk: &D,
-    given: &ArgMatches<'_>,
+    words: &PlanWords<'_>,
     out: &mut W,
     report: &mut L,
 ) -> Result<Status, CliFault>
+    requires few { words.now.retries ≤ RETRIES_MAX }
     ensures { let written = writing_of (W.contents out.old) (W.contents out.new) (W.has_failed out.new) in
         let lines = writing_of (L.contents report.old) (L.contents report.new) (L.has_failed report.new) in
-        let told = told_of (D.opens_at disk.now) (D.bytes_at disk.now) (D.meets_at disk.now) (D.is_there_at disk.now) (D.refusal_at disk.now) given.now in
-        IsPlanRun told given.now ((out.new ≡ out.old) × (report.new ≡ report.old)) written lines result }
+        IsResultOf (plan_by (is_continued words.now.origin) (D.told disk.now) words.now (plan_options words.now) written lines ((out.new ≡ out.old) × (report.new ≡ report.old))) tt result }
 {
-    let options = options_of(given);
-    if is_carried_on(given) {
-        return carry_on(rt, alloc, disk, given, options, out, report);
+    let options = PlanOptions {
+        retries: words.retries,
+        is_in_turn: words.is_in_turn,
+        is_strict: words.is_strict,
+    };
+    if is_continued(&words.origin) {
+        return carry_on(rt, alloc, disk, words, options, out, report);
     }
-    begin(rt, alloc, disk, given, options, out, report)
+    begin(rt, alloc, disk, words, options, out, report)
 }
 
 fn begin<D: Disk, R: Threads + Wait + Sync, W: Sink, L: Sink>(
     rt: &R,
     alloc: Global,
     disk: &D,
-    given: &ArgMatches<'_>,
+    words: &PlanWords<'_>,
     options: PlanOptions,
     out: &mut W,
     report: &mut L,
@@ -52,19 +56,18 @@ fn begin<D: Disk, R: Threads + Wait + Sync, W: Sink, L: Sink>(
     requires few { options.retries ≤ RETRIES_MAX }
     ensures { let written = writing_of (W.contents out.old) (W.contents out.new) (W.has_failed out.new) in
         let lines = writing_of (L.contents report.old) (L.contents report.new) (L.has_failed report.new) in
-        let told = told_of (D.opens_at disk.now) (D.bytes_at disk.now) (D.meets_at disk.now) (D.is_there_at disk.now) (D.refusal_at disk.now) given.now in
-        IsResultOf (plan_by false told given.now options written lines ((out.new ≡ out.old) × (report.new ≡ report.old))) tt result }
+        IsResultOf (plan_by false (D.told disk.now) words.now options written lines ((out.new ≡ out.old) × (report.new ≡ report.old))) tt result }
 {
-    let input = match plan_input(alloc, disk, given, false) {
+    let input = match plan_input(alloc, disk, words, false) {
         Ok(input) => input,
         Err(fault) => return Err(fault),
     };
-    let mut history = match prepared(disk, given) {
+    let mut history = match prepared(disk, &words.origin) {
         Ok(history) => history,
         Err(fault) => return Err(fault),
     };
     let answer = plan(rt, alloc, alloc, input, options, out, report, &mut history);
-    let_go(disk, given, &mut history, &answer);
+    let_go(disk, &plan_sources(words, false), &mut history, &answer);
     answer
 }
 
@@ -72,7 +75,7 @@ fn carry_on<D: Disk, R: Threads + Wait + Sync, W: Sink, L: Sink>(
     rt: &R,
     alloc: Global,
     disk: &D,
-    given: &ArgMatches<'_>,
+    words: &PlanWords<'_>,
     options: PlanOptions,
     out: &mut W,
     report: &mut L,
@@ -80,15 +83,14 @@ fn carry_on<D: Disk, R: Threads + Wait + Sync, W: Sink, L: Sink>(
     requires few { options.retries ≤ RETRIES_MAX }
     ensures { let written = writing_of (W.contents out.old) (W.contents out.new) (W.has_failed out.new) in
         let lines = writing_of (L.contents report.old) (L.contents report.new) (L.has_failed report.new) in
-        let told = told_of (D.opens_at disk.now) (D.bytes_at disk.now) (D.meets_at disk.now) (D.is_there_at disk.now) (D.refusal_at disk.now) given.now in
-        IsResultOf (plan_by true told given.now options written lines ((out.new ≡ out.old) × (report.new ≡ report.old))) tt result }
+        IsResultOf (plan_by true (D.told disk.now) words.now options written lines ((out.new ≡ out.old) × (report.new ≡ report.old))) tt result }
 {
-    let mut history = match prepared(disk, given) {
+    let mut history = match prepared(disk, &words.origin) {
         Ok(history) => history,
         Err(fault) => return Err(fault),
     };
-    let answer = carry_on_held(rt, alloc, disk, given, options, out, report, &mut history);
-    let_go(disk, given, &mut history, &answer);
+    let answer = carry_on_held(rt, alloc, disk, words, options, out, report, &mut history);
+    let_go(disk, &plan_sources(words, false), &mut history, &answer);
     answer
 }
 
@@ -97,7 +99,7 @@ fn carry_on_held<D: Disk, R: Threads + Wait + Sync, W: Sink, L: Sink>(
     rt: &R,
     alloc: Global,
     disk: &D,
-    given: &ArgMatches<'_>,
+    words: &PlanWords<'_>,
     options: PlanOptions,
     out: &mut W,
     report: &mut L,
@@ -107,12 +109,11 @@ fn carry_on_held<D: Disk, R: Threads + Wait + Sync, W: Sink, L: Sink>(
     ensures done { let written = writing_of (W.contents out.old) (W.contents out.new) (W.has_failed out.new) in
         let lines = writing_of (L.contents report.old) (L.contents report.new) (L.has_failed report.new) in
         let kept = known_if (λ old new. keeping_of (D.History.state old) (D.History.state new)) history.old history.new in
-        let told = told_of (D.opens_at disk.now) (D.bytes_at disk.now) (D.meets_at disk.now) (D.is_there_at disk.now) (D.refusal_at disk.now) given.now in
-        IsResultOf (held_run told given.now options written lines kept ((out.new ≡ out.old) × (report.new ≡ report.old))) tt result }
+        IsResultOf (held_run (D.told disk.now) words.now options written lines kept ((out.new ≡ out.old) × (report.new ≡ report.old))) tt result }
     ensures same { is_some history.new ≡ is_some history.old }
 {
-    let is_there = is_history_there(disk, given);
-    let input = match plan_input(alloc, disk, given, is_there) {
+    let is_there = is_history_there(disk, &words.origin);
+    let input = match plan_input(alloc, disk, words, is_there) {
         Ok(input) => input,
         Err(fault) => return Err(fault),
     };

@@ -1,4 +1,4 @@
-ghost use Rattle.std.specs.Prelude.{None};
+ghost use Rattle.pit.specs.Files.{nothing_told};
 
 use crate::files::Disk;
 use pit_file::{
@@ -28,15 +28,7 @@ impl<'a> Disk for SystemDisk<'a> {
 
     type History = HistoryOutput<Out<File>, HostNames<'a>>;
 
-    ghost opens_at = { λ _ _. None };
-
-    ghost bytes_at = { λ _ _. None };
-
-    ghost is_there_at = { λ _ _. None };
-
-    ghost meets_at = { λ _ _ _. None };
-
-    ghost refusal_at = { λ _ _ _. None };
+    ghost told = { λ _. nothing_told };
 
     fn open(&self, path: &str) -> io::Result<File> {
         File::open(self.rt, path)

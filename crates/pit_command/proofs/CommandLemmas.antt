@@ -4,7 +4,7 @@ use Rattle.std.specs.Option.{option_map_or}
 use Rattle.std.proofs.lemmas.List.Elements.{All-from_recursion}
 use Rattle.pit_step.specs.declared.input.Input.{Input}
 use Rattle.pit_step.specs.declared.input.Input.TheVariants.{Model, Precedence, Solution, Script, History, Schedule, Old, New, Edit}
-use Rattle.pit_command.specs.Asked.{argument_of}
+use Rattle.pit_command.specs.Inputs.{argument_of}
 use Rattle.clap.specs.Walk.{Row, Text, nothing_held, walk, walk_from, settled, finished, rows_after, rows_of}
 use Rattle.clap.specs.Matches.{found_of}
 use Rattle.clap.specs.Takes.{is_given}

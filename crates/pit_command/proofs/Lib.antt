@@ -1,3 +1,4 @@
 pub mod CommandLemmas
+pub mod Lacking
 pub mod Numbers
 pub mod Table

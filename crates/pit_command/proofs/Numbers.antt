@@ -3,7 +3,7 @@ use Rattle.std.proofs.Common.{◌≡◌, ℕ, List, Option, None, Some, Result, 
 use Rattle.std.specs.Str.Parse.{ParsesUnsigned}
 use Rattle.clap.specs.Matches.{found_of, one_text, ReadsOne}
 use Rattle.clap.specs.declared.parser.matches.ArgMatches.{ArgMatches}
-use Rattle.pit_command.specs.Asked.{ReadsAs, IsNumber}
+use Rattle.pit_command.specs.Words.{ReadsAs, IsNumber}
 
 module _ (E : Type 0) (bits : ℕ) (G : List ℕ → Result ℕ E → Type 0) (only : (u : List ℕ) (x : Result ℕ E) → G u x → ParsesUnsigned bits 10 u x) where
   reads_as : (text : List ℕ) (o : Option ℕ) → ReadsOne G text o → ReadsAs bits text o

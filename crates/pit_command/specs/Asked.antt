@@ -1,115 +1,71 @@
 -- What the words of the command line ask for.
-use Rattle.std.specs.Prelude.{◌≡◌, ℕ, zero, suc, nat_lt, Bool, true, false, ◌&&◌, ◌||◌, List, [], ◌∷◌, length, Option, None, Some, is_some, Ok, Err, unwrap_or, option_map, slice_get, codes}
-use Rattle.std.specs.Map.{lookup}
+use Rattle.std.specs.Prelude.{◌≡◌, ◌≤◌, ◌⊎◌, ⊤, length, ℕ, true, false, List, [], ◌∷◌, None, Some, option_map, codes}
+use Rattle.std.specs.List.{list_any}
 use Rattle.std.specs.Str.{bytes_eq}
-use Rattle.clap.specs.Matches.{found_of, first_value, matched_of, raw_values, one_text}
-use Rattle.std.specs.Str.Parse.{ParsesUnsigned}
+use Rattle.clap.specs.Matches.{found_of, subcommand_name_of}
+use Rattle.clap.specs.Walk.{rows_of}
+use Rattle.clap.specs.Simple.{subcommand_rows_of}
+use Rattle.clap.specs.declared.error.kind.ErrorKind.{ErrorKind}
+use Rattle.clap.specs.declared.error.kind.ErrorKind.TheVariants.{MissingSubcommand}
 use Rattle.clap.specs.declared.parser.matches.ArgMatches.{ArgMatches}
 use Rattle.pit_step.specs.declared.input.Input.{Input}
-use Rattle.pit_step.specs.declared.input.Input.TheVariants.{Model, Precedence, Blocks, Start, Solution, Script, History, Schedule, Old, New, Edit}
-use Rattle.pit_command.specs.declared.engine.Engine.{Engine}
-use Rattle.pit_command.specs.declared.engine.Engine.TheVariants.{Value, Check, CheckAll, Table, Diff, Info, Show, Plan, Replay, Log, Merge}
+use Rattle.pit_command.specs.declared.commands.Command.{Command}
+use Rattle.pit_command.specs.declared.commands.Command.TheVariants.{Value, Check, Table, Diff, Info, Show, Plan, Replay, Log, Merge}
+use Rattle.pit_command.specs.Inputs.{subcommands, value_inputs, check_inputs, table_inputs, diff_inputs, pit_inputs, show_inputs, replay_inputs, log_inputs}
+use Rattle.pit_command.specs.Words.{IsLacking, AreValueWords, AreCheckWords, AreTableWords, AreDiffWords, AreInfoWords, AreShowWords, ArePlanWords, AreReplayWords, AreLogWords, AreMergeWords, IsPlanFault, IsMergeFault, edits_max, retries_max}
 
--- the subcommands, each with the engine that it asks for
-abbrev pub engines : List (List ℕ × Engine)
-engines =
-    (codes "value", Value) ∷ (codes "check", Check) ∷ (codes "table", Table) ∷ (codes "diff", Diff) ∷ (codes "info", Info) ∷ (codes "show", Show)
-    ∷ (codes "plan", Plan) ∷ (codes "replay", Replay) ∷ (codes "log", Log) ∷ (codes "merge", Merge) ∷ []
+-- the subcommand of this name, with these words, asks for a command
+abbrev pub Asks : List ℕ → ArgMatches → Command → Type 0
+Asks name given (Value words) = (bytes_eq name (codes "value") ≡ true) × AreValueWords given words
+Asks name given (Check words) = (bytes_eq name (codes "check") ≡ true) × AreCheckWords given words
+Asks name given (Table words) = (bytes_eq name (codes "table") ≡ true) × AreTableWords given words
+Asks name given (Diff words) = (bytes_eq name (codes "diff") ≡ true) × AreDiffWords given words
+Asks name given (Info words) = (bytes_eq name (codes "info") ≡ true) × AreInfoWords given words
+Asks name given (Show words) = (bytes_eq name (codes "show") ≡ true) × AreShowWords given words
+Asks name given (Plan words) = (bytes_eq name (codes "plan") ≡ true) × ArePlanWords given words
+Asks name given (Replay words) = (bytes_eq name (codes "replay") ≡ true) × AreReplayWords given words
+Asks name given (Log words) = (bytes_eq name (codes "log") ≡ true) × AreLogWords given words
+Asks name given (Merge words) = (bytes_eq name (codes "merge") ≡ true) × AreMergeWords given words
 
-unfoldable pub engine_of : List ℕ → Option Engine
-engine_of name = lookup (bytes_eq name) engines
+-- no subcommand has this name
+abbrev pub IsUnknown : List ℕ → ErrorKind → Type 0
+IsUnknown name kind = (list_any (λ known. bytes_eq name known.0) subcommands ≡ false) × (kind ≡ MissingSubcommand)
 
--- with the flag of `check`
-abbrev pub with_all : Bool → Engine → Engine
-with_all true Check = CheckAll
-with_all all engine = engine
+-- a view of this name, with these words, wants a path; `clap` has seen to it that none does
+abbrev pub IsShort : List (List ℕ × List Input) → List ℕ → ArgMatches → ErrorKind → Type 0
+IsShort [] name given kind = ⊥
+IsShort (view ∷ others) name given kind = ((bytes_eq name view.0 ≡ true) × IsLacking given view.1 kind) ⊎ IsShort others name given kind
 
--- the inputs that an engine always has, in the order of the words
-abbrev pub inputs_of : Engine → List Input
-inputs_of Value = Model ∷ Solution ∷ []
-inputs_of Check = Model ∷ Precedence ∷ Solution ∷ []
-inputs_of CheckAll = Model ∷ Precedence ∷ Schedule ∷ []
-inputs_of Table = Model ∷ Schedule ∷ []
-inputs_of Diff = Model ∷ Old ∷ New ∷ []
-inputs_of Info = Model ∷ Precedence ∷ []
-inputs_of Show = Model ∷ Schedule ∷ []
-inputs_of Plan = Model ∷ Precedence ∷ Script 1 ∷ []
-inputs_of Replay = Model ∷ Precedence ∷ History ∷ []
-inputs_of Log = Model ∷ Precedence ∷ History ∷ []
-inputs_of Merge = Model ∷ Precedence ∷ Edit 1 ∷ []
+abbrev pub views : List (List ℕ × List Input)
+views =
+    (codes "value", value_inputs) ∷ (codes "check", check_inputs) ∷ (codes "table", table_inputs) ∷ (codes "diff", diff_inputs) ∷ (codes "info", pit_inputs)
+    ∷ (codes "show", show_inputs) ∷ (codes "replay", replay_inputs) ∷ (codes "log", log_inputs) ∷ []
 
--- whether the words give a flag
-pub record IsFlag (given : ArgMatches) (name : List ℕ) (is_given : Bool) : Type 0 where
-  pub absent : one_text (found_of given) name ≡ None → is_given ≡ false
-  pub yes : one_text (found_of given) name ≡ Some (codes "true") → is_given ≡ true
-  pub no : one_text (found_of given) name ≡ Some (codes "false") → is_given ≡ false
+-- what the subcommand of this name, with these words, is refused for
+abbrev pub IsFaulty : List ℕ → ArgMatches → ErrorKind → Type 0
+IsFaulty name given kind =
+    IsUnknown name kind ⊎ (((bytes_eq name (codes "plan") ≡ true) × IsPlanFault given kind) ⊎ (((bytes_eq name (codes "merge") ≡ true) × IsMergeFault given kind)
+    ⊎ IsShort views name given kind))
 
--- the name of the argument for an input; of `plan` and `merge` the history is the one that is carried on
-abbrev pub argument_of : Input → List ℕ
-argument_of Model = codes "MODEL"
-argument_of Precedence = codes "PREC"
-argument_of Blocks = codes "blocks"
-argument_of Start = codes "start"
-argument_of Solution = codes "SOLUTION"
-argument_of (Script number) = codes "SCRIPT"
-argument_of History = codes "HISTORY"
-argument_of Schedule = codes "SOLUTION"
-argument_of Old = codes "OLD"
-argument_of New = codes "NEW"
-argument_of (Edit number) = codes "EDIT"
+-- the subcommand that the words name, and the words that are for it
+pub record AreBehind (matches : ArgMatches) (name : List ℕ) (given : ArgMatches) : Type 0 where
+  pub name_is : subcommand_name_of matches ≡ Some name
+  pub given_is : option_map (λ found. found.1) (subcommand_rows_of matches) ≡ Some (rows_of (found_of given))
 
--- the paths that the words give for scripts, and for edits
-unfoldable pub scripts_of : ArgMatches → List (List ℕ)
-scripts_of given = unwrap_or (option_map raw_values (matched_of (found_of given) (codes "SCRIPT"))) []
+-- the words ask for a command
+pub record IsAsked (matches : ArgMatches) (command : Command) : Type 0 where
+  pub name : List ℕ
+  pub given : ArgMatches
+  pub behind : AreBehind matches name given
+  pub asks : Asks name given command
 
-unfoldable pub edits_of : ArgMatches → List (List ℕ)
-edits_of given = unwrap_or (option_map raw_values (matched_of (found_of given) (codes "EDIT"))) []
+-- or they are refused
+abbrev pub IsRefusal : ArgMatches → ErrorKind → Type 0
+IsRefusal matches kind =
+    ((subcommand_name_of matches ≡ None) × (kind ≡ MissingSubcommand)) ⊎ ((name : List ℕ) × (given : ArgMatches) × AreBehind matches name given × IsFaulty name given kind)
 
-abbrev pub first_path : ArgMatches → Input → Option (List ℕ)
-first_path given input = first_value (found_of given) (argument_of input)
-
--- the path that the words give for an input; scripts and edits are numbered from 1
-unfoldable pub path_of : ArgMatches → Input → Option (List ℕ)
-path_of given (Script zero) = None
-path_of given (Script (suc i)) = slice_get (scripts_of given) i
-path_of given Model = first_path given Model
-path_of given Precedence = first_path given Precedence
-path_of given Blocks = first_path given Blocks
-path_of given Start = first_path given Start
-path_of given Solution = first_path given Solution
-path_of given History = first_path given History
-path_of given Schedule = first_path given Schedule
-path_of given Old = first_path given Old
-path_of given New = first_path given New
-path_of given (Edit zero) = None
-path_of given (Edit (suc i)) = slice_get (edits_of given) i
-
--- the path that the words give for the history that is written
-abbrev pub history_path : ArgMatches → Option (List ℕ)
-history_path given = first_value (found_of given) (codes "history")
-
--- the path that the words give for the history that is carried on
-abbrev pub continue_path : ArgMatches → Option (List ℕ)
-continue_path given = path_of given History
-
--- the words carry a history on, and name a start too, or another file for the history
-abbrev pub has_conflict : ArgMatches → Bool
-has_conflict given = is_some (continue_path given) && (is_some (path_of given Start) || is_some (history_path given))
-
--- how many edits one merge may have
-abbrev pub edits_max : ℕ
-edits_max = 64
-
--- the words name more
-abbrev pub has_many : ArgMatches → Bool
-has_many given = nat_lt edits_max (length (edits_of given))
-
--- a text is the number of its digits, if it is one of so many bits
-abbrev pub ReadsAs : ℕ → List ℕ → Option ℕ → Type 0
-ReadsAs bits text None = ParsesUnsigned {E = Unit {0}} bits 10 text (Err tt)
-ReadsAs bits text (Some n) = ParsesUnsigned {E = Unit {0}} bits 10 text (Ok n)
-
--- the number that the words give an option, if they give one and it is a number of so many bits
-pub record IsNumber (given : ArgMatches) (name : List ℕ) (bits : ℕ) (number : Option ℕ) : Type 0 where
-  pub absent : one_text (found_of given) name ≡ None → number ≡ None
-  pub present : (text : List ℕ) → one_text (found_of given) name ≡ Some text → ReadsAs bits text number
+-- no more edits are named, and no more retries wanted, than there may be
+abbrev pub IsInRange : Command → Type 0
+IsInRange (Plan words) = words.retries ≤ retries_max
+IsInRange (Merge words) = length words.edits.now ≤ edits_max
+IsInRange command = ⊤

@@ -11,11 +11,10 @@ use Rattle.clap.specs.declared.builder.action.ArgAction.TheVariants.{Append, Set
 use Rattle.clap.specs.declared.builder.value_parser.ValueParser.TheVariants.{Signed}
 use Rattle.pit_step.specs.declared.input.Input.{Input}
 use Rattle.pit_step.specs.declared.input.Input.TheVariants.{Model, Precedence, Blocks, Start, History, Schedule}
-use Rattle.pit_command.specs.declared.engine.Engine.TheVariants.{Value, Check, Table, Diff, Info, Show, Plan, Replay, Log, Merge}
 use Rattle.pit_command.specs.declared.rules.Argument.{Argument}
 use Rattle.pit_command.specs.declared.rules.Argument.TheVariants.{File, Schedule as ScheduleArgument, Option as InputOption, History as HistoryOption, Continued, All as AllFlag, Writes, InTurn, Strict, Partial, At, From, Retries, Scripts, Edits}
 use Rattle.pit_command.specs.declared.subcommand.Subcommand.{Subcommand}
-use Rattle.pit_command.specs.Asked.{argument_of, inputs_of}
+use Rattle.pit_command.specs.Inputs.{argument_of, subcommands, value_inputs, check_inputs, diff_inputs, replay_inputs, log_inputs}
 
 -- the argument for an input: a positional that is required
 abbrev pub file_rule : Input → Rule
@@ -26,7 +25,7 @@ abbrev pub engine_shape : List ℕ → List Input → Shape
 engine_shape name inputs = record (new_shape name) { rules = map file_rule inputs }
 
 abbrev pub value_shape : Shape
-value_shape = engine_shape (codes "value") (inputs_of Value)
+value_shape = engine_shape (codes "value") value_inputs
 
 -- a flag: `--name`
 abbrev pub flag_rule : List ℕ → Rule
@@ -37,13 +36,13 @@ abbrev pub flagged_shape : List ℕ → List ℕ → List Input → Shape
 flagged_shape name flag inputs = record (new_shape name) { rules = flag_rule flag ∷ map file_rule inputs }
 
 abbrev pub check_shape : Shape
-check_shape = flagged_shape (codes "check") (codes "all") (inputs_of Check)
+check_shape = flagged_shape (codes "check") (codes "all") check_inputs
 
 abbrev pub replay_shape : Shape
-replay_shape = engine_shape (codes "replay") (inputs_of Replay)
+replay_shape = engine_shape (codes "replay") replay_inputs
 
 abbrev pub log_shape : Shape
-log_shape = flagged_shape (codes "log") (codes "writes") (inputs_of Log)
+log_shape = flagged_shape (codes "log") (codes "writes") log_inputs
 
 -- the option for an input: `--name FILE`
 abbrev pub option_rule : Input → Rule
@@ -61,7 +60,7 @@ abbrev pub table_shape : Shape
 table_shape = record (new_shape (codes "table")) { rules = file_rule Model ∷ schedule_rule ∷ [] }
 
 abbrev pub diff_shape : Shape
-diff_shape = engine_shape (codes "diff") (inputs_of Diff)
+diff_shape = engine_shape (codes "diff") diff_inputs
 
 abbrev pub info_shape : Shape
 info_shape = record (new_shape (codes "info")) { rules = file_rule Model ∷ file_rule Precedence ∷ option_rule Blocks ∷ [] }
@@ -167,13 +166,6 @@ pit_app = app_with (value_shape ∷ check_shape ∷ table_shape ∷ diff_shape �
 -- the words gave the argument of each input
 abbrev pub GivesEach : List Input → List Row → Type 0
 GivesEach inputs rows = All (λ input. is_given (argument_of input) rows ≡ true) inputs
-
--- each subcommand, with the inputs that it requires
-abbrev pub subcommands : List (List ℕ × List Input)
-subcommands =
-    (codes "value", inputs_of Value) ∷ (codes "check", inputs_of Check) ∷ (codes "table", inputs_of Table) ∷ (codes "diff", inputs_of Diff)
-    ∷ (codes "info", inputs_of Info) ∷ (codes "show", inputs_of Show) ∷ (codes "plan", inputs_of Plan) ∷ (codes "replay", inputs_of Replay)
-    ∷ (codes "log", inputs_of Log) ∷ (codes "merge", inputs_of Merge) ∷ []
 
 -- the words name one of these, and give what it requires; or they ask for help
 abbrev pub IsAmong : List (List ℕ × List Input) → List ℕ × List Row → Type 0

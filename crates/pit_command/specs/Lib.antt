@@ -1,2 +1,4 @@
 pub mod Asked
 pub mod Command
+pub mod Inputs
+pub mod Words

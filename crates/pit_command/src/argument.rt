@@ -1,8 +1,10 @@
 //! The arguments of the command line, by the inputs and the output whose paths they are.
-ghost use Rattle.std.specs.Prelude.{◌≡◌, length, option_map, slice_get, codes};
-ghost use Rattle.pit_command.specs.Asked.{argument_of, path_of, scripts_of, edits_of, history_path, continue_path, has_conflict, has_many, IsNumber, IsFlag};
+ghost use Rattle.std.specs.Prelude.{◌≡◌, ◌≤◌, ◌∷◌, [], length, map, option_map, codes, false, IfOk, IfErr, OnOk, OnErr};
+ghost use Rattle.pit_command.specs.Inputs.{argument_of, path_of, paths_of, edits_of, history_path};
+ghost use Rattle.pit_command.specs.Words.{edits_max, has_many, AreNoEdits, IsLacking, retries_max, retries_in, IsRetries, IsNumber, IsFlag};
 
 use clap::ArgMatches;
+use clap::error::ErrorKind;
 use pit_step::Input;
 
 /// The name of the option for the number of retries.
@@ -54,91 +56,52 @@ pub(crate) fn argument_of<'a>(input: Input) -> &'a str
     }
 }
 
-/// The path that the words give for an input. Scripts and edits are numbered from 1.
-#[tactic(auto, unfolding(crate::specs::Asked::path_of))]
-pub fn path_of<'a>(given: &ArgMatches<'a>, input: Input) -> Option<&'a str>
+/// The path that the words give for an input; the first one, where they give several.
+pub(crate) fn path_of<'a>(given: &ArgMatches<'a>, input: Input) -> Option<&'a str>
     ensures { option_map (λ path. path.now) result ≡ path_of given.now input }
 {
-    match input {
-        Input::Script(0) => None,
-        Input::Script(number) => script_path(given, (number - 1) as usize),
-        Input::Edit(0) => None,
-        Input::Edit(number) => edit_path(given, (number - 1) as usize),
-        _ => given.get_str(argument_of(input)),
-    }
+    given.get_str(argument_of(input))
 }
 
-/// The path that the words give for a script, counted from 0.
-#[tactic(auto, unfolding(crate::specs::Asked::scripts_of))]
-fn script_path<'a>(given: &ArgMatches<'a>, i: usize) -> Option<&'a str>
-    ensures { option_map (λ path. path.now) result ≡ slice_get (scripts_of given.now) i }
+/// The path that the words give for the history that is written.
+pub(crate) fn history_path<'a>(given: &ArgMatches<'a>) -> Option<&'a str>
+    ensures { option_map (λ path. path.now) result ≡ history_path given.now }
 {
-    given
-        .get_strs(argument_of(Input::Script(1)))?
-        .get(i)
-        .copied()
+    given.get_str(HISTORY)
 }
 
-/// The path that the words give for an edit, counted from 0.
-#[tactic(auto, unfolding(crate::specs::Asked::edits_of))]
-fn edit_path<'a>(given: &ArgMatches<'a>, i: usize) -> Option<&'a str>
-    ensures { option_map (λ path. path.now) result ≡ slice_get (edits_of given.now) i }
+/// All paths that the words give for an input, which is required.
+pub(crate) fn paths_of<'m, 'a>(
+    given: &'m ArgMatches<'a>,
+    input: Input,
+) -> Result<&'m [&'a str], ErrorKind>
+    ensures ok { IfOk result (λ paths. map (λ path. path.now) paths.now ≡ paths_of given.now input) }
+    ensures none { OnErr result (paths_of given.now input ≡ []) }
+    ensures err { IfErr result (IsLacking given.now (input ∷ [])) }
 {
-    given.get_strs(argument_of(Input::Edit(1)))?.get(i).copied()
-}
-
-/// How many scripts the words name.
-#[tactic(auto, unfolding(crate::specs::Asked::scripts_of))]
-pub fn script_count(given: &ArgMatches<'_>) -> usize
-    ensures { result ≡ length (scripts_of given.now) }
-{
-    match given.get_strs(argument_of(Input::Script(1))) {
-        Some(paths) => paths.len(),
-        None => 0,
-    }
-}
-
-/// How many edits the words name.
-#[tactic(auto, unfolding(crate::specs::Asked::edits_of))]
-pub fn edit_count(given: &ArgMatches<'_>) -> usize
-    ensures { result ≡ length (edits_of given.now) }
-{
-    match given.get_strs(argument_of(Input::Edit(1))) {
-        Some(paths) => paths.len(),
-        None => 0,
+    match given.get_strs(argument_of(input)) {
+        Some(paths) => Ok(paths),
+        None => Err(ErrorKind::MissingRequiredArgument),
     }
 }
 
 /// How many edits one merge may have.
 const EDITS_MAX: usize = 64;
 
-/// Whether the words name more edits than one merge may have.
-pub fn has_many(given: &ArgMatches<'_>) -> bool
-    ensures { result ≡ has_many given.now }
+/// The paths that the words give for edits.
+pub(crate) fn edits_of<'m, 'a>(given: &'m ArgMatches<'a>) -> Result<&'m [&'a str], ErrorKind>
+    ensures ok { IfOk result (λ paths. (map (λ path. path.now) paths.now ≡ edits_of given.now) × (length paths.now ≤ edits_max)) }
+    ensures few { OnOk result (has_many given.now ≡ false) }
+    ensures err { IfErr result (AreNoEdits given.now) }
 {
-    edit_count(given) > EDITS_MAX
-}
-
-/// The path that the words give for the history that is written.
-pub fn history_path<'a>(given: &ArgMatches<'a>) -> Option<&'a str>
-    ensures { option_map (λ path. path.now) result ≡ history_path given.now }
-{
-    given.get_str(HISTORY)
-}
-
-/// The path that the words give `plan` or `merge` for the history that is carried on: it is read as an input, and written back.
-pub fn continue_path<'a>(given: &ArgMatches<'a>) -> Option<&'a str>
-    ensures { option_map (λ path. path.now) result ≡ continue_path given.now }
-{
-    path_of(given, Input::History)
-}
-
-/// Whether the words exclude one another: they carry a history on, and name a start too, or another file for the history.
-pub fn has_conflict(given: &ArgMatches<'_>) -> bool
-    ensures { result ≡ has_conflict given.now }
-{
-    continue_path(given).is_some()
-        && (path_of(given, Input::Start).is_some() || history_path(given).is_some())
+    let paths = match paths_of(given, Input::Edit(1)) {
+        Ok(paths) => paths,
+        Err(kind) => return Err(kind),
+    };
+    if paths.len() > EDITS_MAX {
+        return Err(ErrorKind::TooManyValues);
+    }
+    Ok(paths)
 }
 
 /// Whether the words ask for all that is wrong.
@@ -149,49 +112,74 @@ pub(crate) fn asks_all(given: &ArgMatches<'_>) -> bool
 }
 
 /// Whether the words ask `log` for what each commit wrote and revised.
-pub fn asks_writes(given: &ArgMatches<'_>) -> bool
+pub(crate) fn asks_writes(given: &ArgMatches<'_>) -> bool
     ensures { IsFlag given.now (codes "writes") result }
 {
     given.get_flag(WRITES)
 }
 
 /// Whether one thread does the scripts of all planners, one after another.
-pub fn is_in_turn(given: &ArgMatches<'_>) -> bool
+pub(crate) fn is_in_turn(given: &ArgMatches<'_>) -> bool
     ensures { IsFlag given.now (codes "in-turn") result }
 {
     given.get_flag(IN_TURN)
 }
 
 /// Whether a plan of which a job was refused has failed.
-pub fn is_strict(given: &ArgMatches<'_>) -> bool
+pub(crate) fn is_strict(given: &ArgMatches<'_>) -> bool
     ensures { IsFlag given.now (codes "strict") result }
 {
     given.get_flag(STRICT)
 }
 
 /// Whether what somebody else has changed is left out of an edit.
-pub fn is_partial(given: &ArgMatches<'_>) -> bool
+pub(crate) fn is_partial(given: &ArgMatches<'_>) -> bool
     ensures { IsFlag given.now (codes "partial") result }
 {
     given.get_flag(PARTIAL)
 }
 
 /// Of how many commits the words say that an edit was made.
-pub fn from_of(given: &ArgMatches<'_>) -> Option<u32>
+pub(crate) fn from_of(given: &ArgMatches<'_>) -> Option<u32>
     ensures { IsNumber given.now (codes "from") 32 result }
 {
     given.get_one(FROM)
 }
 
+/// How often a job may be repeated at most; the parser takes no greater number.
+const RETRIES_MAX: u32 = 1000;
+
+/// How often it is repeated where the words don't say it; the parser is told so, too.
+const RETRIES_UNSAID: u32 = 3;
+
+/// How often a job is repeated.
+pub(crate) fn retries_of(given: &ArgMatches<'_>) -> u32
+    ensures is { IsRetries given.now result }
+    ensures few { result ≤ retries_max }
+{
+    retries_in(retries_given(given))
+}
+
+fn retries_in(n: Option<u16>) -> u32
+    ensures is { result ≡ retries_in n }
+    ensures few { result ≤ retries_max }
+{
+    match n {
+        Some(n) if u32::from(n) <= RETRIES_MAX => u32::from(n),
+        Some(_) => RETRIES_MAX,
+        None => RETRIES_UNSAID,
+    }
+}
+
 /// The number of retries that the words give.
-pub fn retries_given(given: &ArgMatches<'_>) -> Option<u16>
+fn retries_given(given: &ArgMatches<'_>) -> Option<u16>
     ensures { IsNumber given.now (codes "retries") 16 result }
 {
     given.get_one(RETRIES)
 }
 
 /// After how many commits the words ask for a schedule.
-pub fn at_of(given: &ArgMatches<'_>) -> Option<u32>
+pub(crate) fn at_of(given: &ArgMatches<'_>) -> Option<u32>
     ensures { IsNumber given.now (codes "at") 32 result }
 {
     given.get_one(AT)

@@ -81,8 +81,7 @@ pub fn matched<'a, S: AsStr>(alloc: Global, words: &'a [S]) -> Result<ArgMatches
     pit.try_get_matches_from(words)
 }
 
-/// The parser's error for what the parser itself isn't asked to judge: a word that is not UTF-8, no subcommand, words that exclude one another, or
-/// too many edits. Or that it is out of memory.
+/// The parser's error for what the parser itself isn't asked to judge: a word that is not UTF-8, or what `asked` refuses. Or that it is out of memory.
 pub fn refusal(alloc: Global, kind: ErrorKind) -> Error
     ensures { (kind_of result ≡ kind) ⊎ (kind_of result ≡ OutOfMemory) }
 {
@@ -92,6 +91,7 @@ pub fn refusal(alloc: Global, kind: ErrorKind) -> Error
             "the argument '--continue <FILE>' cannot be used with '--start <FILE>' or '--history <FILE>'"
         }
         ErrorKind::TooManyValues => "there are more than 64 values for '<EDIT>...'",
+        ErrorKind::MissingRequiredArgument => "a required argument was not provided",
         _ => "a word is not UTF-8",
     };
     match command(alloc) {

@@ -1,20 +1,22 @@
-//! The command line of `pit`: which words are taken, which engine they ask for, and what they give it.
+//! The command line of `pit`: which words are taken, and what they ask for.
 //!
-//! `matched` has `clap` go over the words; what it takes names a subcommand, and gives all that this requires. `asked` says which engine that asks
-//! for, and with which words; `path_of` and the readers beside it say what these give, `has_conflict` whether they exclude one another, and
-//! `has_many` whether they name too many edits.
+//! `matched` has `clap` go over the words; what it takes names a subcommand, and gives all that this requires. `asked` says what it asks for: a
+//! `Command`, with paths, numbers and flags as fields, or why it is refused. Behind that nothing knows `clap`'s matches or an option's name.
 #![tactic(auto)]
 
 mod argument;
 mod command;
-mod engine;
+mod commands;
 mod notes;
+mod origin;
 mod rules;
 mod subcommand;
+mod words;
 
-pub use argument::{
-    asks_writes, at_of, continue_path, edit_count, from_of, has_conflict, has_many, history_path,
-    is_in_turn, is_partial, is_strict, path_of, retries_given, script_count,
-};
 pub use command::{matched, refusal};
-pub use engine::{Engine, asked};
+pub use commands::{Command, asked};
+pub use origin::{NewWords, Origin};
+pub use words::{
+    CheckWords, DiffWords, InfoWords, LogWords, MergeWords, PlanWords, ReplayWords, ShowWords,
+    TableWords, ValueWords,
+};

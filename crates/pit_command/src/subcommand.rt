@@ -1,5 +1,5 @@
 //! The subcommands, each with its help and its arguments.
-use crate::engine::{CHECK, DIFF, INFO, LOG, MERGE, PLAN, REPLAY, SHOW, TABLE, VALUE};
+use crate::commands::{CHECK, DIFF, INFO, LOG, MERGE, PLAN, REPLAY, SHOW, TABLE, VALUE};
 use crate::notes::{
     CHECK_NOTES, DIFF_NOTES, INFO_NOTES, LOG_NOTES, MERGE_NOTES, PLAN_NOTES, REPLAY_NOTES,
     SHOW_NOTES, TABLE_NOTES, VALUE_NOTES,

@@ -1,8 +1,7 @@
 use Rattle.std.proofs.Common.{length, inl, inr, refl, ap, arith, false}
 use Rattle.std.proofs.lemmas.List.{length-map}
 use Rattle.std.proofs.lemmas.Result.{MatchResult-weaker}
-use Rattle.pit.specs.Files.{file_bytes, file_opens}
-use Rattle.pit.specs.Histories.{history_refusal, input_meets}
+use Rattle.pit.specs.Histories.{history_refusal}
 use Rattle.pit.specs.MergeRun.{MergeFiles}
 use Rattle.pit.proofs.MergeFiles.{as-many-edits}
 use Rattle.pit.proofs.MergeReadings.{readings, are-from}
@@ -35,9 +34,7 @@ returns-in-Err-prepared g c =
 pub merge-answer-requires : goal.merge-answer-requires
 merge-answer-requires g c =
     let left = g.D.File.Read.remaining in
-    let given = c.args.given.now in
-    let count = as-many-edits (file_opens (g.D.Disk.opens_at c.args.disk.now) given) (file_bytes (g.D.Disk.bytes_at c.args.disk.now) given) (input_meets (g.D.Disk.meets_at c.args.disk.now) given)
-    given false c.in-Ok.files c.in-Ok.ensures in
+    let count = as-many-edits (g.D.Disk.told c.args.disk.now) c.args.words.now false c.in-Ok.files c.in-Ok.ensures in
     record {
       few = omega (arith, ap length c.deref_mut.ensures.value, length-map c.files.inside.edits.items (λ source. left source.reader), ap (λ (f : MergeFiles). length f.edits) c.files.view_is, count, c.requires.few);
     }
@@ -51,7 +48,7 @@ returns g c =
     let from = are-from (λ source. left source.reader) (λ source. source.has_failed) in_files.model c.read.new.model in_files.precedence c.read.new.precedence in_files.start c.read.new.start
     in_files.edits.items c.deref_mut.result.now c.merge-answer.new.edits c.in-Ok.files c.files.view_is c.deref_mut.ensures.value c.in-Ok-read.ensures.same c.merge-answer.ensures.same_edits in
     let input = c.in-Ok-read.input in
-    let ready = ready_history (history_refusal (g.D.Disk.refusal_at c.args.disk.now) c.args.given.now) c.args.given.now g.D.History.HistoryOut.state c.in-Ok-prepared.history c.merge-answer.new.history
+    let ready = ready_history (history_refusal (g.D.Disk.told c.args.disk.now) c.args.words.now.origin) c.args.words.now.origin g.D.History.HistoryOut.state c.in-Ok-prepared.history c.merge-answer.new.history
     c.merge-answer.ensures.same c.in-Ok-prepared.ensures.named c.in-Ok-prepared.ensures.ready c.in-Ok-prepared.ensures.new in
     MatchResult-weaker c.merge-answer.result c.merge-answer.ensures.done
     (λ status gives. (c.in-Ok.files, c.in-Ok.ensures, (read, from, (input, c.in-Ok-read.ensures.read, ((input, _), (refl, ready), gives)))))

@@ -1,8 +1,6 @@
 use Rattle.std.proofs.Common.{length, inl, inr, refl, ap, arith}
 use Rattle.std.proofs.lemmas.List.{length-map}
 use Rattle.std.proofs.lemmas.Result.{MatchResult-weaker}
-use Rattle.pit.specs.Files.{file_bytes, file_opens}
-use Rattle.pit.specs.Histories.{input_meets}
 use Rattle.pit.specs.MergeRun.{MergeFiles}
 use Rattle.pit.proofs.MergeFiles.{as-many-edits}
 use Rattle.pit.proofs.MergeReadings.{readings, are-from}
@@ -24,9 +22,7 @@ returns-in-Err-read-clause-done g c =
 pub merge-requires : goal.merge-requires
 merge-requires g c =
     let left = g.D.File.Read.remaining in
-    let given = c.args.given.now in
-    let count = as-many-edits (file_opens (g.D.Disk.opens_at c.args.disk.now) given) (file_bytes (g.D.Disk.bytes_at c.args.disk.now) given) (input_meets (g.D.Disk.meets_at c.args.disk.now) given)
-    given c.is_history_there-is_there.result c.in-Ok.files c.in-Ok.ensures in
+    let count = as-many-edits (g.D.Disk.told c.args.disk.now) c.args.words.now c.is_history_there-is_there.result c.in-Ok.files c.in-Ok.ensures in
     record {
       few = omega (arith, ap length c.deref_mut.ensures.value, length-map c.files.inside.edits.items (λ source. left source.reader), ap (λ (f : MergeFiles). length f.edits) c.files.view_is, count, c.requires.few);
     }

@@ -12,7 +12,7 @@ returns-in-Err-prepared g c = inr (c.in-Ok.input, c.in-Ok.ensures, inl (c.in-Err
 
 pub returns : goal.returns
 returns g c =
-    let ready = ready_history (history_refusal (g.D.Disk.refusal_at c.args.disk.now) c.args.given.now) c.args.given.now g.D.History.HistoryOut.state c.in-Ok-prepared.history c.plan-answer.new.history
+    let ready = ready_history (history_refusal (g.D.Disk.told c.args.disk.now) c.args.words.now.origin) c.args.words.now.origin g.D.History.HistoryOut.state c.in-Ok-prepared.history c.plan-answer.new.history
     c.plan-answer.ensures.same c.in-Ok-prepared.ensures.named c.in-Ok-prepared.ensures.ready c.in-Ok-prepared.ensures.new in
     MatchResult-weaker c.plan-answer.result c.plan-answer.ensures.done
     (λ status gives. (c.in-Ok.input, c.in-Ok.ensures, ((c.in-Ok.input, _), (refl, ready), gives)))

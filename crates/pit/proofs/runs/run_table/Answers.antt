@@ -1,10 +1,8 @@
-use Rattle.std.proofs.Common.{◌∷◌, [], None, false, inl, inr, refl}
+use Rattle.std.proofs.Common.{◌∷◌, [], refl}
 use Rattle.pit_step.specs.Devices.{reading_of, writing_of}
-use Rattle.pit_step.proofs.CallerLemmas.{handed_on}
-use Rattle.pit_command.specs.declared.engine.Engine.TheVariants.{Table}
-use Rattle.pit.specs.Files.{file_bytes, file_opens}
+use Rattle.pit_command.specs.declared.commands.Command.TheVariants.{Table}
 use Rattle.pit.specs.Runs.{files_run}
-use Rattle.pit.proofs.EngineRuns.{ran}
+use Rattle.pit.proofs.Views.{viewed}
 use Rattle.pit.proofs.runs.run_table.Goals as goal
 
 pub returns : goal.returns
@@ -12,13 +10,7 @@ unfolding files_run
 returns g c =
     let left = g.D.File.Read.remaining in
     let model = reading_of (left c.in_ok-model.model.reader) (left c.table.new.model.reader) c.table.new.model.has_failed in
-    let schedule = reading_of (left c.in_ok-schedule.schedule.reader) (left c.table.new.schedule.reader) c.table.new.schedule.has_failed in
-    ran Table None c.args.given.now (file_opens (g.D.Disk.opens_at c.args.disk.now) c.args.given.now) (file_bytes (g.D.Disk.bytes_at c.args.disk.now) c.args.given.now)
+    let schedule = reading_of (left c.in_ok-model.schedule.reader) (left c.table.new.schedule.reader) c.table.new.schedule.has_failed in
+    viewed (g.D.Disk.told c.args.disk.now) (Table c.args.words.now)
     (writing_of (g.W.Sink.contents c.args.out.now) (g.W.Sink.contents c.table.new.out) (g.W.Sink.has_failed c.table.new.out)) _ (model ∷ schedule ∷ []) _
-    ((c.in_ok-model.ensures.opens, c.in_ok-model.ensures.file), ((c.in_ok-schedule.ensures.opens, c.in_ok-schedule.ensures.file), refl)) c.table.ensures
-
-pub returns-in_err-schedule : goal.returns-in_err-schedule
-returns-in_err-schedule g c =
-    let left = g.D.File.Read.remaining in
-    handed_on c.from_residual-in_err-schedule.result c.in_err-schedule.field-0.0 _ _ c.from_residual-in_err-schedule.ensures.0 c.from_residual-in_err-schedule.ensures.1
-    (inl (inr (reading_of (left c.in_ok-model.model.reader) None false, (c.in_ok-model.ensures.opens, c.in_ok-model.ensures.file), inl ((c.in_err-schedule.ensures.fails, c.in_err-schedule.ensures.fault), tt)), refl))
+    ((c.in_ok-model.ensures.first_open, c.in_ok-model.ensures.first), ((c.in_ok-model.ensures.second_open, c.in_ok-model.ensures.second), refl)) c.table.ensures
