@@ -8,6 +8,7 @@ use Rattle.pit_step.specs.Steps.{Step, in_turn, beside, judge_step, run_step}
 use Rattle.pit_output.specs.Outputs.{Keeping}
 use Rattle.pit_merge.specs.Prepared.{prepare_run}
 use Rattle.pit_merge.specs.Merge.{merge_run}
+use Rattle.pit_keyed.specs.declared.keys.Keys.{Keys}
 use Rattle.pit_merge.specs.declared.options.MergeOptions.{MergeOptions}
 use Rattle.pit_command.specs.declared.words.MergeWords.{MergeWords}
 use Rattle.pit.specs.Files.{Told}
@@ -17,8 +18,8 @@ use Rattle.pit.specs.PlanRun.{history_step}
 use Rattle.pit.specs.Sources.{merge_files, has_begun}
 
 -- how the words have edits merged
-abbrev pub merge_options : MergeWords → MergeOptions
-merge_options words = record { from = words.from; is_partial = words.is_partial }
+abbrev pub merge_options : Keys → MergeWords → MergeOptions
+merge_options keys words = record { from = words.from; is_partial = words.is_partial; keys = keys }
 
 -- ---- the files
 

@@ -12,6 +12,7 @@ use Rattle.pit_opening.specs.Beginnings.Begun.{nothing, scheduled, carried_on, u
 use Rattle.pit_cli.specs.Texts.{Texts}
 use Rattle.pit_output.specs.Outputs.{Keeping}
 use Rattle.pit_cli.specs.Output.{plan_run}
+use Rattle.pit_keyed.specs.declared.keys.Keys.{Keys}
 use Rattle.pit_cli.specs.declared.plan_options.PlanOptions.{PlanOptions}
 use Rattle.pit_command.specs.declared.origin.Origin.{Origin}
 use Rattle.pit_command.specs.declared.words.PlanWords.{PlanWords}
@@ -82,8 +83,8 @@ history_step told origin = judge_step (λ _. IsReady (history_refusal told origi
 -- ---- the run
 
 -- how the words have a plan run and reported
-abbrev pub plan_options : PlanWords → PlanOptions
-plan_options words = record { retries = words.retries; is_in_turn = words.is_in_turn; is_strict = words.is_strict }
+abbrev pub plan_options : Keys → PlanWords → PlanOptions
+plan_options keys words = record { retries = words.retries; is_in_turn = words.is_in_turn; is_strict = words.is_strict; keys = keys }
 
 -- a history is carried on once its output is ready: where it is there it is read as an input
 abbrev pub held_run : Told → PlanWords → PlanOptions → Writing → Writing → Option Keeping → Type 0 → Step CliFault (Unit {0}) Status

@@ -17,6 +17,7 @@ use Rattle.pit_show.specs.Show.{show_run}
 use Rattle.pit_log.specs.Log.{log_run}
 use Rattle.pit_command.specs.declared.commands.Command.{Command}
 use Rattle.pit_command.specs.declared.commands.Command.TheVariants.{Value, Check, Table, Diff, Info, Show, Plan, Replay, Log, Merge}
+use Rattle.pit_keyed.specs.declared.keys.Keys.{Keys}
 use Rattle.pit.specs.Files.{Told, open_each}
 use Rattle.pit.specs.Histories.{is_continued}
 use Rattle.pit.specs.Sources.{pit_files}
@@ -62,8 +63,8 @@ files_run command out readings = judge_step (λ _ status. ⊥) (λ _ fault. ⊥)
 abbrev pub view_run : Told → Command → Writing → Type 0 → Step CliFault (Unit {0}) Status
 view_run told command out IsUntouched = in_turn (open_each told (view_files command)) (run_step (files_run command out) IsUntouched)
 
--- the result is that of what is asked for; nothing is reported of a view
-abbrev pub IsRunOf : Command → Told → Type 0 → Type 0 → Writing → Writing → Result Status CliFault → Type 0
-IsRunOf (Plan words) told IsUntouched IsQuiet out lines result = IsResultOf (plan_by (is_continued words.origin) told words (plan_options words) out lines (IsUntouched × IsQuiet)) tt result
-IsRunOf (Merge words) told IsUntouched IsQuiet out lines result = IsResultOf (merge_by (is_continued words.origin) told words (merge_options words) out lines (IsUntouched × IsQuiet)) tt result
-IsRunOf command told IsUntouched IsQuiet out lines result = IsResultOf (view_run told command out IsUntouched) tt result × IsQuiet
+-- the result is that of what is asked for, with these keys; nothing is reported of a view
+abbrev pub IsRunOf : Keys → Command → Told → Type 0 → Type 0 → Writing → Writing → Result Status CliFault → Type 0
+IsRunOf keys (Plan words) told IsUntouched IsQuiet out lines result = IsResultOf (plan_by (is_continued words.origin) told words (plan_options keys words) out lines (IsUntouched × IsQuiet)) tt result
+IsRunOf keys (Merge words) told IsUntouched IsQuiet out lines result = IsResultOf (merge_by (is_continued words.origin) told words (merge_options keys words) out lines (IsUntouched × IsQuiet)) tt result
+IsRunOf keys command told IsUntouched IsQuiet out lines result = IsResultOf (view_run told command out IsUntouched) tt result × IsQuiet

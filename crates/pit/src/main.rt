@@ -5,6 +5,7 @@ mod ending;
 mod fault;
 mod files;
 mod histories;
+mod keys;
 mod looked;
 mod merge_files;
 mod merges;
@@ -19,6 +20,7 @@ mod system_disk;
 mod words;
 
 use fault::Fault;
+use keys::keys_for;
 use looked::Looked;
 use pit_cli::{CliFault, Status};
 use pit_command::{Command, asked, matched, refusal};
@@ -58,7 +60,15 @@ fn answer<R: Threads + Wait + Sync>(
     let mut out = Out::new(rt.stdout());
     let is_terminal = rt.stderr().is_terminal();
     let mut report = Watched::new(Out::new(rt.stderr()), is_watched(is_terminal, &command));
-    let answer = run(threads, rt.alloc(), &disk, &command, &mut out, &mut report);
+    let answer = run(
+        threads,
+        rt.alloc(),
+        keys_for(rt, &command),
+        &disk,
+        &command,
+        &mut out,
+        &mut report,
+    );
     let looked = Looked::new(rt, &command);
     note(rt, is_terminal, &answer, &looked, &report, notes);
     Ok(answer?)

@@ -12,7 +12,7 @@ use crate::files::Disk;
 use crate::histories::{is_continued, is_history_there, let_go, prepared};
 use crate::merge_files::merge_files;
 use crate::sources::merge_sources;
-use pit_cli::{CliFault, MergeInput, MergeOptions, Status, merge};
+use pit_cli::{CliFault, Keys, MergeInput, MergeOptions, Status, merge};
 use pit_command::MergeWords;
 use pit_num::Sink;
 use std::alloc::Global;
@@ -20,6 +20,7 @@ use std::alloc::Global;
 /// Where there is no answer, no new file of a history is left.
 pub fn run_merge<D: Disk, W: Sink, L: Sink>(
     alloc: Global,
+    keys: Keys,
     disk: &D,
     words: &MergeWords<'_>,
     out: &mut W,
@@ -28,11 +29,12 @@ pub fn run_merge<D: Disk, W: Sink, L: Sink>(
     requires few { length words.now.edits.now ≤ edits_max }
     ensures { let written = writing_of (W.contents out.old) (W.contents out.new) (W.has_failed out.new) in
         let lines = writing_of (L.contents report.old) (L.contents report.new) (L.has_failed report.new) in
-        IsResultOf (merge_by (is_continued words.now.origin) (D.told disk.now) words.now (merge_options words.now) written lines ((out.new ≡ out.old) × (report.new ≡ report.old))) tt result }
+        IsResultOf (merge_by (is_continued words.now.origin) (D.told disk.now) words.now (merge_options keys words.now) written lines ((out.new ≡ out.old) × (report.new ≡ report.old))) tt result }
 {
     let options = MergeOptions {
         from: words.from,
         is_partial: words.is_partial,
+        keys,
     };
     if is_continued(&words.origin) {
         return carry_on(alloc, disk, words, options, out, report);

@@ -12,7 +12,7 @@ use crate::files::Disk;
 use crate::histories::{is_continued, is_history_there, let_go, prepared};
 use crate::plan_texts::plan_input;
 use crate::sources::plan_sources;
-use pit_cli::{CliFault, PlanOptions, Status, plan};
+use pit_cli::{CliFault, Keys, PlanOptions, Status, plan};
 use pit_command::PlanWords;
 use pit_num::Sink;
 use std::alloc::Global;
@@ -23,6 +23,7 @@ use std::thread::Threads;
 pub fn run_plan<D: Disk, R: Threads + Wait + Sync, W: Sink, L: Sink>(
     rt: &R,
     alloc: Global,
+    keys: Keys,
     disk: &D,
     words: &PlanWords<'_>,
     out: &mut W,
@@ -31,12 +32,13 @@ pub fn run_plan<D: Disk, R: Threads + Wait + Sync, W: Sink, L: Sink>(
     requires few { words.now.retries ≤ RETRIES_MAX }
     ensures { let written = writing_of (W.contents out.old) (W.contents out.new) (W.has_failed out.new) in
         let lines = writing_of (L.contents report.old) (L.contents report.new) (L.has_failed report.new) in
-        IsResultOf (plan_by (is_continued words.now.origin) (D.told disk.now) words.now (plan_options words.now) written lines ((out.new ≡ out.old) × (report.new ≡ report.old))) tt result }
+        IsResultOf (plan_by (is_continued words.now.origin) (D.told disk.now) words.now (plan_options keys words.now) written lines ((out.new ≡ out.old) × (report.new ≡ report.old))) tt result }
 {
     let options = PlanOptions {
         retries: words.retries,
         is_in_turn: words.is_in_turn,
         is_strict: words.is_strict,
+        keys,
     };
     if is_continued(&words.origin) {
         return carry_on(rt, alloc, disk, words, options, out, report);

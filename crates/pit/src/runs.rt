@@ -12,7 +12,7 @@ use crate::merges::run_merge;
 use crate::plans::run_plan;
 use crate::source_files::{PitFiles, open_pit};
 use pit_cli::{
-    CliFault, Input, Status, check, check_all, diff, info, log, replay, show, table, value,
+    CliFault, Input, Keys, Status, check, check_all, diff, info, log, replay, show, table, value,
 };
 use pit_command::{
     CheckWords, Command, DiffWords, InfoWords, LogWords, ReplayWords, ShowWords, TableWords,
@@ -23,10 +23,11 @@ use std::alloc::Global;
 use std::sync::Wait;
 use std::thread::Threads;
 
-/// Does what the words ask for. Only `plan` and `merge` write a report, and a history. The first input whose file can't be opened is answered, and then nothing is written.
+/// Does what the words ask for, with these keys. Only `plan` and `merge` write a report, and a history. The first input whose file can't be opened is answered, and then nothing is written.
 pub fn run<D: Disk, R: Threads + Wait + Sync, W: Sink, L: Sink>(
     rt: &R,
     alloc: Global,
+    keys: Keys,
     disk: &D,
     command: &Command<'_>,
     out: &mut W,
@@ -35,7 +36,7 @@ pub fn run<D: Disk, R: Threads + Wait + Sync, W: Sink, L: Sink>(
     requires few { IsInRange command.now }
     ensures { let written = writing_of (W.contents out.old) (W.contents out.new) (W.has_failed out.new) in
         let lines = writing_of (L.contents report.old) (L.contents report.new) (L.has_failed report.new) in
-        IsRunOf command.now (D.told disk.now) (out.new ≡ out.old) (report.new ≡ report.old) written lines result }
+        IsRunOf keys command.now (D.told disk.now) (out.new ≡ out.old) (report.new ≡ report.old) written lines result }
 {
     match command {
         Command::Value(words) => run_value(alloc, disk, words, out),
@@ -44,10 +45,10 @@ pub fn run<D: Disk, R: Threads + Wait + Sync, W: Sink, L: Sink>(
         Command::Diff(words) => run_diff(alloc, disk, words, out),
         Command::Info(words) => run_info(alloc, disk, words, out),
         Command::Show(words) => run_show(alloc, disk, words, out),
-        Command::Plan(words) => run_plan(rt, alloc, disk, words, out, report),
+        Command::Plan(words) => run_plan(rt, alloc, keys, disk, words, out, report),
         Command::Replay(words) => run_replay(alloc, disk, words, out),
         Command::Log(words) => run_log(alloc, disk, words, out),
-        Command::Merge(words) => run_merge(alloc, disk, words, out, report),
+        Command::Merge(words) => run_merge(alloc, keys, disk, words, out, report),
     }
 }
 
