@@ -1,5 +1,5 @@
 -- The same step for each of a list, whatever the numbers.
-use Rattle.std.proofs.Common.{◌≡◌, inl, inr, ℕ, ◌+◌, List, [], ◌∷◌, ◌++◌}
+use Rattle.std.proofs.Common.{inl, inr, ℕ, ◌+◌, List, [], ◌∷◌, ◌++◌}
 use Rattle.pit_step.specs.Steps.{Step, each}
 
 module _ {F A B : Type 0} (step : A → Step F (Unit {0}) B) where

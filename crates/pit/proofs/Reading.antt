@@ -7,16 +7,15 @@ use Rattle.std.specs.declared.vec.IntoIter.{IntoIter}
 use Rattle.pit_step.specs.declared.input.Input.{Input}
 use Rattle.pit_step.specs.declared.fault.CliFault.{CliFault}
 use Rattle.pit_step.specs.declared.fault.CliFault.TheVariants.{NoMemory}
-use Rattle.pit_step.specs.Devices.{Reading}
 use Rattle.pit_step.specs.Steps.{each, IsResultOf}
 use Rattle.pit_opening.specs.Beginnings.{Begun, is_carried_on as carries_on}
 use Rattle.pit_cli.specs.Texts.{Texts}
 use Rattle.pit_command.specs.declared.words.PlanWords.{PlanWords}
 use Rattle.pit.specs.declared.source_files.OpenFile.{OpenFile}
-use Rattle.pit.specs.Files.{Told, open_each}
+use Rattle.pit.specs.Files.{Told}
 use Rattle.pit.specs.Histories.{kept_path, is_continued, AreApart}
-use Rattle.pit.specs.OpenFiles.{AreOpen, held_at, still, files_step}
-use Rattle.pit.specs.PlanRun.{read_step, read_all, read_each, begin_text, all_texts, AreInOrder, texts_step}
+use Rattle.pit.specs.OpenFiles.{AreOpen, still, files_step}
+use Rattle.pit.specs.PlanRun.{read_step, read_all, read_each, begin_text, all_texts, texts_step}
 use Rattle.pit.specs.Sources.{plan_files, has_begun}
 use Rattle.pit.proofs.Each.{gives-append, fails-first, fails-then}
 

@@ -1,5 +1,5 @@
 -- A run of `plan`, by what is told of the files that its words name.
-use Rattle.std.specs.Prelude.{◌≡◌, ◌≢◌, ℕ, Bool, true, false, not, List, [], ◌∷◌, ◌++◌, map, Option, Some, None, is_some, option_to_list, IfSome}
+use Rattle.std.specs.Prelude.{◌≡◌, ◌≢◌, ℕ, Bool, true, false, not, List, ◌∷◌, ◌++◌, map, Option, Some, None, is_some, option_to_list, IfSome}
 use Rattle.pit_step.specs.declared.input.Input.{Input}
 use Rattle.pit_step.specs.declared.status.Status.{Status}
 use Rattle.pit_step.specs.declared.fault.CliFault.{CliFault}

@@ -1,5 +1,5 @@
 -- A run of the program, by what is told of the files that its words name.
-use Rattle.std.specs.Prelude.{◌≡◌, Bool, true, false, ℕ, List, [], ◌∷◌, Some, None, Result}
+use Rattle.std.specs.Prelude.{Bool, true, false, ℕ, List, [], ◌∷◌, Some, None, Result}
 use Rattle.pit_step.specs.declared.input.Input.{Input}
 use Rattle.pit_step.specs.declared.input.Input.TheVariants.{Model, Precedence, Solution, History, Schedule, Old, New}
 use Rattle.pit_step.specs.declared.status.Status.{Status}

@@ -1,4 +1,4 @@
-use Rattle.std.proofs.Common.{ℕ, List, ◌∙◌, map, subst}
+use Rattle.std.proofs.Common.{ℕ, List, ◌∙◌, subst}
 use Rattle.pit_step.specs.declared.input.Input.{Input}
 use Rattle.pit.specs.Histories.{kept_path, AreApart}
 use Rattle.pit.specs.OpenFiles.{AreOpen, all_files, files_step}

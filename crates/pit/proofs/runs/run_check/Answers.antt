@@ -1,5 +1,4 @@
-use Rattle.std.proofs.Common.{◌≡◌, ◌∷◌, [], Bool, true, false, sym, subst, refl}
-use Rattle.pit_step.specs.declared.status.Status.{Status}
+use Rattle.std.proofs.Common.{◌∷◌, [], Bool, sym, subst, refl}
 use Rattle.pit_step.specs.Devices.{reading_of, writing_of}
 use Rattle.pit_step.specs.Steps.{IsResultOf}
 use Rattle.pit_command.specs.declared.commands.Command.TheVariants.{Check}

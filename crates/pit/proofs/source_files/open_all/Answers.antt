@@ -1,7 +1,7 @@
-use Rattle.std.proofs.Common.{◌++◌, inl, inr, map, option_to_list, refl}
+use Rattle.std.proofs.Common.{◌++◌, inr, map, option_to_list, refl}
 use Rattle.pit_step.proofs.CallerLemmas.{err_handed}
 use Rattle.pit.specs.OpenFiles.{all_pit, still}
-use Rattle.pit.specs.Sources.{file_by, part_files, pit_files, in_order}
+use Rattle.pit.specs.Sources.{file_by, part_files, pit_files}
 use Rattle.pit.proofs.Opening.{both-open, fails-before, fails-behind, last-behind}
 use Rattle.pit.proofs.source_files.open_all.Goals as goal
 

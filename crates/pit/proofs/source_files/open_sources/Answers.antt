@@ -1,7 +1,6 @@
 use Rattle.std.proofs.Common.{ℕ, List, Option, map, subst}
 use Rattle.pit_step.specs.declared.input.Input.{Input}
 use Rattle.pit_step.proofs.CallerLemmas.{err_handed}
-use Rattle.pit.specs.Files.{path_if}
 use Rattle.pit.specs.Histories.{kept_path, AreApart, IsMeeting}
 use Rattle.pit.specs.OpenFiles.{all_files, name_of}
 use Rattle.pit.specs.Sources.{in_order}
