@@ -1,9 +1,9 @@
 -- Cells in a list and a map behind it.
-use Rattle.std.proofs.Common.{◌≡◌, ◌≢◌, ℕ, zero, suc, ◌<◌, ◌≤◌, ℤ, pos, Bool, true, false, cond, List, [], ◌∷◌, ◌++◌, length, get_or, None, Some, nat_eq, eq-eqb, ne_eqb, refl, sym, ap, ◌∙◌, arith}
-use Rattle.std.specs.Prelude.{slice_set}
+use Rattle.std.proofs.Common.{◌≡◌, ◌≢◌, ℕ, zero, suc, ◌-◌, ◌<◌, ◌≤◌, ℤ, pos, Bool, true, false, cond, List, [], ◌∷◌, ◌++◌, length, get_or, None, Some, nat_eq, eq-eqb, ne_eqb, refl, sym, ap, ◌∙◌, arith}
+use Rattle.std.specs.Prelude.{slice_get, slice_set}
 use Rattle.std.specs.Cmp.{nat_eq_equiv}
-use Rattle.std.proofs.lemmas.List.{append-nil}
-use Rattle.std.proofs.lemmas.Option.{slice_get-get_or}
+use Rattle.std.proofs.lemmas.List.{append-nil, get_or-append_right}
+use Rattle.std.proofs.lemmas.Option.{slice_get-get_or, get_or_from_slice_get}
 use Rattle.std.proofs.lemmas.Map.Entries.{lookup_from_place}
 use Rattle.std.specs.List.{AllByRecursion}
 use Rattle.std.specs.Map.{keys_of, lookup}
@@ -93,3 +93,7 @@ nothing (p ∷ ps) none = absurd (omega (arith, none))
 -- what stands at a place is what is found
 pub found-at : (cells : List (ℕ × ℤ)) (i : ℕ) (d : ℕ × ℤ) → AreOnce cells → i < length cells → lookup (nat_eq (get_or cells i d).0) cells ≡ Some (get_or cells i d).1
 found-at cells i d once within = lookup_from_place nat_eq_equiv cells i (get_or cells i d).0 (get_or cells i d).1 once (slice_get-get_or cells i d within)
+
+-- what stands behind the list stands in the map
+pub behind-list : (few others : List (ℕ × ℤ)) (i n : ℕ) (item : ℕ × ℤ) → n ≡ length few → n ≤ i → slice_get others (i - n) ≡ Some item → get_or (few ++ others) i (0, pos 0) ≡ item
+behind-list few others i n item count past there = get_or-append_right few others n i (0, pos 0) (sym count) past ∙ get_or_from_slice_get others (i - n) item (0, pos 0) there

@@ -1,11 +1,10 @@
-use Rattle.std.proofs.Common.{◌≡◌, ◌<◌, ◌-◌, ℕ, ℤ, pos, List, ◌++◌, length, ◌≤◌, Some, get_or, refl, ap, subst, sym, ◌∙◌, arith, rules}
+use Rattle.std.proofs.Common.{◌≡◌, ◌<◌, ℕ, ℤ, pos, List, ◌++◌, length, Some, get_or, ap, subst, sym, ◌∙◌, arith, rules}
 use Rattle.std.specs.Prelude.{nat_eq}
 use Rattle.std.specs.Map.{lookup}
 use Rattle.std.specs.Int.{w128}
 use Rattle.std.proofs.lemmas.Int.{to_z-of_z}
-use Rattle.std.proofs.lemmas.List.{length-append, get_or_append_left, get_or-append_right}
-use Rattle.std.proofs.lemmas.Option.{get_or_from_slice_get}
-use Rattle.pit_plan.proofs.CellLists.{found-at}
+use Rattle.std.proofs.lemmas.List.{length-append, get_or_append_left}
+use Rattle.pit_plan.proofs.CellLists.{behind-list, found-at}
 use Rattle.pit_plan.proofs.cell_list.CellList.at.Goals as goal
 
 pub returns-then-i-len-clause-load : goal.returns-then-i-len-clause-load
@@ -23,21 +22,14 @@ pub returns-clause-cell : goal.returns-clause-cell
 returns-clause-cell g c =
     let few = c.self.inside.few.items in
     let others = c.self.inside.others.entries in
-    let past : length few ≤ c.args.i = omega (arith, c.if-i-len.false, c.len.ensures) in
-    let at : c.args.i - c.len-2.result ≡ c.args.i - length few = ap (λ (n : ℕ). c.args.i - n) (omega (arith, c.len-2.ensures)) in
-    let item : get_or others (c.args.i - length few) (0, pos 0) ≡ (c.in-Some.cell.now, c.in-Some.load.now) =
-    ap (λ (n : ℕ). get_or others n (0, pos 0)) (sym at) ∙ get_or_from_slice_get others (c.args.i - c.len-2.result) _ (0, pos 0) (sym c.in-Some.ensures.entry) in
-    sym (ap (λ (cs : List (ℕ × ℤ)). (get_or cs c.args.i (0, pos 0)).0) (sym c.self.view_is) ∙ (ap (λ (p : ℕ × ℤ). p.0) (get_or-append_right few others (length few) c.args.i (0, pos 0) refl past) ∙ ap (λ (p : ℕ × ℤ). p.0) item))
+    let here = behind-list few others c.args.i c.len-2.result (c.in-Some.cell.now, c.in-Some.load.now) (omega (arith, c.len-2.ensures)) (omega (arith, c.if-i-len.false, c.len.ensures, c.len-2.ensures)) (sym c.in-Some.ensures.entry) in
+    sym (ap (λ (cs : List (ℕ × ℤ)). (get_or cs c.args.i (0, pos 0)).0) (sym c.self.view_is) ∙ ap (λ (p : ℕ × ℤ). p.0) here)
 
 pub returns-clause-load : goal.returns-clause-load
 returns-clause-load g c =
     let few = c.self.inside.few.items in
     let others = c.self.inside.others.entries in
-    let past : length few ≤ c.args.i = omega (arith, c.if-i-len.false, c.len.ensures) in
-    let at : c.args.i - c.len-2.result ≡ c.args.i - length few = ap (λ (n : ℕ). c.args.i - n) (omega (arith, c.len-2.ensures)) in
-    let item : get_or others (c.args.i - length few) (0, pos 0) ≡ (c.in-Some.cell.now, c.in-Some.load.now) =
-    ap (λ (n : ℕ). get_or others n (0, pos 0)) (sym at) ∙ get_or_from_slice_get others (c.args.i - c.len-2.result) _ (0, pos 0) (sym c.in-Some.ensures.entry) in
-    let here : get_or (few ++ others) c.args.i (0, pos 0) ≡ (c.in-Some.cell.now, c.in-Some.load.now) = get_or-append_right few others (length few) c.args.i (0, pos 0) refl past ∙ item in
+    let here = behind-list few others c.args.i c.len-2.result (c.in-Some.cell.now, c.in-Some.load.now) (omega (arith, c.len-2.ensures)) (omega (arith, c.if-i-len.false, c.len.ensures, c.len-2.ensures)) (sym c.in-Some.ensures.entry) in
     let all : c.args.i < length (few ++ others) = subst (λ (cs : List (ℕ × ℤ)). c.args.i < length cs) (sym c.self.view_is) c.requires in
     subst (λ (cs : List (ℕ × ℤ)). lookup (nat_eq c.in-Some.cell.now) cs ≡ Some c.in-Some.load.now) c.self.view_is
     (subst (λ (p : ℕ × ℤ). lookup (nat_eq p.0) (few ++ others) ≡ Some p.1) here (found-at (few ++ others) c.args.i (0, pos 0) c.self.invariant all))
