@@ -6,7 +6,7 @@
 # make gate           every proof, proved test, must-fail edit and stored run that no earlier run kept; then the shell tests. Leaves ./pit. ANEW=1: all anew
 # make install        puts a proved ./pit, pit-page, the manual page and the completions for bash under PREFIX (/usr/local), itself below DESTDIR
 # make uninstall      removes what make install put there
-# make audit          what neither has: pages in a browser; on a copy of the tree further edits, planted bodies and proved tests; a soak; drawn days. Takes hours
+# make audit          what neither has: pages in a browser; on a copy of the tree further edits, planted bodies and proved tests; a soak; drawn days. Takes hours; what passed isn't tried again
 # make clean          removes what was built
 .PHONY: demo check test shell gate install uninstall audit clean
 .DELETE_ON_ERROR:
@@ -83,4 +83,4 @@ audit: pit
 	tests/replay.sh ./pit 266 200
 
 clean:
-	rm -rf pit pit.new pit-unproved pit-unproved.* pit.1 pit.bash demo crates/*/out
+	rm -rf pit pit.new pit-unproved pit-unproved.* pit.1 pit.bash demo audit/out crates/*/out

@@ -4,7 +4,8 @@
 # begins with FAIL.
 # usage: audit/run.sh [page|edits|plants|tests [CRATE..]]
 # Without a word the pages of ./pit, and then the other three of each crate, side by side: as many at once as there are processors and 3 GB of free
-# memory for each. Wants the toolchain, and for pages the package chromium of Debian.
+# memory for each. A part of a crate that has passed over the same sources and toolchain is not tried again (audit/out). Wants the toolchain, and for
+# pages the package chromium of Debian.
 set -u
 cd "$(dirname "$0")/.." || exit 2
 top=$PWD
@@ -44,6 +45,12 @@ tree=$(mktemp -d)
 trap 'rm -rf "$tree"' EXIT
 scripts/lay_out.sh "$tree" || exit 2
 failures=0
+# What a part passes over.
+over=$({
+    rt version
+    git ls-files -z --cached --others --exclude-standard crates crates.txt HANDLES scripts/lay_out.sh audit/{run.sh,edits,plants,tests} | xargs -0 sha256sum
+} 2>&1 | sha256sum)
+mkdir -p audit/out
 
 # take CRATE: what the checkout's own checks kept of the crate, and the libraries that they built. Files that rt replaces and doesn't write into are
 # linked.
@@ -101,9 +108,16 @@ for folder in "$tree"/crates/*/src; do
     is_wanted "$crate" || continue
     [ "$part" != tests ] || [[ $crate == test_* && $crate != test_surface ]] || continue
     tried=$((tried + 1))
+    passed=audit/out/$part.$crate
+    if [ "$(cat "$passed" 2>/dev/null)" = "$over" ]; then
+        echo "== $part of $crate: passed before"
+        continue
+    fi
     echo "== $part of $crate"
     take "$crate"
+    before=$failures
     "$part" "$crate"
+    [ "$failures" -ne "$before" ] || echo "$over" >"$passed"
 done
 [ "$tried" -ne 0 ] || fail "no crate of that name has $part"
 if [ "$failures" -ne 0 ]; then
