@@ -1,12 +1,14 @@
 #!/usr/bin/env bash
 # Holds the paths that pages name to the tree: each leads, from the top or from the page's folder, to what is there or what git ignores. Names that stand for
-# any name, as in crates/CRATE/must-fail/, have to fit some.
+# any name, as in crates/CRATE/must-fail/, have to fit some. A link to a heading has to lead to one.
 # usage: scripts/paths.sh
 set -uo pipefail
 cd "$(dirname "$0")/.." || exit 2
 . tests/judge.sh
 
-# paths PAGE FOLDER: its links, and the words of it that begin with a folder of the tree or of the page's folder, or end as a source does.
+pages() { git ls-files --cached --others --exclude-standard '*.md'; }
+
+# paths PAGE FOLDER: its links, and the words of it that begin with a folder of the tree, of crates/ or of the page's folder, or end as a source does.
 paths() {
     local folders
     folders=$(git ls-files | sed -n "p; s|^crates/||p; s|^$2/||p" | sed -n 's|/.*||p' | sort -u | paste -sd '|')
@@ -22,15 +24,29 @@ leads() {
     git check-ignore -q "$1"
 }
 
-lead() {
+all_lead() {
     local page path status=0
     while read -r page; do
         while read -r path; do
             leads "$path" "$(dirname "$page")" || { echo "$page: $path" && status=1; }
         done < <(paths "$page" "$(dirname "$page")")
-    done < <(git ls-files --cached --others --exclude-standard '*.md')
+    done < <(pages)
     return $status
 }
 
-judge "each path that a page names is there" lead
+# headings PAGE: the names by which links lead to them.
+headings() { sed -n 's/^##* //p' "$1" | tr 'A-Z ' 'a-z-' | tr -cd 'a-z0-9_\n-'; }
+
+are_headings() {
+    local page to name status=0
+    while read -r page; do
+        while IFS='#' read -r to name; do
+            headings "${to:+$(dirname "$page")/}${to:-$page}" | grep -qxe "$name" || { echo "$page: $to#$name" && status=1; }
+        done < <(grep -o '](\([^()]*#[^()]*\))' "$page" | sed 's/^](//; s/)$//' | grep -v '^http' | sort -u)
+    done < <(pages)
+    return $status
+}
+
+judge "each path that a page names is there" all_lead
+judge "each heading that a link names is there" are_headings
 judged
