@@ -1,6 +1,7 @@
 #!/usr/bin/env bash
 # Holds the paths that pages name to the tree: each leads, from the top or from the page's folder, to what is there or what git ignores. Names that stand for
-# any name, as in crates/CRATE/must-fail/, have to fit some. A link to a heading has to lead to one.
+# any name, as in crates/CRATE/must-fail/, have to fit some. A link to a heading has to lead to one, and what docs/PROMISES.md names behind a type, a crate or a
+# module has to be a function or a test.
 # usage: scripts/paths.sh
 set -uo pipefail
 cd "$(dirname "$0")/.." || exit 2
@@ -47,6 +48,12 @@ are_headings() {
     return $status
 }
 
+are_functions() {
+    ! comm -23 <(grep -oE '`[A-Za-z_]+(::[a-z_0-9]+)+`' docs/PROMISES.md | sed 's/.*:://; s/`//' | sort -u) \
+        <(git grep -ohE 'fn +[a-z_0-9]+' -- crates audit/tests | sed 's/.* //' | sort -u) | grep .
+}
+
 judge "each path that a page names is there" all_lead
 judge "each heading that a link names is there" are_headings
+judge "each function and test that docs/PROMISES.md names is there" are_functions
 judged
