@@ -2,8 +2,9 @@
 use Rattle.std.proofs.Common.{◌≡◌, ◌⊎◌, inl, inr, ℕ, List, Option, Some, None, refl, sym, ap, ◌∙◌}
 use Rattle.pit_model.specs.Pit.{Pit}
 use Rattle.pit_text.specs.Cutting.{cut_of, end_line}
-use Rattle.pit_text.specs.Stands.{StandsWhole, FailsWhole, HasOneResult}
-use Rattle.pit_text.proofs.CallerLemmas.{one_whole_result}
+use Rattle.pit_text.specs.Stands.{StandsWhole, FailsWhole, HasOneResult, NamesFault}
+use Rattle.pit_text.proofs.CallerLemmas.{one_whole_result, named-result}
+use Rattle.pit_script.specs.Causes.{script_cause_of}
 use Rattle.pit_script.specs.Jobs.{Job, jobs_of, script_end, script_line}
 use Rattle.pit_script.specs.declared.error.ScriptCause.{ScriptCause}
 use Rattle.pit_script.specs.declared.error.ScriptError.{ScriptError}
@@ -44,11 +45,14 @@ module _ (pit : Pit) (number : ℕ) (bytes : List ℕ) where
   script_in cli.NoMemory seen p = absurd (seen refl)
   script_in other seen p = absurd p
 
-  one_result : HasOneResult (StandsWhole (script_line pit) script_end (cut_of bytes)) (FailsWhole (script_line pit) script_end (cut_of bytes) (end_line bytes))
-  one_result = one_whole_result (script_line pit) script_end (cut_of bytes) (end_line bytes)
+  abbrev IsBad : ℕ → ScriptCause → Type 0
+  IsBad place = NamesFault script_cause_of (FailsWhole (script_line pit) script_end (cut_of bytes) (end_line bytes) place)
+
+  one_result : HasOneResult (StandsWhole (script_line pit) script_end (cut_of bytes)) IsBad
+  one_result = named-result script_cause_of _ _ (one_whole_result (script_line pit) script_end (cut_of bytes) (end_line bytes))
 
   some_script : ((facts : List ScriptFact) × StandsWhole (script_line pit) script_end (cut_of bytes) facts)
-      ⊎ ((place : ℕ) × (cause : ScriptCause) × FailsWhole (script_line pit) script_end (cut_of bytes) (end_line bytes) place cause)
+      ⊎ ((place : ℕ) × (cause : ScriptCause) × IsBad place cause)
       → ((jobs : List Job) × IsScriptOf pit bytes jobs) ⊎ ((fault : CliFault) × IsOfInputs fault × IsScriptFault pit number bytes fault)
   some_script (inl found) = inl (jobs_of found.0, record { facts = found.0; stands = found.1; says = refl })
   some_script (inr bad) = inr (cli.Script number (record { line = bad.0; cause = bad.1 }), refl, (refl, bad.2))

@@ -1,15 +1,13 @@
 -- What texts stand for, or where there is no memory for it.
-use Rattle.std.proofs.Common.{◌≡◌, ◌⊎◌, inl, inr, ℕ, List, [], Option, Some, Result, MatchResult, sym, subst}
+use Rattle.std.proofs.Common.{◌≡◌, inl, inr, ℕ, List, [], Option, Some, Result, MatchResult, sym, subst}
 use Rattle.std.proofs.lemmas.Result.{MatchResult-weaker}
 use Rattle.pit_model.specs.Pit.{Pit}
-use Rattle.pit_text.specs.Cutting.{cut_of, end_line}
-use Rattle.pit_text.specs.Stands.{FailsWhole}
-use Rattle.pit_script.specs.Jobs.{Job, script_line, script_end}
+use Rattle.pit_script.specs.Jobs.{Job}
 use Rattle.pit_script.specs.Scripts.{StandsForJobs, WantsMemoryAt, IsScriptError}
-use Rattle.pit_script.specs.declared.error.ScriptCause.{ScriptCause}
 use Rattle.pit_script.specs.declared.error.ScriptCause.TheVariants.{NoMemory as WantsMemory}
 use Rattle.pit_script.specs.declared.error.ScriptError.{ScriptError}
-use Rattle.pit_script.proofs.CallerLemmas.{no_script_wants, no_line_stands}
+use Rattle.pit_text.proofs.CallerLemmas.{stop_alone}
+use Rattle.pit_script.proofs.CallerLemmas.{no_script_fault_wants, no_line_stands}
 use Rattle.pit_step.specs.declared.fault.CliFault.{CliFault}
 use Rattle.pit_step.specs.declared.fault.CliFault.TheVariants.{NoMemory}
 use Rattle.pit_step.specs.Inputs.{IsPlaced, IsPlacesStop, IsPlacesFault}
@@ -27,10 +25,6 @@ placed-built given pit places bytes result is stands built =
     (MatchResult-weaker result built (λ p same. subst (λ (q : Pit). IsPlaced given bytes q) (sym same) stands)
     (λ fault same. subst (λ (f : CliFault). IsPlacesFault given bytes f) (sym same) (places-stop given bytes pit stands)))
 
-stop_alone : (Stops : Type 0) (Fails : ScriptCause → Type 0) (cause : ScriptCause) → cause ≡ WantsMemory → (Fails WantsMemory → ⊥) → ((cause ≡ WantsMemory) × Stops) ⊎ Fails cause → Stops
-stop_alone Stops Fails cause is never (inl stops) = stops.1
-stop_alone Stops Fails cause is never (inr fails) = absurd (never (subst Fails is fails))
-
 -- a script's reader gives jobs
 pub script-stands : (pit : Pit) (bytes : List ℕ) (jobs : List Job) → StandsForJobs pit bytes jobs → IsScriptOf pit bytes jobs
 script-stands pit bytes jobs is = record { facts = is.0; stands = is.1; says = is.2 }
@@ -41,7 +35,4 @@ at_line pit bytes line (inr none) = inr ([], script-stands pit bytes [] (no_line
 
 -- it is out of memory
 pub script-wants : (pit : Pit) (bytes : List ℕ) (error : ScriptError) → error.cause ≡ WantsMemory → IsScriptError pit bytes error → IsScriptStop pit bytes
-script-wants pit bytes error is answered =
-    at_line pit bytes error.line
-    (stop_alone (WantsMemoryAt pit bytes error.line) (FailsWhole (script_line pit) script_end (cut_of bytes) (end_line bytes) error.line) error.cause is
-    (no_script_wants pit (cut_of bytes) (end_line bytes) error.line) answered)
+script-wants pit bytes error is answered = at_line pit bytes error.line (stop_alone no_script_fault_wants is answered)

@@ -2,7 +2,8 @@
 use Rattle.std.specs.Prelude.{◌≡◌, ◌⊎◌, ℕ, List, Option, Some, None}
 use Rattle.pit_model.specs.Pit.{Pit}
 use Rattle.pit_text.specs.Cutting.{cut_of, end_line}
-use Rattle.pit_text.specs.Stands.{StopsAt, StandsWhole, FailsWhole}
+use Rattle.pit_text.specs.Stands.{StopsAt, StandsWhole, FailsWhole, NamesFault}
+use Rattle.pit_script.specs.Causes.{script_cause_of}
 use Rattle.pit_script.specs.Jobs.{Job, jobs_of, script_end, script_line}
 use Rattle.pit_script.specs.declared.error.ScriptError.{ScriptError}
 use Rattle.pit_step.specs.declared.fault.CliFault.{CliFault}
@@ -43,7 +44,7 @@ abbrev pub IsScriptOf : Pit → List ℕ → List Job → Type 0
 IsScriptOf pit bytes = StandsAs (StandsWhole (script_line pit) script_end (cut_of bytes)) jobs_of
 
 abbrev pub IsBadScript : Pit → List ℕ → ScriptError → Type 0
-IsBadScript pit bytes error = FailsWhole (script_line pit) script_end (cut_of bytes) (end_line bytes) error.line error.cause
+IsBadScript pit bytes error = NamesFault script_cause_of (FailsWhole (script_line pit) script_end (cut_of bytes) (end_line bytes) error.line) error.cause
 
 -- memory runs out at a line, where none so far has a fault, or behind the whole script, which has none
 abbrev pub IsScriptStop : Pit → List ℕ → Type 0

@@ -17,8 +17,8 @@ use Rattle.pit_script.specs.Jobs.{Job, Progress, with_fact, progress_of, jobs_of
 use Rattle.pit_script.specs.Lines.{no_field, one_field, two_fields, three_fields, in_job, below, begin_line, end_line_of, read_step, clear_step, put_step, shift_step, bench_step, expect_step, placing, below_if_some, revise_step, line_of_word, ranged_fact, known_bench, line_fact}
 use Rattle.pit_script.specs.Numbers.{read_as, shift_of, period_or_none_of}
 use Rattle.pit_script.specs.Words.{word_in}
-use Rattle.pit_script.specs.declared.error.ScriptCause.{ScriptCause}
-use Rattle.pit_script.specs.declared.error.ScriptCause.TheVariants.{FieldCount, UnknownWord, BlockRange, ResourceRange, PeriodRange, Order, NoBench, JobCount, Unended}
+use Rattle.pit_script.specs.declared.error.ScriptFault.{ScriptFault}
+use Rattle.pit_script.specs.declared.error.ScriptFault.TheVariants.{FieldCount, UnknownWord, BlockRange, ResourceRange, PeriodRange, Order, NoBench, JobCount, Unended}
 use Rattle.pit_script.specs.declared.fact.ScriptFact.{ScriptFact}
 use Rattle.pit_script.specs.declared.fact.ScriptFact.TheVariants as says
 use Rattle.pit_script.specs.declared.step.JobEnd.{JobEnd}
@@ -39,51 +39,51 @@ MayBe is_open (says.Does done) = is_open ≡ true
 MayBe is_open (says.Ends end) = is_open ≡ true
 
 -- a line that is read may be there
-abbrev Lies : Bool → Result ScriptFact ScriptCause → Type 0
+abbrev Lies : Bool → Result ScriptFact ScriptFault → Type 0
 Lies is_open r = (fact : ScriptFact) → r ≡ Ok fact → MayBe is_open fact
 
 -- ---- one step behind another
 
-lies_err : (o : Bool) (cause : ScriptCause) → Lies o (Err cause)
+lies_err : (o : Bool) (cause : ScriptFault) → Lies o (Err cause)
 lies_err o cause fact is = cc
 
 lies_ok : (o : Bool) (fact : ScriptFact) → MayBe o fact → Lies o (Ok fact)
 lies_ok o fact may other is = let same : fact ≡ other = cc in subst (λ (f : ScriptFact). MayBe o f) same may
 
-lies_then : {X : Type 0} (o : Bool) (r : Result X ScriptCause) (f : X → Result ScriptFact ScriptCause) → ((x : X) → Lies o (f x)) → Lies o (r >>= f)
+lies_then : {X : Type 0} (o : Bool) (r : Result X ScriptFault) (f : X → Result ScriptFact ScriptFault) → ((x : X) → Lies o (f x)) → Lies o (r >>= f)
 lies_then o (Ok x) f more = more x
 lies_then o (Err e) f more = lies_err o e
 
-lies_behind : (o : Bool) (r : Result ScriptFact ScriptCause) (f : ScriptFact → Result ScriptFact ScriptCause) → Lies o r → ((fact : ScriptFact) → MayBe o fact → Lies o (f fact)) → Lies o (r >>= f)
+lies_behind : (o : Bool) (r : Result ScriptFact ScriptFault) (f : ScriptFact → Result ScriptFact ScriptFault) → Lies o r → ((fact : ScriptFact) → MayBe o fact → Lies o (f fact)) → Lies o (r >>= f)
 lies_behind o (Ok x) f lies more = more x (lies x refl)
 lies_behind o (Err e) f lies more = lies_err o e
 
-lies_if : (o b : Bool) (r s : Result ScriptFact ScriptCause) → Lies o r → Lies o s → Lies o (cond b r s)
+lies_if : (o b : Bool) (r s : Result ScriptFact ScriptFault) → Lies o r → Lies o s → Lies o (cond b r s)
 lies_if o true r s one other = one
 lies_if o false r s one other = other
 
-lies_in_job : (o : Bool) (r : Result ScriptFact ScriptCause) → (o ≡ true → Lies o r) → Lies o (in_job o r)
+lies_in_job : (o : Bool) (r : Result ScriptFact ScriptFault) → (o ≡ true → Lies o r) → Lies o (in_job o r)
 lies_in_job true r lies = lies refl
 lies_in_job false r lies = lies_err false Order
 
 -- ---- fields
 
-lies_none : (o : Bool) (said : Result ScriptFact ScriptCause) (fields : List (List ℕ)) → Lies o said → Lies o (no_field said fields)
+lies_none : (o : Bool) (said : Result ScriptFact ScriptFault) (fields : List (List ℕ)) → Lies o said → Lies o (no_field said fields)
 lies_none o said [] lies = lies
 lies_none o said (a ∷ more) lies = lies_err o FieldCount
 
-lies_one : (o : Bool) (said : List ℕ → Result ScriptFact ScriptCause) (fields : List (List ℕ)) → ((a : List ℕ) → Lies o (said a)) → Lies o (one_field said fields)
+lies_one : (o : Bool) (said : List ℕ → Result ScriptFact ScriptFault) (fields : List (List ℕ)) → ((a : List ℕ) → Lies o (said a)) → Lies o (one_field said fields)
 lies_one o said [] lies = lies_err o FieldCount
 lies_one o said (a ∷ []) lies = lies a
 lies_one o said (a ∷ b ∷ more) lies = lies_err o FieldCount
 
-lies_two : (o : Bool) (said : List ℕ → List ℕ → Result ScriptFact ScriptCause) (fields : List (List ℕ)) → ((a b : List ℕ) → Lies o (said a b)) → Lies o (two_fields said fields)
+lies_two : (o : Bool) (said : List ℕ → List ℕ → Result ScriptFact ScriptFault) (fields : List (List ℕ)) → ((a b : List ℕ) → Lies o (said a b)) → Lies o (two_fields said fields)
 lies_two o said [] lies = lies_err o FieldCount
 lies_two o said (a ∷ []) lies = lies_err o FieldCount
 lies_two o said (a ∷ b ∷ []) lies = lies a b
 lies_two o said (a ∷ b ∷ c ∷ more) lies = lies_err o FieldCount
 
-lies_three : (o : Bool) (said : List ℕ → List ℕ → List ℕ → Result ScriptFact ScriptCause) (fields : List (List ℕ)) → ((a b c : List ℕ) → Lies o (said a b c)) → Lies o (three_fields said fields)
+lies_three : (o : Bool) (said : List ℕ → List ℕ → List ℕ → Result ScriptFact ScriptFault) (fields : List (List ℕ)) → ((a b c : List ℕ) → Lies o (said a b c)) → Lies o (three_fields said fields)
 lies_three o said [] lies = lies_err o FieldCount
 lies_three o said (a ∷ []) lies = lies_err o FieldCount
 lies_three o said (a ∷ b ∷ []) lies = lies_err o FieldCount

@@ -6,7 +6,7 @@ use Rattle.pit_text.specs.Cutting.{Cut, cut_of}
 use Rattle.pit_text.specs.Stands.{StandsFor}
 use Rattle.pit_script.specs.Jobs.{Progress, no_job, with_fact, progress_of, fact_in, script_line}
 use Rattle.pit_script.specs.Scripts.{StandsForJobs}
-use Rattle.pit_script.specs.declared.error.ScriptCause.{ScriptCause}
+use Rattle.pit_script.specs.declared.error.ScriptFault.{ScriptFault}
 use Rattle.pit_script.specs.declared.fact.ScriptFact.{ScriptFact}
 
 pub progress_of-none : progress_of [] ≡ no_job
@@ -18,7 +18,7 @@ unfolding progress_of
 progress_of-more facts fact = fold-append with_fact no_job facts (fact ∷ [])
 
 -- a line is judged by what the lines before it left
-pub judged : (pit : Pit) (at : Progress) (facts : List ScriptFact) (fields : List (List ℕ)) (r : Result ScriptFact ScriptCause) → at ≡ progress_of facts → fact_in pit at fields ≡ r
+pub judged : (pit : Pit) (at : Progress) (facts : List ScriptFact) (fields : List (List ℕ)) (r : Result ScriptFact ScriptFault) → at ≡ progress_of facts → fact_in pit at fields ≡ r
     → script_line pit facts fields ≡ r
 judged pit at facts fields r is same = ap (λ (p : Progress). fact_in pit p fields) (sym is) ∙ same
 

@@ -3,8 +3,8 @@ use Rattle.std.specs.Prelude.{ℕ, List, [], ◌∷◌, ◌++◌, length, Result
 use Rattle.std.specs.List.{fold}
 use Rattle.pit_model.specs.Pit.{Pit}
 use Rattle.pit_script.specs.Lines.{line_fact}
-use Rattle.pit_script.specs.declared.error.ScriptCause.{ScriptCause}
-use Rattle.pit_script.specs.declared.error.ScriptCause.TheVariants.{Unended}
+use Rattle.pit_script.specs.declared.error.ScriptFault.{ScriptFault}
+use Rattle.pit_script.specs.declared.error.ScriptFault.TheVariants.{Unended}
 use Rattle.pit_script.specs.declared.fact.ScriptFact.{ScriptFact}
 use Rattle.pit_script.specs.declared.fact.ScriptFact.TheVariants.{Begin, Does, Ends}
 use Rattle.pit_script.specs.declared.step.JobEnd.{JobEnd}
@@ -42,12 +42,12 @@ abbrev pub jobs_of : List ScriptFact → List Job
 jobs_of facts = (progress_of facts).jobs
 
 -- a line of a script, by what the lines before it left
-abbrev pub fact_in : Pit → Progress → List (List ℕ) → Result ScriptFact ScriptCause
+abbrev pub fact_in : Pit → Progress → List (List ℕ) → Result ScriptFact ScriptFault
 fact_in pit at fields = line_fact pit (is_some at.current) (length at.jobs) fields
 
-abbrev pub script_line : Pit → List ScriptFact → List (List ℕ) → Result ScriptFact ScriptCause
+abbrev pub script_line : Pit → List ScriptFact → List (List ℕ) → Result ScriptFact ScriptFault
 script_line pit earlier fields = fact_in pit (progress_of earlier) fields
 
 -- the text may end where no job is open
-abbrev pub script_end : List ScriptFact → Option ScriptCause
+abbrev pub script_end : List ScriptFact → Option ScriptFault
 script_end facts = if is_some (progress_of facts).current then Some Unended else None

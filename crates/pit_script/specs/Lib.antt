@@ -1,3 +1,4 @@
+pub mod Causes
 pub mod Words
 pub mod Numbers
 pub mod Benches

@@ -7,8 +7,8 @@ use Rattle.pit_text.specs.Stands.{◌>>=◌}
 use Rattle.pit_script.specs.Benches.{has_bench}
 use Rattle.pit_script.specs.Numbers.{read_as, shift_of, period_or_none_of}
 use Rattle.pit_script.specs.Words.{word_in}
-use Rattle.pit_script.specs.declared.error.ScriptCause.{ScriptCause}
-use Rattle.pit_script.specs.declared.error.ScriptCause.TheVariants.{UnknownWord, FieldCount, BlockRange, ResourceRange, PeriodRange, Order, NoBench, JobCount}
+use Rattle.pit_script.specs.declared.error.ScriptFault.{ScriptFault}
+use Rattle.pit_script.specs.declared.error.ScriptFault.TheVariants.{UnknownWord, FieldCount, BlockRange, ResourceRange, PeriodRange, Order, NoBench, JobCount}
 use Rattle.pit_script.specs.declared.fact.ScriptFact.{ScriptFact}
 use Rattle.pit_script.specs.declared.fact.ScriptFact.TheVariants as says
 use Rattle.pit_script.specs.declared.step.JobEnd.{JobEnd}
@@ -23,22 +23,22 @@ use Rattle.pit_script.specs.declared.word.Word.TheVariants as word
 
 -- ---- the number of fields behind the word, which is exact
 
-abbrev pub no_field : Result ScriptFact ScriptCause → List (List ℕ) → Result ScriptFact ScriptCause
+abbrev pub no_field : Result ScriptFact ScriptFault → List (List ℕ) → Result ScriptFact ScriptFault
 no_field says [] = says
 no_field says (a ∷ more) = Err FieldCount
 
-abbrev pub one_field : (List ℕ → Result ScriptFact ScriptCause) → List (List ℕ) → Result ScriptFact ScriptCause
+abbrev pub one_field : (List ℕ → Result ScriptFact ScriptFault) → List (List ℕ) → Result ScriptFact ScriptFault
 one_field says [] = Err FieldCount
 one_field says (a ∷ []) = says a
 one_field says (a ∷ b ∷ more) = Err FieldCount
 
-abbrev pub two_fields : (List ℕ → List ℕ → Result ScriptFact ScriptCause) → List (List ℕ) → Result ScriptFact ScriptCause
+abbrev pub two_fields : (List ℕ → List ℕ → Result ScriptFact ScriptFault) → List (List ℕ) → Result ScriptFact ScriptFault
 two_fields says [] = Err FieldCount
 two_fields says (a ∷ []) = Err FieldCount
 two_fields says (a ∷ b ∷ []) = says a b
 two_fields says (a ∷ b ∷ c ∷ more) = Err FieldCount
 
-abbrev pub three_fields : (List ℕ → List ℕ → List ℕ → Result ScriptFact ScriptCause) → List (List ℕ) → Result ScriptFact ScriptCause
+abbrev pub three_fields : (List ℕ → List ℕ → List ℕ → Result ScriptFact ScriptFault) → List (List ℕ) → Result ScriptFact ScriptFault
 three_fields says [] = Err FieldCount
 three_fields says (a ∷ []) = Err FieldCount
 three_fields says (a ∷ b ∷ []) = Err FieldCount
@@ -47,17 +47,17 @@ three_fields says (a ∷ b ∷ c ∷ d ∷ more) = Err FieldCount
 
 -- ---- where a line may stand, and ranges
 
-abbrev pub in_job : Bool → Result ScriptFact ScriptCause → Result ScriptFact ScriptCause
+abbrev pub in_job : Bool → Result ScriptFact ScriptFault → Result ScriptFact ScriptFault
 in_job is_open says = if is_open then says else Err Order
 
-abbrev pub below : ℕ → ℕ → ScriptCause → Result ℕ ScriptCause
+abbrev pub below : ℕ → ℕ → ScriptFault → Result ℕ ScriptFault
 below count n cause = if nat_le count n then Err cause else Ok n
 
-abbrev pub below_if_some : ℕ → Option ℕ → Result (Option ℕ) ScriptCause
+abbrev pub below_if_some : ℕ → Option ℕ → Result (Option ℕ) ScriptFault
 below_if_some periods None = Ok None
 below_if_some periods (Some t) = below periods t PeriodRange >>= (λ t. Ok (Some t))
 
-abbrev pub does : Step → Result ScriptFact ScriptCause
+abbrev pub does : Step → Result ScriptFact ScriptFault
 does done = Ok (says.Does done)
 
 -- a block is put into a period, alone or with what is carried along
@@ -67,48 +67,48 @@ placing (Some how) block period = step.Carry how block period
 
 -- ---- the lines, each by its fields behind the word, and by whether a job is open
 
-unfoldable pub begin_line : Bool → ℕ → List (List ℕ) → Result ScriptFact ScriptCause
+unfoldable pub begin_line : Bool → ℕ → List (List ℕ) → Result ScriptFact ScriptFault
 begin_line is_open jobs fields =
     no_field (if is_open then Err Order else if nat_le JOBS_MAX jobs then Err JobCount else Ok says.Begin) fields
 
-unfoldable pub end_line_of : JobEnd → Bool → List (List ℕ) → Result ScriptFact ScriptCause
+unfoldable pub end_line_of : JobEnd → Bool → List (List ℕ) → Result ScriptFact ScriptFault
 end_line_of end is_open fields = no_field (in_job is_open (Ok (says.Ends end))) fields
 
-unfoldable pub read_step : ℕ → Bool → List (List ℕ) → Result ScriptFact ScriptCause
+unfoldable pub read_step : ℕ → Bool → List (List ℕ) → Result ScriptFact ScriptFault
 read_step blocks is_open fields = one_field (λ b. in_job is_open (
     read_as whole_of b >>= (λ block. below blocks block BlockRange >>= (λ block. does (step.Read block))))) fields
 
-unfoldable pub clear_step : ℕ → Bool → List (List ℕ) → Result ScriptFact ScriptCause
+unfoldable pub clear_step : ℕ → Bool → List (List ℕ) → Result ScriptFact ScriptFault
 clear_step blocks is_open fields = one_field (λ b. in_job is_open (
     read_as whole_of b >>= (λ block. below blocks block BlockRange >>= (λ block. does (step.Clear block))))) fields
 
-unfoldable pub put_step : Option Way → ℕ → ℕ → Bool → List (List ℕ) → Result ScriptFact ScriptCause
+unfoldable pub put_step : Option Way → ℕ → ℕ → Bool → List (List ℕ) → Result ScriptFact ScriptFault
 put_step carried blocks periods is_open fields = two_fields (λ b t. in_job is_open (
     read_as whole_of b >>= (λ block. read_as whole_of t >>= (λ period.
     below blocks block BlockRange >>= (λ block. below periods period PeriodRange >>= (λ period. does (placing carried block period))))))) fields
 
-unfoldable pub shift_step : ℕ → Bool → List (List ℕ) → Result ScriptFact ScriptCause
+unfoldable pub shift_step : ℕ → Bool → List (List ℕ) → Result ScriptFact ScriptFault
 shift_step blocks is_open fields = two_fields (λ b d. in_job is_open (
     read_as whole_of b >>= (λ block. read_as shift_of d >>= (λ shift.
     below blocks block BlockRange >>= (λ block. does (step.Shift block shift.0 shift.1)))))) fields
 
-unfoldable pub bench_step : ℕ → Bool → List (List ℕ) → Result ScriptFact ScriptCause
+unfoldable pub bench_step : ℕ → Bool → List (List ℕ) → Result ScriptFact ScriptFault
 bench_step periods is_open fields = two_fields (λ z t. in_job is_open (
     read_as micro_of z >>= (λ height. read_as whole_of t >>= (λ period.
     below periods period PeriodRange >>= (λ period. does (step.Bench height period)))))) fields
 
-unfoldable pub expect_step : ℕ → ℕ → Bool → List (List ℕ) → Result ScriptFact ScriptCause
+unfoldable pub expect_step : ℕ → ℕ → Bool → List (List ℕ) → Result ScriptFact ScriptFault
 expect_step blocks periods is_open fields = two_fields (λ b t. in_job is_open (
     read_as whole_of b >>= (λ block. read_as period_or_none_of t >>= (λ period.
     below blocks block BlockRange >>= (λ block. below_if_some periods period >>= (λ period. does (step.Expect block period))))))) fields
 
-unfoldable pub revise_step : ℕ → ℕ → Bool → List (List ℕ) → Result ScriptFact ScriptCause
+unfoldable pub revise_step : ℕ → ℕ → Bool → List (List ℕ) → Result ScriptFact ScriptFault
 revise_step resources periods is_open fields = three_fields (λ r t v. in_job is_open (
     read_as whole_of r >>= (λ resource. read_as whole_of t >>= (λ period. read_as upper_bound_of v >>= (λ upper.
     below resources resource ResourceRange >>= (λ resource. below periods period PeriodRange >>= (λ period. does (step.Revise resource period upper)))))))) fields
 
 -- a line that begins with this word
-abbrev pub line_of_word : Pit → Bool → ℕ → Word → List (List ℕ) → Result ScriptFact ScriptCause
+abbrev pub line_of_word : Pit → Bool → ℕ → Word → List (List ℕ) → Result ScriptFact ScriptFault
 line_of_word pit is_open jobs word.Begin fields = begin_line is_open jobs fields
 line_of_word pit is_open jobs word.Read fields = read_step pit.blocks is_open fields
 line_of_word pit is_open jobs word.Put fields = put_step None pit.blocks pit.periods is_open fields
@@ -123,17 +123,17 @@ line_of_word pit is_open jobs word.Commit fields = end_line_of ending.Commit is_
 line_of_word pit is_open jobs word.Abort fields = end_line_of ending.Abort is_open fields
 
 -- what a line says by itself, where so many jobs have ended, and one is open or none
-unfoldable pub ranged_fact : Pit → Bool → ℕ → List (List ℕ) → Result ScriptFact ScriptCause
+unfoldable pub ranged_fact : Pit → Bool → ℕ → List (List ℕ) → Result ScriptFact ScriptFault
 ranged_fact pit is_open jobs [] = Err UnknownWord
 ranged_fact pit is_open jobs (first ∷ fields) = word_in first >>= (λ word. line_of_word pit is_open jobs word fields)
 
 -- a bench that it names has a block
-abbrev pub known_bench : Pit → ScriptFact → Result ScriptFact ScriptCause
+abbrev pub known_bench : Pit → ScriptFact → Result ScriptFact ScriptFault
 known_bench pit says.Begin = Ok says.Begin
 known_bench pit (says.Does (step.Bench height period)) = if has_bench pit height then does (step.Bench height period) else Err NoBench
 known_bench pit (says.Does other) = does other
 known_bench pit (says.Ends end) = Ok (says.Ends end)
 
 -- what a line says
-unfoldable pub line_fact : Pit → Bool → ℕ → List (List ℕ) → Result ScriptFact ScriptCause
+unfoldable pub line_fact : Pit → Bool → ℕ → List (List ℕ) → Result ScriptFact ScriptFault
 line_fact pit is_open jobs fields = ranged_fact pit is_open jobs fields >>= known_bench pit

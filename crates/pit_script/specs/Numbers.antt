@@ -6,11 +6,11 @@ use Rattle.pit_num.specs.declared.parse.NumError.TheVariants.{TooLarge}
 use Rattle.pit_text.specs.Stands.{◌>>=◌}
 use Rattle.pit_text.specs.Numbers.{field_as}
 use Rattle.pit_script.specs.declared.step.TheConstants.{SHIFT_MAX}
-use Rattle.pit_script.specs.declared.error.ScriptCause.{ScriptCause}
-use Rattle.pit_script.specs.declared.error.ScriptCause.TheVariants.{NotAscii, BadNumber}
+use Rattle.pit_script.specs.declared.error.ScriptFault.{ScriptFault}
+use Rattle.pit_script.specs.declared.error.ScriptFault.TheVariants.{NotAscii, BadNumber}
 
 -- what a field is read as, or what is wrong with it
-abbrev pub read_as : {X : Type 0} → (List ℕ → Result X NumError) → List ℕ → Result X ScriptCause
+abbrev pub read_as : {X : Type 0} → (List ℕ → Result X NumError) → List ℕ → Result X ScriptFault
 read_as number_of field = field_as NotAscii BadNumber number_of field
 
 -- whether it goes back, and by how many periods

@@ -2,7 +2,8 @@
 use Rattle.std.specs.Prelude.{◌≡◌, ◌⊎◌, ℕ, List, []}
 use Rattle.pit_model.specs.Pit.{Pit}
 use Rattle.pit_text.specs.Cutting.{cut_of, end_line}
-use Rattle.pit_text.specs.Stands.{StandsWhole, StopsAt, FailsWhole}
+use Rattle.pit_text.specs.Stands.{StandsWhole, StopsAt, FailsWhole, NamesFault}
+use Rattle.pit_script.specs.Causes.{script_cause_of}
 use Rattle.pit_script.specs.Jobs.{Job, jobs_of, script_line, script_end}
 use Rattle.pit_script.specs.declared.error.ScriptCause.TheVariants.{NoMemory}
 use Rattle.pit_script.specs.declared.error.ScriptError.{ScriptError}
@@ -24,4 +25,4 @@ WantsMemoryAt pit text line = StopsAt (script_line pit) (cut_of text) line ⊎ (
 abbrev pub IsScriptError : Pit → List ℕ → ScriptError → Type 0
 IsScriptError pit text error =
     ((error.cause ≡ NoMemory) × WantsMemoryAt pit text error.line)
-    ⊎ FailsWhole (script_line pit) script_end (cut_of text) (end_line text) error.line error.cause
+    ⊎ NamesFault script_cause_of (FailsWhole (script_line pit) script_end (cut_of text) (end_line text) error.line) error.cause

@@ -3,8 +3,8 @@ use Rattle.std.specs.Prelude.{ℕ, List, [], ◌∷◌, Option, Some, None, Resu
 use Rattle.std.specs.Map.{lookup}
 use Rattle.std.specs.Str.{bytes_eq}
 use Rattle.pit_text.specs.Numbers.{is_ascii}
-use Rattle.pit_script.specs.declared.error.ScriptCause.{ScriptCause}
-use Rattle.pit_script.specs.declared.error.ScriptCause.TheVariants.{NotAscii, UnknownWord}
+use Rattle.pit_script.specs.declared.error.ScriptFault.{ScriptFault}
+use Rattle.pit_script.specs.declared.error.ScriptFault.TheVariants.{NotAscii, UnknownWord}
 use Rattle.pit_script.specs.declared.word.Word.{Word}
 use Rattle.pit_script.specs.declared.word.Word.TheVariants.{Begin, Read, Put, Clear, Shift, Bench, Expect, Cone, Push, Revise, Commit, Abort}
 
@@ -27,9 +27,9 @@ words =
 unfoldable pub word_of : List ℕ → Option Word
 word_of field = lookup (bytes_eq field) words
 
-abbrev pub or_unknown : Option Word → Result Word ScriptCause
+abbrev pub or_unknown : Option Word → Result Word ScriptFault
 or_unknown None = Err UnknownWord
 or_unknown (Some word) = Ok word
 
-abbrev pub word_in : List ℕ → Result Word ScriptCause
+abbrev pub word_in : List ℕ → Result Word ScriptFault
 word_in field = if is_ascii field then or_unknown (word_of field) else Err NotAscii

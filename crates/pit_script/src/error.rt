@@ -1,3 +1,5 @@
+ghost use Rattle.std.specs.Prelude.{◌≡◌};
+
 use pit_num::NumError;
 use thiserror::Error;
 
@@ -40,6 +42,44 @@ pub enum ScriptCause {
     /// A growth was refused.
     #[error("no memory")]
     NoMemory,
+}
+
+/// What a line of a script, or its end, is judged to be wrong with: each cause of the same name but `NoMemory`.
+#[derive(Clone, Copy)]
+pub enum ScriptFault {
+    NotAscii,
+    UnknownWord,
+    FieldCount,
+    BadNumber(NumError),
+    BlockRange,
+    ResourceRange,
+    PeriodRange,
+    Order,
+    NoBench,
+    JobCount,
+    Unended,
+}
+
+impl From<ScriptFault> for ScriptCause {
+    ghost use Rattle.pit_script.specs.Causes.{script_cause_of};
+
+    ghost from_gives = { λ fault cause. cause ≡ script_cause_of fault };
+
+    fn from(fault: ScriptFault) -> ScriptCause {
+        match fault {
+            ScriptFault::NotAscii => ScriptCause::NotAscii,
+            ScriptFault::UnknownWord => ScriptCause::UnknownWord,
+            ScriptFault::FieldCount => ScriptCause::FieldCount,
+            ScriptFault::BadNumber(error) => ScriptCause::BadNumber(error),
+            ScriptFault::BlockRange => ScriptCause::BlockRange,
+            ScriptFault::ResourceRange => ScriptCause::ResourceRange,
+            ScriptFault::PeriodRange => ScriptCause::PeriodRange,
+            ScriptFault::Order => ScriptCause::Order,
+            ScriptFault::NoBench => ScriptCause::NoBench,
+            ScriptFault::JobCount => ScriptCause::JobCount,
+            ScriptFault::Unended => ScriptCause::Unended,
+        }
+    }
 }
 
 /// The first faulty line of a script, counted from 1, and what is wrong with it. Where memory ran out: a line up to which nothing is wrong, or the

@@ -1,18 +1,19 @@
 //! Laws of the definitions, each as the contract of a function that does nothing.
-ghost use Rattle.std.specs.Prelude.{◌≡◌, ℕ, List};
+ghost use Rattle.std.specs.Prelude.{◌≡◌, ◌≢◌, List};
 ghost use Rattle.pit_model.specs.Pit.{Pit};
 ghost use Rattle.pit_text.specs.Cutting.{Cut};
-ghost use Rattle.pit_text.specs.Stands.{FailsWhole, StandsWhole};
+ghost use Rattle.pit_text.specs.Stands.{StandsWhole};
 ghost use Rattle.pit_script.specs.Between.{lines_of_jobs};
+ghost use Rattle.pit_script.specs.Causes.{script_cause_of};
 ghost use Rattle.pit_script.specs.Jobs.{Job, jobs_of, script_line, script_end};
 ghost use Rattle.pit_script.specs.declared.fact.ScriptFact.{ScriptFact};
 ghost use Rattle.pit_script.specs.declared.step.TheConstants.{JOBS_MAX, SHIFT_MAX};
 
-use crate::error::ScriptCause;
+use crate::error::{ScriptCause, ScriptFault};
 
-/// A law of scripts: to be out of memory is no fault of a text. So that answer is told apart from each fault.
+/// A law of causes: to be out of memory is no fault. So that answer is told apart from each fault.
 pub fn no_fault_wants_memory()
-    ensures { (pit : Pit) (lines : List Cut) (end place : ℕ) → FailsWhole (script_line pit) script_end lines end place ScriptCause.NoMemory → ⊥ }
+    ensures { (fault : ScriptFault) → script_cause_of fault ≢ ScriptCause.NoMemory }
 {}
 
 /// A law of scripts: a job is what stands between its `begin` and its end. What the lines of a script say is its jobs, written out one after another;

@@ -17,7 +17,7 @@ mod step;
 mod word;
 
 pub use benches::Benches;
-pub use error::{ScriptCause, ScriptError};
+pub use error::{ScriptCause, ScriptError, ScriptFault};
 pub use fact::ScriptFact;
 pub use script::Script;
 pub use step::{JOBS_MAX, JobEnd, SHIFT_MAX, Step, Way};

@@ -7,7 +7,7 @@ ghost use Rattle.pit_script.specs.Lines.{line_fact, ranged_fact, known_bench, li
 ghost use Rattle.pit_script.specs.Inside.Lines.{MayStand};
 
 use super::benches::Benches;
-use super::error::ScriptCause;
+use super::error::ScriptFault;
 use super::fact::ScriptFact;
 use super::number::{decimal, period_or_none, shift, upper, whole};
 use super::step::{JOBS_MAX, JobEnd, Step, Way};
@@ -23,7 +23,7 @@ pub(crate) fn line_fact<A: Allocator + Copy + Drop>(
     is_open: bool,
     jobs: u32,
     benches: &Benches<A>,
-) -> Result<ScriptFact, ScriptCause>
+) -> Result<ScriptFact, ScriptFault>
     ensures value { result ≡ line_fact benches.now is_open jobs (fields_left fields.entry) }
     ensures stands { IfOk result (MayStand is_open jobs) }
     ensures in_range { IfOk result (IsFactIn benches.now) }
@@ -39,13 +39,13 @@ pub(crate) fn ranged_fact<A: Allocator + Copy + Drop>(
     is_open: bool,
     jobs: u32,
     pit: &Instance<A>,
-) -> Result<ScriptFact, ScriptCause>
+) -> Result<ScriptFact, ScriptFault>
     ensures value { result ≡ ranged_fact pit.now is_open jobs (fields_left fields.entry) }
     ensures stands { IfOk result (MayStand is_open jobs) }
     ensures in_range { IfOk result (IsFactIn pit.now) }
 {
     let Some(first) = fields.next() else {
-        return Err(ScriptCause::UnknownWord);
+        return Err(ScriptFault::UnknownWord);
     };
     let word = word_in(first)?;
     line_of_word(word, fields, is_open, jobs, pit)
@@ -55,13 +55,13 @@ pub(crate) fn ranged_fact<A: Allocator + Copy + Drop>(
 fn known_bench<A: Allocator + Copy + Drop>(
     fact: ScriptFact,
     benches: &Benches<A>,
-) -> Result<ScriptFact, ScriptCause>
+) -> Result<ScriptFact, ScriptFault>
     ensures value { result ≡ known_bench benches.now fact }
     ensures same { IfOk result (λ known. known ≡ fact) }
 {
     if let ScriptFact::Does(Step::Bench { height, .. }) = fact {
         if !benches.has(height) {
-            return Err(ScriptCause::NoBench);
+            return Err(ScriptFault::NoBench);
         }
     }
     Ok(fact)
@@ -74,7 +74,7 @@ fn line_of_word<A: Allocator + Copy + Drop>(
     is_open: bool,
     jobs: u32,
     pit: &Instance<A>,
-) -> Result<ScriptFact, ScriptCause>
+) -> Result<ScriptFact, ScriptFault>
     ensures value { result ≡ line_of_word pit.now is_open jobs word (fields_left fields.entry) }
     ensures stands { IfOk result (MayStand is_open jobs) }
     ensures in_range { IfOk result (IsFactIn pit.now) }
@@ -112,20 +112,20 @@ fn bench_step(
     mut fields: Fields<'_>,
     is_open: bool,
     periods: u32,
-) -> Result<ScriptFact, ScriptCause>
+) -> Result<ScriptFact, ScriptFault>
     ensures value { result ≡ bench_step periods is_open (fields_left fields.entry) }
     ensures stands { (jobs : ℕ) → IfOk result (MayStand is_open jobs) }
     ensures in_range { (pit : Pit) → pit.periods ≡ periods → IfOk result (IsFactIn pit) }
 {
     let (Some(z), Some(t), None) = (fields.next(), fields.next(), fields.next()) else {
-        return Err(ScriptCause::FieldCount);
+        return Err(ScriptFault::FieldCount);
     };
     if !is_open {
-        return Err(ScriptCause::Order);
+        return Err(ScriptFault::Order);
     }
     let height = decimal(z)?;
     let period = whole(t)?;
-    let period = below(periods, period, ScriptCause::PeriodRange)?;
+    let period = below(periods, period, ScriptFault::PeriodRange)?;
     Ok(ScriptFact::Does(Step::Bench { height, period }))
 }
 
@@ -135,7 +135,7 @@ fn revise_step(
     is_open: bool,
     resources: u32,
     periods: u32,
-) -> Result<ScriptFact, ScriptCause>
+) -> Result<ScriptFact, ScriptFault>
     ensures value { result ≡ revise_step resources periods is_open (fields_left fields.entry) }
     ensures stands { (jobs : ℕ) → IfOk result (MayStand is_open jobs) }
     ensures in_range { (pit : Pit) → pit.resources ≡ resources → pit.periods ≡ periods → IfOk result (IsFactIn pit) }
@@ -146,16 +146,16 @@ fn revise_step(
         fields.next(),
         fields.next(),
     ) else {
-        return Err(ScriptCause::FieldCount);
+        return Err(ScriptFault::FieldCount);
     };
     if !is_open {
-        return Err(ScriptCause::Order);
+        return Err(ScriptFault::Order);
     }
     let resource = whole(r)?;
     let period = whole(t)?;
     let upper = upper(v)?;
-    let resource = below(resources, resource, ScriptCause::ResourceRange)?;
-    let period = below(periods, period, ScriptCause::PeriodRange)?;
+    let resource = below(resources, resource, ScriptFault::ResourceRange)?;
+    let period = below(periods, period, ScriptFault::PeriodRange)?;
     Ok(ScriptFact::Does(Step::Revise {
         resource,
         period,
@@ -164,19 +164,19 @@ fn revise_step(
 }
 
 #[tactic(auto, unfolding(crate::specs::Lines::begin_line))]
-fn begin_line(mut fields: Fields<'_>, is_open: bool, jobs: u32) -> Result<ScriptFact, ScriptCause>
+fn begin_line(mut fields: Fields<'_>, is_open: bool, jobs: u32) -> Result<ScriptFact, ScriptFault>
     ensures value { result ≡ begin_line is_open jobs (fields_left fields.entry) }
     ensures stands { IfOk result (MayStand is_open jobs) }
     ensures in_range { (pit : Pit) → IfOk result (IsFactIn pit) }
 {
     let None = fields.next() else {
-        return Err(ScriptCause::FieldCount);
+        return Err(ScriptFault::FieldCount);
     };
     if is_open {
-        return Err(ScriptCause::Order);
+        return Err(ScriptFault::Order);
     }
     if jobs >= JOBS_MAX {
-        return Err(ScriptCause::JobCount);
+        return Err(ScriptFault::JobCount);
     }
     Ok(ScriptFact::Begin)
 }
@@ -186,49 +186,49 @@ fn end_line_of(
     mut fields: Fields<'_>,
     is_open: bool,
     end: JobEnd,
-) -> Result<ScriptFact, ScriptCause>
+) -> Result<ScriptFact, ScriptFault>
     ensures value { result ≡ end_line_of end is_open (fields_left fields.entry) }
     ensures stands { (jobs : ℕ) → IfOk result (MayStand is_open jobs) }
     ensures in_range { (pit : Pit) → IfOk result (IsFactIn pit) }
 {
     let None = fields.next() else {
-        return Err(ScriptCause::FieldCount);
+        return Err(ScriptFault::FieldCount);
     };
     if !is_open {
-        return Err(ScriptCause::Order);
+        return Err(ScriptFault::Order);
     }
     Ok(ScriptFact::Ends(end))
 }
 
 #[tactic(auto, unfolding(crate::specs::Lines::read_step))]
-fn read_step(mut fields: Fields<'_>, is_open: bool, blocks: u32) -> Result<ScriptFact, ScriptCause>
+fn read_step(mut fields: Fields<'_>, is_open: bool, blocks: u32) -> Result<ScriptFact, ScriptFault>
     ensures value { result ≡ read_step blocks is_open (fields_left fields.entry) }
     ensures stands { (jobs : ℕ) → IfOk result (MayStand is_open jobs) }
     ensures in_range { (pit : Pit) → pit.blocks ≡ blocks → IfOk result (IsFactIn pit) }
 {
     let (Some(b), None) = (fields.next(), fields.next()) else {
-        return Err(ScriptCause::FieldCount);
+        return Err(ScriptFault::FieldCount);
     };
     if !is_open {
-        return Err(ScriptCause::Order);
+        return Err(ScriptFault::Order);
     }
-    let block = below(blocks, whole(b)?, ScriptCause::BlockRange)?;
+    let block = below(blocks, whole(b)?, ScriptFault::BlockRange)?;
     Ok(ScriptFact::Does(Step::Read { block }))
 }
 
 #[tactic(auto, unfolding(crate::specs::Lines::clear_step))]
-fn clear_step(mut fields: Fields<'_>, is_open: bool, blocks: u32) -> Result<ScriptFact, ScriptCause>
+fn clear_step(mut fields: Fields<'_>, is_open: bool, blocks: u32) -> Result<ScriptFact, ScriptFault>
     ensures value { result ≡ clear_step blocks is_open (fields_left fields.entry) }
     ensures stands { (jobs : ℕ) → IfOk result (MayStand is_open jobs) }
     ensures in_range { (pit : Pit) → pit.blocks ≡ blocks → IfOk result (IsFactIn pit) }
 {
     let (Some(b), None) = (fields.next(), fields.next()) else {
-        return Err(ScriptCause::FieldCount);
+        return Err(ScriptFault::FieldCount);
     };
     if !is_open {
-        return Err(ScriptCause::Order);
+        return Err(ScriptFault::Order);
     }
-    let block = below(blocks, whole(b)?, ScriptCause::BlockRange)?;
+    let block = below(blocks, whole(b)?, ScriptFault::BlockRange)?;
     Ok(ScriptFact::Does(Step::Clear { block }))
 }
 
@@ -239,39 +239,39 @@ fn put_step(
     carried: Option<Way>,
     blocks: u32,
     periods: u32,
-) -> Result<ScriptFact, ScriptCause>
+) -> Result<ScriptFact, ScriptFault>
     ensures value { result ≡ put_step carried blocks periods is_open (fields_left fields.entry) }
     ensures stands { (jobs : ℕ) → IfOk result (MayStand is_open jobs) }
     ensures in_range { (pit : Pit) → pit.blocks ≡ blocks → pit.periods ≡ periods → IfOk result (IsFactIn pit) }
 {
     let (Some(b), Some(t), None) = (fields.next(), fields.next(), fields.next()) else {
-        return Err(ScriptCause::FieldCount);
+        return Err(ScriptFault::FieldCount);
     };
     if !is_open {
-        return Err(ScriptCause::Order);
+        return Err(ScriptFault::Order);
     }
     let block = whole(b)?;
     let period = whole(t)?;
-    let block = below(blocks, block, ScriptCause::BlockRange)?;
-    let period = below(periods, period, ScriptCause::PeriodRange)?;
+    let block = below(blocks, block, ScriptFault::BlockRange)?;
+    let period = below(periods, period, ScriptFault::PeriodRange)?;
     Ok(ScriptFact::Does(placing(carried, block, period)))
 }
 
 #[tactic(auto, unfolding(crate::specs::Lines::shift_step))]
-fn shift_step(mut fields: Fields<'_>, is_open: bool, blocks: u32) -> Result<ScriptFact, ScriptCause>
+fn shift_step(mut fields: Fields<'_>, is_open: bool, blocks: u32) -> Result<ScriptFact, ScriptFault>
     ensures value { result ≡ shift_step blocks is_open (fields_left fields.entry) }
     ensures stands { (jobs : ℕ) → IfOk result (MayStand is_open jobs) }
     ensures in_range { (pit : Pit) → pit.blocks ≡ blocks → IfOk result (IsFactIn pit) }
 {
     let (Some(b), Some(d), None) = (fields.next(), fields.next(), fields.next()) else {
-        return Err(ScriptCause::FieldCount);
+        return Err(ScriptFault::FieldCount);
     };
     if !is_open {
-        return Err(ScriptCause::Order);
+        return Err(ScriptFault::Order);
     }
     let block = whole(b)?;
     let (is_back, by) = shift(d)?;
-    let block = below(blocks, block, ScriptCause::BlockRange)?;
+    let block = below(blocks, block, ScriptFault::BlockRange)?;
     Ok(ScriptFact::Does(Step::Shift { block, is_back, by }))
 }
 
@@ -281,20 +281,20 @@ fn expect_step(
     is_open: bool,
     blocks: u32,
     periods: u32,
-) -> Result<ScriptFact, ScriptCause>
+) -> Result<ScriptFact, ScriptFault>
     ensures value { result ≡ expect_step blocks periods is_open (fields_left fields.entry) }
     ensures stands { (jobs : ℕ) → IfOk result (MayStand is_open jobs) }
     ensures in_range { (pit : Pit) → pit.blocks ≡ blocks → pit.periods ≡ periods → IfOk result (IsFactIn pit) }
 {
     let (Some(b), Some(t), None) = (fields.next(), fields.next(), fields.next()) else {
-        return Err(ScriptCause::FieldCount);
+        return Err(ScriptFault::FieldCount);
     };
     if !is_open {
-        return Err(ScriptCause::Order);
+        return Err(ScriptFault::Order);
     }
     let block = whole(b)?;
     let period = period_or_none(t)?;
-    let block = below(blocks, block, ScriptCause::BlockRange)?;
+    let block = below(blocks, block, ScriptFault::BlockRange)?;
     let period = below_if_some(periods, period)?;
     Ok(ScriptFact::Does(Step::Expect { block, period }))
 }
@@ -311,18 +311,18 @@ fn placing(carried: Option<Way>, block: u32, period: u32) -> Step
 }
 
 /// A period, if it is one, that is below their count, or the cause that it isn't.
-fn below_if_some(periods: u32, period: Option<u32>) -> Result<Option<u32>, ScriptCause>
+fn below_if_some(periods: u32, period: Option<u32>) -> Result<Option<u32>, ScriptFault>
     ensures value { result ≡ below_if_some periods period }
     ensures below { IfOk result (λ period. IfSome period (λ t. t < periods)) }
 {
     let Some(t) = period else {
         return Ok(None);
     };
-    Ok(Some(below(periods, t, ScriptCause::PeriodRange)?))
+    Ok(Some(below(periods, t, ScriptFault::PeriodRange)?))
 }
 
 /// A number that is below a count, or the cause that it isn't.
-fn below(count: u32, n: u32, cause: ScriptCause) -> Result<u32, ScriptCause>
+fn below(count: u32, n: u32, cause: ScriptFault) -> Result<u32, ScriptFault>
     ensures value { result ≡ below count n cause }
     ensures below { IfOk result (λ n. n < count) }
 {

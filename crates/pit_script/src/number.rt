@@ -3,63 +3,63 @@ ghost use Rattle.pit_num.specs.Decimal.{whole_of, micro_of, after_sign, is_negat
 ghost use Rattle.pit_text.specs.Bounds.{upper_bound_of};
 ghost use Rattle.pit_script.specs.Numbers.{read_as, shift_of, is_dash, period_or_none_of};
 
-use super::error::ScriptCause;
+use super::error::ScriptFault;
 use super::step::SHIFT_MAX;
 use pit_num::{NumError, micro_from_bytes, whole_from_bytes};
 use pit_text::{is_ascii, upper_bound};
 
 /// The whole number in a field.
-pub(crate) fn whole(field: &[u8]) -> Result<u32, ScriptCause>
+pub(crate) fn whole(field: &[u8]) -> Result<u32, ScriptFault>
     ensures { result ≡ read_as whole_of field.now }
 {
     if !is_ascii(field) {
-        return Err(ScriptCause::NotAscii);
+        return Err(ScriptFault::NotAscii);
     }
     match whole_from_bytes(field) {
         Ok(n) => Ok(n),
-        Err(error) => Err(ScriptCause::BadNumber(error)),
+        Err(error) => Err(ScriptFault::BadNumber(error)),
     }
 }
 
 /// The decimal in a field, in millionths.
-pub(crate) fn decimal(field: &[u8]) -> Result<i64, ScriptCause>
+pub(crate) fn decimal(field: &[u8]) -> Result<i64, ScriptFault>
     ensures { result ≡ read_as micro_of field.now }
 {
     if !is_ascii(field) {
-        return Err(ScriptCause::NotAscii);
+        return Err(ScriptFault::NotAscii);
     }
     match micro_from_bytes(field) {
         Ok(n) => Ok(n),
-        Err(error) => Err(ScriptCause::BadNumber(error)),
+        Err(error) => Err(ScriptFault::BadNumber(error)),
     }
 }
 
 /// The upper bound in a field, in millionths; none where it is infinite.
-pub(crate) fn upper(field: &[u8]) -> Result<Option<i64>, ScriptCause>
+pub(crate) fn upper(field: &[u8]) -> Result<Option<i64>, ScriptFault>
     ensures { result ≡ read_as upper_bound_of field.now }
 {
     if !is_ascii(field) {
-        return Err(ScriptCause::NotAscii);
+        return Err(ScriptFault::NotAscii);
     }
     let Ok(text) = str::from_utf8(field) else {
-        return Err(ScriptCause::NotAscii);
+        return Err(ScriptFault::NotAscii);
     };
     match upper_bound(text) {
         Ok(bound) => Ok(bound),
-        Err(error) => Err(ScriptCause::BadNumber(error)),
+        Err(error) => Err(ScriptFault::BadNumber(error)),
     }
 }
 
 /// The period in a field, or none where it is a dash.
-pub(crate) fn period_or_none(field: &[u8]) -> Result<Option<u32>, ScriptCause>
+pub(crate) fn period_or_none(field: &[u8]) -> Result<Option<u32>, ScriptFault>
     ensures { result ≡ read_as period_or_none_of field.now }
 {
     if !is_ascii(field) {
-        return Err(ScriptCause::NotAscii);
+        return Err(ScriptFault::NotAscii);
     }
     match period_or_none_of(field) {
         Ok(period) => Ok(period),
-        Err(error) => Err(ScriptCause::BadNumber(error)),
+        Err(error) => Err(ScriptFault::BadNumber(error)),
     }
 }
 
@@ -84,15 +84,15 @@ fn is_dash(text: &[u8]) -> bool
 }
 
 /// Whether the shift in a field goes back, and by how many periods.
-pub(crate) fn shift(field: &[u8]) -> Result<(bool, u32), ScriptCause>
+pub(crate) fn shift(field: &[u8]) -> Result<(bool, u32), ScriptFault>
     ensures { result ≡ read_as shift_of field.now }
 {
     if !is_ascii(field) {
-        return Err(ScriptCause::NotAscii);
+        return Err(ScriptFault::NotAscii);
     }
     match shift_of(field) {
         Ok(shift) => Ok(shift),
-        Err(error) => Err(ScriptCause::BadNumber(error)),
+        Err(error) => Err(ScriptFault::BadNumber(error)),
     }
 }
 

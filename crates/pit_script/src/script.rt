@@ -1,8 +1,9 @@
 ghost use Rattle.std.specs.Prelude.{◌≡◌, ◌≤◌, ◌<◌, List, All, length, IfOk, MatchResult, ◌⊎◌, Ok};
 ghost use Rattle.pit_text.specs.Cutting.{cut_of, end_line};
 ghost use Rattle.pit_text.specs.Left.{fields_left};
-ghost use Rattle.pit_text.specs.Stands.{StandsFor, StopsAt, FailsFirst, FailsWhole};
+ghost use Rattle.pit_text.specs.Stands.{StandsFor, StopsAt, FailsFirst, FailsWhole, NamesFault};
 ghost use Rattle.pit_text.specs.Inside.Stands.{IsCauseOf};
+ghost use Rattle.pit_script.specs.Causes.{script_cause_of};
 ghost use Rattle.pit_script.specs.Jobs.{job_at, no_job, progress_of, fact_in, with_fact, script_line, script_end};
 ghost use Rattle.pit_script.specs.Inside.Kept.{jobs_in, AreJobEnds, start_from};
 ghost use Rattle.pit_script.specs.Ranges.{IsStepIn, AreJobsIn};
@@ -168,7 +169,7 @@ fn read<A: Allocator + Copy + Drop>(
 /// What is answered where the benches are refused. No line asks for a bench before a job is open, so the first line is judged without them.
 fn first_fault<A: Allocator + Copy + Drop>(text: &[u8], pit: &Instance<A>) -> ScriptError
     ensures { ((result.cause ≡ ScriptCause.NoMemory) × WantsMemoryAt pit.now text.now result.line)
-        ⊎ FailsFirst (script_line pit.now) (cut_of text.now) result.line result.cause }
+        ⊎ NamesFault script_cause_of (FailsFirst (script_line pit.now) (cut_of text.now) result.line) result.cause }
 {
     let mut lines = Lines::new(text);
     let Some(line) = lines.next() else {
@@ -185,11 +186,11 @@ fn first_fault<A: Allocator + Copy + Drop>(text: &[u8], pit: &Instance<A>) -> Sc
 
 /// What is answered of a first line: what is wrong with it, or else that it is out of memory.
 fn first_cause<A: Allocator + Copy + Drop>(fields: Fields<'_>, pit: &Instance<A>) -> ScriptCause
-    ensures { IsCauseOf ScriptCause.NoMemory (fact_in pit.now no_job (fields_left fields.entry)) result }
+    ensures { IsCauseOf ScriptCause.NoMemory script_cause_of (fact_in pit.now no_job (fields_left fields.entry)) result }
 {
     match ranged_fact(fields, false, 0, pit) {
         Ok(_) => ScriptCause::NoMemory,
-        Err(cause) => cause,
+        Err(fault) => ScriptCause::from(fault),
     }
 }
 
@@ -202,7 +203,7 @@ fn read_lines<A: Allocator + Copy + Drop>(
     ensures in_range { IfOk result (λ read. IsProgressIn benches.now read.0) }
     ensures result { let judge = script_line benches.now in MatchResult result
         (λ read. (facts : List Fact) × StandsFor judge (cut_of text.now) facts × (read.0 ≡ progress_of facts) × (read.1 ≡ end_line text.now))
-        (λ fault. ((fault.cause ≡ ScriptCause.NoMemory) × StopsAt judge (cut_of text.now) fault.line) ⊎ FailsFirst judge (cut_of text.now) fault.line fault.cause) }
+        (λ fault. ((fault.cause ≡ ScriptCause.NoMemory) × StopsAt judge (cut_of text.now) fault.line) ⊎ NamesFault script_cause_of (FailsFirst judge (cut_of text.now) fault.line) fault.cause) }
 {
     let mut draft = Draft::new(alloc);
     let mut lines = Lines::new(text);
@@ -224,7 +225,7 @@ fn add_line<A: Allocator + Copy + Drop>(
 ) -> Result<(), ScriptCause>
     ensures { MatchResult result
         (λ _. (fact : Fact) × IsFactIn benches.now fact × (fact_in benches.now draft.old (fields_left fields.entry) ≡ Ok fact) × (draft.new ≡ with_fact draft.old fact))
-        (λ cause. IsCauseOf ScriptCause.NoMemory (fact_in benches.now draft.old (fields_left fields.entry)) cause) }
+        (λ cause. IsCauseOf ScriptCause.NoMemory script_cause_of (fact_in benches.now draft.old (fields_left fields.entry)) cause) }
 {
     let fact = line_fact(fields, draft.is_open(), draft.jobs(), benches)?;
     let Ok(()) = draft.add(fact) else {

@@ -1,7 +1,7 @@
 ghost use Rattle.std.specs.Prelude.{◌≡◌};
 ghost use Rattle.pit_script.specs.Words.{word_of, word_in};
 
-use super::error::ScriptCause;
+use super::error::ScriptFault;
 use pit_text::{is_ascii, look_up};
 
 /// The word that a line of a script begins with.
@@ -50,14 +50,14 @@ const WORDS: &[(&str, Word)] = &[
 ];
 
 /// The word in a field.
-pub(crate) fn word_in(field: &[u8]) -> Result<Word, ScriptCause>
+pub(crate) fn word_in(field: &[u8]) -> Result<Word, ScriptFault>
     ensures { result ≡ word_in field.now }
 {
     if !is_ascii(field) {
-        return Err(ScriptCause::NotAscii);
+        return Err(ScriptFault::NotAscii);
     }
     let Some(word) = word_of(field) else {
-        return Err(ScriptCause::UnknownWord);
+        return Err(ScriptFault::UnknownWord);
     };
     Ok(word)
 }

@@ -3,20 +3,19 @@ use Rattle.std.proofs.Common.{◌≡◌, ◌⊎◌, inl, inr, ℕ, List, Result,
 use Rattle.std.proofs.lemmas.Result.{MatchResult-weaker}
 use Rattle.pit_model.specs.Pit.{Pit}
 use Rattle.pit_text.specs.Cutting.{cut_of, end_line}
-use Rattle.pit_text.specs.declared.error.Cause.{Cause}
 use Rattle.pit_text.specs.declared.error.Cause.TheVariants.{NoMemory as WantsMemory}
 use Rattle.pit_text.specs.declared.error.TextError.{TextError}
-use Rattle.pit_text.specs.Stands.{StopsAt, FailsFirst, FailsWhole}
-use Rattle.pit_text.specs.Model.{model_line, model_end, ModelStops}
+use Rattle.pit_text.specs.Stands.{StopsAt}
+use Rattle.pit_text.specs.Model.{ModelStops}
 use Rattle.pit_text.specs.Precedence.{precedence_line}
 use Rattle.pit_text.specs.Blocks.{block_line}
-use Rattle.pit_text.specs.Solution.{solution_line, SolutionStops}
-use Rattle.pit_text.proofs.CallerLemmas.{no_model_wants, no_order_wants, no_block_wants, no_solution_wants}
+use Rattle.pit_text.specs.Solution.{SolutionStops}
+use Rattle.pit_text.proofs.CallerLemmas.{no_fault_wants, stop_alone}
 use Rattle.pit_step.specs.declared.input.Input.{Input}
 use Rattle.pit_step.specs.declared.fault.CliFault.{CliFault}
 use Rattle.pit_step.specs.declared.fault.CliFault.TheVariants.{NoMemory}
 use Rattle.pit_step.specs.Devices.{Reading, input_step}
-use Rattle.pit_step.specs.Inputs.{IsModel, IsModelStop, IsOrder, IsOrderStop, IsPlacesStop, IsSolutionOf, IsSolutionStop}
+use Rattle.pit_step.specs.Inputs.{IsModel, IsBadModel, IsModelStop, IsOrder, IsBadOrder, IsOrderStop, IsBadPlaces, IsPlacesStop, IsSolutionOf, IsBadSolution, IsSolutionStop}
 
 -- ---- behind the whole text
 
@@ -34,49 +33,24 @@ solution-stop pit bytes schedule is = inr (is.facts, is.stands)
 
 -- ---- where a reader is out of memory
 
-stop_alone : (Stops : Type 0) (Fails : Cause → Type 0) (cause : Cause) → cause ≡ WantsMemory → (Fails WantsMemory → ⊥) → ((cause ≡ WantsMemory) × Stops) ⊎ Fails cause → Stops
-stop_alone Stops Fails cause is never (inl stops) = stops.1
-stop_alone Stops Fails cause is never (inr fails) = absurd (never (subst Fails is fails))
-
-pub model-wants : (bytes : List ℕ) (error : TextError) → error.cause ≡ WantsMemory
-    → ((error.cause ≡ WantsMemory) × ModelStops (cut_of bytes) (end_line bytes) error.line) ⊎ FailsWhole model_line model_end (cut_of bytes) (end_line bytes) error.line error.cause → IsModelStop bytes
+pub model-wants : (bytes : List ℕ) (error : TextError) → error.cause ≡ WantsMemory → ((error.cause ≡ WantsMemory) × ModelStops (cut_of bytes) (end_line bytes) error.line) ⊎ IsBadModel bytes error → IsModelStop bytes
 unfolding IsModelStop
-model-wants bytes error is answered = (
-  error.line,
-  stop_alone (ModelStops (cut_of bytes) (end_line bytes) error.line) (FailsWhole model_line model_end (cut_of bytes) (end_line bytes) error.line) error.cause is
-      (no_model_wants (cut_of bytes) (end_line bytes) error.line) answered,
-)
+model-wants bytes error is answered = (error.line, stop_alone no_fault_wants is answered)
 
-pub order-wants : (given : Pit) (bytes : List ℕ) (error : TextError) → error.cause ≡ WantsMemory
-    → ((error.cause ≡ WantsMemory) × StopsAt (precedence_line given) (cut_of bytes) error.line) ⊎ FailsFirst (precedence_line given) (cut_of bytes) error.line error.cause → IsOrderStop given bytes
+pub order-wants : (given : Pit) (bytes : List ℕ) (error : TextError) → error.cause ≡ WantsMemory → ((error.cause ≡ WantsMemory) × StopsAt (precedence_line given) (cut_of bytes) error.line) ⊎ IsBadOrder given bytes error
+    → IsOrderStop given bytes
 unfolding IsOrderStop
-order-wants given bytes error is answered =
-    inl (
-      error.line,
-      stop_alone (StopsAt (precedence_line given) (cut_of bytes) error.line) (FailsFirst (precedence_line given) (cut_of bytes) error.line) error.cause is
-          (no_order_wants given (cut_of bytes) error.line) answered,
-    )
+order-wants given bytes error is answered = inl (error.line, stop_alone no_fault_wants is answered)
 
-pub places-wants : (given : Pit) (bytes : List ℕ) (error : TextError) → error.cause ≡ WantsMemory
-    → ((error.cause ≡ WantsMemory) × StopsAt (block_line given) (cut_of bytes) error.line) ⊎ FailsFirst (block_line given) (cut_of bytes) error.line error.cause → IsPlacesStop given bytes
+pub places-wants : (given : Pit) (bytes : List ℕ) (error : TextError) → error.cause ≡ WantsMemory → ((error.cause ≡ WantsMemory) × StopsAt (block_line given) (cut_of bytes) error.line) ⊎ IsBadPlaces given bytes error
+    → IsPlacesStop given bytes
 unfolding IsPlacesStop
-places-wants given bytes error is answered =
-    inl (
-      error.line,
-      stop_alone (StopsAt (block_line given) (cut_of bytes) error.line) (FailsFirst (block_line given) (cut_of bytes) error.line) error.cause is
-          (no_block_wants given (cut_of bytes) error.line) answered,
-    )
+places-wants given bytes error is answered = inl (error.line, stop_alone no_fault_wants is answered)
 
 pub solution-wants : (pit : Pit) (bytes : List ℕ) (error : TextError) → error.cause ≡ WantsMemory
-    → ((error.cause ≡ WantsMemory) × SolutionStops pit.blocks pit.periods (cut_of bytes) (end_line bytes) error.line) ⊎ FailsFirst (solution_line pit.blocks pit.periods) (cut_of bytes) error.line error.cause
-    → IsSolutionStop pit bytes
+    → ((error.cause ≡ WantsMemory) × SolutionStops pit.blocks pit.periods (cut_of bytes) (end_line bytes) error.line) ⊎ IsBadSolution pit bytes error → IsSolutionStop pit bytes
 unfolding IsSolutionStop
-solution-wants pit bytes error is answered =
-    inl (
-      error.line,
-      stop_alone (SolutionStops pit.blocks pit.periods (cut_of bytes) (end_line bytes) error.line) (FailsFirst (solution_line pit.blocks pit.periods) (cut_of bytes) error.line) error.cause is
-          (no_solution_wants pit.blocks pit.periods (cut_of bytes) error.line) answered,
-    )
+solution-wants pit bytes error is answered = inl (error.line, stop_alone no_fault_wants is answered)
 
 -- ---- a value that is made of what a text stands for, or there is no memory for it
 

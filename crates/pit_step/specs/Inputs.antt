@@ -3,7 +3,8 @@ use Rattle.std.specs.Prelude.{◌≡◌, ◌⊎◌, ℕ, ℤ, ◌++◌, List, Op
 use Rattle.pit_model.specs.Pit.{Pit}
 use Rattle.pit_text.specs.declared.error.TextError.{TextError}
 use Rattle.pit_text.specs.Cutting.{cut_of, end_line}
-use Rattle.pit_text.specs.Stands.{StandsFor, StopsAt, FailsFirst, StandsWhole, FailsWhole}
+use Rattle.pit_text.specs.Causes.{cause_of}
+use Rattle.pit_text.specs.Stands.{StandsFor, StopsAt, FailsFirst, StandsWhole, FailsWhole, NamesFault}
 use Rattle.pit_text.specs.Model.{model_line, model_end, pit_of, ModelStops}
 use Rattle.pit_text.specs.Precedence.{precedence_line, pit_with_preds}
 use Rattle.pit_text.specs.Blocks.{block_line, pit_with_places}
@@ -42,28 +43,28 @@ abbrev pub IsModel : List ℕ → Pit → Type 0
 IsModel bytes = StandsAs (StandsWhole model_line model_end (cut_of bytes)) pit_of
 
 abbrev pub IsBadModel : List ℕ → TextError → Type 0
-IsBadModel bytes error = FailsWhole model_line model_end (cut_of bytes) (end_line bytes) error.line error.cause
+IsBadModel bytes error = NamesFault cause_of (FailsWhole model_line model_end (cut_of bytes) (end_line bytes) error.line) error.cause
 
 -- precedences that stand for a pit, of one that is given; and one with its first error
 abbrev pub IsOrder : Pit → List ℕ → Pit → Type 0
 IsOrder given bytes = StandsAs (StandsFor (precedence_line given) (cut_of bytes)) (pit_with_preds given)
 
 abbrev pub IsBadOrder : Pit → List ℕ → TextError → Type 0
-IsBadOrder given bytes error = FailsFirst (precedence_line given) (cut_of bytes) error.line error.cause
+IsBadOrder given bytes error = NamesFault cause_of (FailsFirst (precedence_line given) (cut_of bytes) error.line) error.cause
 
 -- places of blocks that stand for a pit, of one that is given; and places with their first error
 abbrev pub IsPlaced : Pit → List ℕ → Pit → Type 0
 IsPlaced given bytes = StandsAs (StandsFor (block_line given) (cut_of bytes)) (pit_with_places given)
 
 abbrev pub IsBadPlaces : Pit → List ℕ → TextError → Type 0
-IsBadPlaces given bytes error = FailsFirst (block_line given) (cut_of bytes) error.line error.cause
+IsBadPlaces given bytes error = NamesFault cause_of (FailsFirst (block_line given) (cut_of bytes) error.line) error.cause
 
 -- a solution of a pit, its blocks with their periods by rising block, and one with its first error
 abbrev pub IsSolutionOf : Pit → List ℕ → List (ℕ × ℕ) → Type 0
 IsSolutionOf pit bytes = StandsAs (StandsFor (solution_line pit.blocks pit.periods) (cut_of bytes)) (λ facts. schedule_of pit.blocks (period_in facts))
 
 abbrev pub IsBadSolution : Pit → List ℕ → TextError → Type 0
-IsBadSolution pit bytes error = FailsFirst (solution_line pit.blocks pit.periods) (cut_of bytes) error.line error.cause
+IsBadSolution pit bytes error = NamesFault cause_of (FailsFirst (solution_line pit.blocks pit.periods) (cut_of bytes) error.line) error.cause
 
 -- ---- where there is no memory for what a text says: at a line, where none so far has a fault, or behind the whole text, which has none
 

@@ -9,7 +9,7 @@ use Rattle.std.proofs.lemmas.Bool.{cases_eq}
 use Rattle.std.proofs.lemmas.Bool.Decides.{nat_tests}
 use Rattle.pit_num.specs.declared.limits.TheConstants.{PERIODS_MAX, RATE_MAX}
 use Rattle.pit_model.specs.declared.counts.TheConstants.{BLOCKS_MAX, RESOURCES_MAX}
-use Rattle.pit_text.specs.declared.error.Cause.{Cause}
+use Rattle.pit_text.specs.declared.error.Fault.{Fault}
 use Rattle.pit_text.specs.declared.model.key.Key.{Key}
 use Rattle.pit_text.specs.declared.model.key.Key.TheVariants.{Kind, Blocks, Periods, Resources, Rate, Destinations, Generals}
 use Rattle.pit_text.specs.declared.model.section.Section.{Section}
@@ -66,15 +66,15 @@ section_number-lt Limits = omega arith
 
 -- ---- the numbers that a value may give
 
-number_in_range-range : (low high : ℕ) (key : Key) (r : Result ℕ Cause) (n : ℕ) → number_in_range low high key r ≡ Ok n → (low ≤ n) × (n ≤ high)
+number_in_range-range : (low high : ℕ) (key : Key) (r : Result ℕ Fault) (n : ℕ) → number_in_range low high key r ≡ Ok n → (low ≤ n) × (n ≤ high)
 number_in_range-range low high key (Ok m) n is = grind (arith, nat_tests)
 number_in_range-range low high key (Err e) n is = cc
 
-supported_number-one : (wanted : ℕ) (key : Key) (r : Result ℕ Cause) (n : ℕ) → supported_number wanted key r ≡ Ok n → n ≡ wanted
+supported_number-one : (wanted : ℕ) (key : Key) (r : Result ℕ Fault) (n : ℕ) → supported_number wanted key r ≡ Ok n → n ≡ wanted
 supported_number-one wanted key (Ok m) n is = grind (arith, nat_tests)
 supported_number-one wanted key (Err e) n is = cc
 
-rate-small : (r : Result ℤ Cause) (n : ℕ) → rate_of r ≡ Ok n → n ≤ RATE_MAX
+rate-small : (r : Result ℤ Fault) (n : ℕ) → rate_of r ≡ Ok n → n ≤ RATE_MAX
 rate-small (Ok (pos m)) n is = grind (arith, nat_tests)
 rate-small (Ok (negsuc m)) n is = cc
 rate-small (Err e) n is = cc

@@ -3,7 +3,7 @@ use Rattle.std.proofs.Common.{◌≡◌, ◌≢◌, ℕ, inl, true, false, List,
 use Rattle.std.specs.List.{cons_option}
 use Rattle.std.specs.Option.{option_map}
 use Rattle.pit_model.specs.Pit.{Pit, empty_pit}
-use Rattle.pit_text.specs.declared.error.Cause.TheVariants.{MissingHeader}
+use Rattle.pit_text.specs.declared.error.Fault.TheVariants.{MissingHeader}
 use Rattle.pit_text.specs.declared.model.key.Key.{Key}
 use Rattle.pit_text.specs.declared.model.key.Key.TheVariants.{Blocks, Periods, Resources, Rate}
 use Rattle.pit_text.specs.declared.model.section.Section.{Section}

@@ -10,8 +10,8 @@ use Rattle.pit_model.specs.Tightest.{LimitLine, AreTightest}
 use Rattle.pit_model.specs.declared.error.BuildError.{BuildError}
 use Rattle.pit_model.specs.declared.error.BuildError.TheVariants.{ResourceRange, PeriodRange, Interval}
 use Rattle.pit_model.proofs.CallerLemmas.{tightest-empty, tightest-line}
-use Rattle.pit_text.specs.declared.error.Cause.{Cause}
-use Rattle.pit_text.specs.declared.error.Cause.TheVariants.{BadHeader, SectionTwice}
+use Rattle.pit_text.specs.declared.error.Fault.{Fault}
+use Rattle.pit_text.specs.declared.error.Fault.TheVariants.{BadHeader, SectionTwice}
 use Rattle.pit_text.specs.declared.model.key.Key.{Key}
 use Rattle.pit_text.specs.declared.model.key.Key.TheVariants.{Blocks, Periods, Resources, Rate}
 use Rattle.pit_text.specs.declared.model.section.Section.{Section}
@@ -36,7 +36,7 @@ Comes earlier (header key n) = sections earlier ≡ []
 Comes earlier (section s) = Unit {0}
 Comes earlier (in_section e) = (sections earlier ≢ []) × (section_fact_refusal (pit_of earlier) e ≡ None)
 
-same_fact : (earlier : List Fact) (one fact : Fact) (r : Result Fact Cause) → r ≡ Ok one → r ≡ Ok fact → Comes earlier one → Comes earlier fact
+same_fact : (earlier : List Fact) (one fact : Fact) (r : Result Fact Fault) → r ≡ Ok one → r ≡ Ok fact → Comes earlier one → Comes earlier fact
 same_fact earlier one fact r is also comes = let same : one ≡ fact = cc in subst (λ (f : Fact). Comes earlier f) same comes
 
 last_none : {X : Type 0} (xs : List X) → last_of xs ≡ None → xs ≡ []
@@ -52,7 +52,7 @@ header-comes earlier None values fact none is = same_fact earlier skipped fact (
 header-comes earlier (Some key) [] fact none is = cc
 header-comes earlier (Some key) (value ∷ []) fact none is = by (is_some (header_value earlier key)) (value_of_key key value) is
   where
-    by : (comes_again : Bool) (r : Result ℕ Cause) → cond comes_again (Err (BadHeader key)) (r >>= (λ n. Ok (header key n))) ≡ Ok fact → Comes earlier fact
+    by : (comes_again : Bool) (r : Result ℕ Fault) → cond comes_again (Err (BadHeader key)) (r >>= (λ n. Ok (header key n))) ≡ Ok fact → Comes earlier fact
     by true r is = cc
     by false (Ok n) is = same_fact earlier (header key n) fact (Ok (header key n)) refl is none
     by false (Err e) is = cc
@@ -70,7 +70,7 @@ unrefused : (earlier : List Fact) (e : SectionFact) (refusal : Option BuildError
 unrefused earlier e None fact due some is = same_fact earlier (in_section e) fact (Ok (in_section e)) refl is (some, due)
 unrefused earlier e (Some refusal) fact due some is = cc
 
-fact-comes : (earlier : List Fact) (r : Result SectionFact Cause) (fact : Fact) → sections earlier ≢ [] → (r >>= new_section_fact earlier) ≡ Ok fact → Comes earlier fact
+fact-comes : (earlier : List Fact) (r : Result SectionFact Fault) (fact : Fact) → sections earlier ≢ [] → (r >>= new_section_fact earlier) ≡ Ok fact → Comes earlier fact
 fact-comes earlier (Ok e) fact some is = unrefused earlier e (section_fact_refusal (pit_of earlier) e) fact refl some is
 fact-comes earlier (Err cause) fact some is = cc
 

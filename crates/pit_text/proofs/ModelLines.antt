@@ -1,7 +1,7 @@
 -- What a line of a model is judged to be.
 use Rattle.std.proofs.Common.{◌≡◌, ℕ, List, [], ◌∷◌, cond, Option, Some, None, is_some, Result, Ok, Err, MatchResult, ap, ◌∙◌, refl}
-use Rattle.pit_text.specs.declared.error.Cause.{Cause}
-use Rattle.pit_text.specs.declared.error.Cause.TheVariants.{BadHeader}
+use Rattle.pit_text.specs.declared.error.Fault.{Fault}
+use Rattle.pit_text.specs.declared.error.Fault.TheVariants.{BadHeader}
 use Rattle.pit_text.specs.declared.model.key.Key.{Key}
 use Rattle.pit_text.specs.declared.model.section.Section.{Section}
 use Rattle.pit_text.specs.Stands.{◌>>=◌}
@@ -34,7 +34,7 @@ line_section_fact facts first values s none is = line_inside facts first values 
 pub new_key : (facts : List Fact) (key : Key) (value : List ℕ) (n : ℕ) → header_value facts key ≡ None → value_of_key key value ≡ Ok n → key_line facts key (value ∷ []) ≡ Ok (header key n)
 new_key facts key value n none is =
     ap (λ (o : Option ℕ). cond (is_some o) (Err (BadHeader key)) (value_of_key key value >>= (λ m. Ok (header key m)))) none
-    ∙ ap (λ (r : Result ℕ Cause). r >>= (λ m. Ok (header key m))) is
+    ∙ ap (λ (r : Result ℕ Fault). r >>= (λ m. Ok (header key m))) is
 
 -- a fact about either variant
 pub match_map : {T E : Type 0} (r : Result T E) {P P' : T → Type 0} {Q Q' : E → Type 0} → ((x : T) → P x → P' x) → ((e : E) → Q e → Q' e) → MatchResult r P Q → MatchResult r P' Q'

@@ -2,7 +2,7 @@
 use Rattle.std.proofs.Common.{inl, inr, ◌⊎◌, ◌≡◌, ℕ, List, [], ◌∷◌, ◌++◌, Result, Ok, Err, Option, Some, None, ap, sym, ◌∙◌, refl, subst, append_assoc}
 use Rattle.std.proofs.lemmas.List.{append-nil}
 use Rattle.pit_text.specs.Cutting.{Cut}
-use Rattle.pit_text.specs.Stands.{Judge, EndTest, StatesAfter, StandsFor, FailsFirst, StandsWhole, FailsWhole, HasOneResult}
+use Rattle.pit_text.specs.Stands.{Judge, EndTest, StatesAfter, StandsFor, FailsFirst, StandsWhole, FailsWhole, HasOneResult, NamesFault}
 use Rattle.pit_text.proofs.States.{states_more}
 
 pub states_one : {F C : Type 0} (judge : Judge F C) (earlier : List F) (lines : List Cut) (facts others : List F) → StatesAfter judge earlier lines facts → StatesAfter judge earlier lines others → facts ≡ others
@@ -145,4 +145,19 @@ one_whole_result judge end_test lines end = record {
   apart = λ facts place cause p q. whole_apart judge end_test lines end facts place cause p q;
   places = λ place other cause why p q. (whole_fault judge end_test lines end place other cause why p q).0;
   causes = λ place other cause why p q. (whole_fault judge end_test lines end place other cause why p q).1;
+}
+
+-- its fault, by the cause that is answered
+named_some : {F C D : Type 0} (cause_of : D → C) (Stands : List F → Type 0) (Fails : ℕ → D → Type 0) → ((facts : List F) × Stands facts) ⊎ ((place : ℕ) × (fault : D) × Fails place fault)
+    → ((facts : List F) × Stands facts) ⊎ ((place : ℕ) × (cause : C) × NamesFault cause_of (Fails place) cause)
+named_some cause_of Stands Fails (inl found) = inl found
+named_some cause_of Stands Fails (inr bad) = inr (bad.0, cause_of bad.1, (bad.1, refl, bad.2))
+
+pub named-result : {F C D : Type 0} (cause_of : D → C) (Stands : List F → Type 0) (Fails : ℕ → D → Type 0) → HasOneResult Stands Fails → HasOneResult Stands (λ place. NamesFault cause_of (Fails place))
+named-result cause_of Stands Fails one = record {
+  some = named_some cause_of Stands Fails one.some;
+  facts = one.facts;
+  apart = λ facts place cause p q. one.apart facts place q.0 p q.2;
+  places = λ place other cause why p q. one.places place other p.0 q.0 p.2 q.2;
+  causes = λ place other cause why p q. p.1 ∙ ap cause_of (one.causes place other p.0 q.0 p.2 q.2) ∙ sym q.1;
 }

@@ -9,8 +9,8 @@ use Rattle.std.proofs.lemmas.Bool.Decides.{nat_tests}
 use Rattle.pit_num.specs.Decimal.{are_digits, is_number, whole_of}
 use Rattle.pit_num.specs.Front.{IsWholeThen, is_value}
 use Rattle.pit_text.specs.Cutting.{lines_of, fields_of, is_gap, is_mark, is_comment, is_last, is_read, without_return, cut_from}
-use Rattle.pit_text.specs.declared.error.Cause.{Cause}
-use Rattle.pit_text.specs.declared.error.Cause.TheVariants.{CountWrong}
+use Rattle.pit_text.specs.declared.error.Fault.{Fault}
+use Rattle.pit_text.specs.declared.error.Fault.TheVariants.{CountWrong}
 use Rattle.pit_text.specs.Stands.{◌>>=◌}
 use Rattle.pit_text.specs.Numbers.{whole_field}
 use Rattle.pit_text.specs.Precedence.{wholes_of, listed_blocks, preds_line}
@@ -217,26 +217,26 @@ two_fields text behind rest n m one other = (
 
 -- ---- lists of numbers
 
-joined : (a : Result ℕ Cause) (b c : Result (List ℕ) Cause)
+joined : (a : Result ℕ Fault) (b c : Result (List ℕ) Fault)
     → (a >>= (λ n. (b >>= (λ xs. c >>= (λ ys. Ok (xs ++ ys)))) >>= (λ more. Ok (n ∷ more)))) ≡ ((a >>= (λ n. b >>= (λ more. Ok (n ∷ more)))) >>= (λ xs. c >>= (λ ys. Ok (xs ++ ys))))
 joined (Ok n) (Ok xs) (Ok ys) = refl
 joined (Ok n) (Ok xs) (Err e) = refl
 joined (Ok n) (Err e) c = refl
 joined (Err e) b c = refl
 
-unjoined : (c : Result (List ℕ) Cause) → c ≡ (c >>= (λ ys. Ok ([] ++ ys)))
+unjoined : (c : Result (List ℕ) Fault) → c ≡ (c >>= (λ ys. Ok ([] ++ ys)))
 unjoined (Ok ys) = refl
 unjoined (Err e) = refl
 
 wholes_append : (xs ys : List (List ℕ)) → wholes_of (xs ++ ys) ≡ (wholes_of xs >>= (λ ns. wholes_of ys >>= (λ ms. Ok (ns ++ ms))))
 wholes_append [] ys = unjoined (wholes_of ys)
-wholes_append (x ∷ xs) ys = ap (λ (r : Result (List ℕ) Cause). whole_field x >>= (λ n. r >>= (λ more. Ok (n ∷ more)))) (wholes_append xs ys) ∙ joined (whole_field x) (wholes_of xs) (wholes_of ys)
+wholes_append (x ∷ xs) ys = ap (λ (r : Result (List ℕ) Fault). whole_field x >>= (λ n. r >>= (λ more. Ok (n ∷ more)))) (wholes_append xs ys) ∙ joined (whole_field x) (wholes_of xs) (wholes_of ys)
 
 wholes_more : (fields : List (List ℕ)) (ns : List ℕ) (field : List ℕ) (n : ℕ) → wholes_of fields ≡ Ok ns → whole_field field ≡ Ok n → wholes_of (fields ++ field ∷ []) ≡ Ok (ns ++ n ∷ [])
 wholes_more fields ns field n are is =
     wholes_append fields (field ∷ [])
-    ∙ ap (λ (r : Result (List ℕ) Cause). r >>= (λ xs. wholes_of (field ∷ []) >>= (λ ys. Ok (xs ++ ys)))) are
-    ∙ ap (λ (r : Result ℕ Cause). (r >>= (λ k. Ok (k ∷ []))) >>= (λ ys. Ok (ns ++ ys))) is
+    ∙ ap (λ (r : Result (List ℕ) Fault). r >>= (λ xs. wholes_of (field ∷ []) >>= (λ ys. Ok (xs ++ ys)))) are
+    ∙ ap (λ (r : Result ℕ Fault). (r >>= (λ k. Ok (k ∷ []))) >>= (λ ys. Ok (ns ++ ys))) is
 
 -- numbers of a line that were read
 pub record AreRead (text rest : List ℕ) (count : ℕ) (ns : List ℕ) : Type 0 where
@@ -280,10 +280,10 @@ says_preds : (b k : List ℕ) (fields : List (List ℕ)) (block count : ℕ) (ns
 unfolding preds_line
 says_preds b k fields block count ns one other long are =
     let same : nat_eq count (length fields) ≡ true = grind (arith, nat_tests) in
-    ap (λ (r : Result ℕ Cause). r >>= (λ x. whole_field k >>= (λ c. listed_blocks c fields >>= (λ listed. Ok (x, listed))))) (whole_read b block one)
-    ∙ ap (λ (r : Result ℕ Cause). r >>= (λ c. listed_blocks c fields >>= (λ listed. Ok (block, listed)))) (whole_read k count other)
+    ap (λ (r : Result ℕ Fault). r >>= (λ x. whole_field k >>= (λ c. listed_blocks c fields >>= (λ listed. Ok (x, listed))))) (whole_read b block one)
+    ∙ ap (λ (r : Result ℕ Fault). r >>= (λ c. listed_blocks c fields >>= (λ listed. Ok (block, listed)))) (whole_read k count other)
     ∙ ap (λ (t : Bool). cond t (wholes_of fields) (Err CountWrong) >>= (λ listed. Ok (block, listed))) same
-    ∙ ap (λ (r : Result (List ℕ) Cause). r >>= (λ listed. Ok (block, listed))) are
+    ∙ ap (λ (r : Result (List ℕ) Fault). r >>= (λ listed. Ok (block, listed))) are
 
 pub no_preds : (text behind rest : List ℕ) (block k : ℕ) (ns : List ℕ) → IsWholeThen text block 32 behind → IsWholeThen behind k 10 rest → k ≡ 0 → ns ≡ [] → SaysPreds text block ns rest
 no_preds text behind rest block k ns one other nothing none = (

@@ -2,7 +2,7 @@
 use Rattle.std.proofs.Common.{◌≡◌, ℕ, ℤ, ◌<◌, nat_eq, false, None, List, [], ◌∷◌, ◌++◌, length, ap, ◌∙◌, refl, arith, Result, Ok}
 use Rattle.std.proofs.lemmas.Bool.Decides.{nat_tests}
 use Rattle.pit_num.specs.Decimal.{micro_of}
-use Rattle.pit_text.specs.declared.error.Cause.{Cause}
+use Rattle.pit_text.specs.declared.error.Fault.{Fault}
 use Rattle.pit_text.specs.declared.model.section.Section.TheVariants.{Objective, Coefficients}
 use Rattle.pit_text.specs.declared.model.section_fact.SectionFact.TheVariants.{Profit, Coefficient}
 use Rattle.pit_text.specs.Stands.{◌>>=◌}
@@ -37,16 +37,16 @@ no_section (d ∷ ds) first =
 profit_is : (b v : List ℕ) (block : ℕ) (value : ℤ) → whole_field b ≡ Ok block → decimal_field v ≡ Ok value → profit_line (b ∷ v ∷ []) ≡ Ok (Profit block value)
 unfolding profit_line
 profit_is b v block value one is =
-    ap (λ (r : Result ℕ Cause). r >>= (λ n. decimal_field v >>= (λ x. Ok (Profit n x)))) one
-    ∙ ap (λ (r : Result ℤ Cause). r >>= (λ x. Ok (Profit block x))) is
+    ap (λ (r : Result ℕ Fault). r >>= (λ n. decimal_field v >>= (λ x. Ok (Profit n x)))) one
+    ∙ ap (λ (r : Result ℤ Fault). r >>= (λ x. Ok (Profit block x))) is
 
 coefficient_is : (b k v : List ℕ) (block resource : ℕ) (value : ℤ) → whole_field b ≡ Ok block → whole_field k ≡ Ok resource → decimal_field v ≡ Ok value
     → coefficient_line (b ∷ k ∷ v ∷ []) ≡ Ok (Coefficient block resource value)
 unfolding coefficient_line
 coefficient_is b k v block resource value one other is =
-    ap (λ (r : Result ℕ Cause). r >>= (λ n. whole_field k >>= (λ m. decimal_field v >>= (λ x. Ok (Coefficient n m x))))) one
-    ∙ ap (λ (r : Result ℕ Cause). r >>= (λ m. decimal_field v >>= (λ x. Ok (Coefficient block m x)))) other
-    ∙ ap (λ (r : Result ℤ Cause). r >>= (λ x. Ok (Coefficient block resource x))) is
+    ap (λ (r : Result ℕ Fault). r >>= (λ n. whole_field k >>= (λ m. decimal_field v >>= (λ x. Ok (Coefficient n m x))))) one
+    ∙ ap (λ (r : Result ℕ Fault). r >>= (λ m. decimal_field v >>= (λ x. Ok (Coefficient block m x)))) other
+    ∙ ap (λ (r : Result ℤ Fault). r >>= (λ x. Ok (Coefficient block resource x))) is
 
 value_ends : (text rest after : List ℕ) (fields : List (List ℕ)) (v : ℤ) → 0 < length fields → (are : AreFieldsThen text fields rest) → (last : IsMicroThen rest v 10 after) → IsLineThen text (fields ++ last.field ∷ []) after
 value_ends text rest after fields v some are last =

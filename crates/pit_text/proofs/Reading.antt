@@ -3,7 +3,7 @@ use Rattle.std.proofs.Common.{◌≡◌, ◌⊎◌, inl, inr, List, [], ◌∷�
 use Rattle.std.proofs.lemmas.Bool.{false≢true}
 use Rattle.std.proofs.lemmas.List.{append-nil}
 use Rattle.pit_text.specs.Cutting.{Cut}
-use Rattle.pit_text.specs.Stands.{Judge, StandsFor, StandsTo, StopsAt, FailsFirst}
+use Rattle.pit_text.specs.Stands.{Judge, StandsFor, StandsTo, StopsAt, FailsFirst, NamesFault}
 use Rattle.pit_text.specs.Inside.Stands.{IsReadTo, IsCauseOf}
 use Rattle.pit_text.proofs.States.{states_more}
 
@@ -64,9 +64,10 @@ ok_fact (Ok x) ok = (x, refl)
 ok_fact (Err e) ok = absurd (false≢true ok)
 
 -- either of both
-pub read_stops : {F C : Type 0} (no_memory : C) (judge : Judge F C) (lines left after : List Cut) (line : Cut) (facts : List F) (cause : C) → IsReadTo judge lines left facts → left ≡ line ∷ after
-    → IsCauseOf no_memory (judge facts line.fields) cause → ((cause ≡ no_memory) × StopsAt judge lines line.number) ⊎ FailsFirst judge lines line.number cause
-read_stops no_memory judge lines left after line facts cause read next (inl wanting) =
+pub read_stops : {F C D : Type 0} (no_memory : C) (cause_of : D → C) (judge : Judge F D) (lines left after : List Cut) (line : Cut) (facts : List F) (cause : C) → IsReadTo judge lines left facts → left ≡ line ∷ after
+    → IsCauseOf no_memory cause_of (judge facts line.fields) cause → ((cause ≡ no_memory) × StopsAt judge lines line.number) ⊎ NamesFault cause_of (FailsFirst judge lines line.number) cause
+read_stops no_memory cause_of judge lines left after line facts cause read next (inl wanting) =
     let stated = ok_fact (judge facts line.fields) wanting.1 in
     inl (wanting.0, (facts ++ stated.0 ∷ [], read_stands judge lines left after line facts stated.0 read next stated.1))
-read_stops no_memory judge lines left after line facts cause read next (inr wrong) = inr (read_fails judge lines left after line facts cause read next wrong)
+read_stops no_memory cause_of judge lines left after line facts cause read next (inr wrong) =
+    inr (wrong.0, wrong.1, read_fails judge lines left after line facts wrong.0 read next wrong.2)

@@ -6,8 +6,8 @@ use Rattle.std.proofs.lemmas.List.Elements.{All-from_recursion}
 use Rattle.std.specs.Option.{option_map}
 use Rattle.std.proofs.lemmas.Bool.Decides.{nat_tests}
 use Rattle.pit_model.specs.Fitting.{IsSchedule}
-use Rattle.pit_text.specs.declared.error.Cause.{Cause}
-use Rattle.pit_text.specs.declared.error.Cause.TheVariants.{Build, PartBlock, Unsupported}
+use Rattle.pit_text.specs.declared.error.Fault.{Fault}
+use Rattle.pit_text.specs.declared.error.Fault.TheVariants.{Build, PartBlock, Unsupported}
 use Rattle.pit_text.specs.declared.model.key.Key.TheVariants.{Destinations}
 use Rattle.pit_model.specs.declared.error.BuildError.TheVariants.{Repeated}
 use Rattle.pit_text.specs.Cutting.{Cut}
@@ -36,7 +36,7 @@ ranged blocks periods b t pair is = by_tests (nat_le blocks b) (nat_le periods t
         let early : t < periods = grind (arith, nat_tests) in
         (omega (arith, block, below), omega (arith, period, early))
 
-bound : {A B : Type 0} (P : B → Type 0) (r : Result A Cause) (f : A → Result B Cause) (x : B) → ((a : A) → f a ≡ Ok x → P x) → (r >>= f) ≡ Ok x → P x
+bound : {A B : Type 0} (P : B → Type 0) (r : Result A Fault) (f : A → Result B Fault) (x : B) → ((a : A) → f a ≡ Ok x → P x) → (r >>= f) ≡ Ok x → P x
 bound P (Ok a) f x h is = h a is
 bound P (Err e) f x h is = cc
 
@@ -69,7 +69,7 @@ scheduled_pair-range blocks periods (b ∷ t ∷ []) fact is =
     (λ block e. bound (IsFactInRange blocks periods) (whole_field t) (λ period. pair_in_range blocks periods block period >>= (λ pair. Ok (Some pair))) fact
     (λ period f. pair_range block period (pair_in_range blocks periods block period) refl f) e) is
   where
-    pair_range : (block period : ℕ) (r : Result (ℕ × ℕ) Cause) → pair_in_range blocks periods block period ≡ r → (r >>= (λ pair. Ok (Some pair))) ≡ Ok fact → IsFactInRange blocks periods fact
+    pair_range : (block period : ℕ) (r : Result (ℕ × ℕ) Fault) → pair_in_range blocks periods block period ≡ r → (r >>= (λ pair. Ok (Some pair))) ≡ Ok fact → IsFactInRange blocks periods fact
     pair_range block period (Ok pair) e f = let same : Some pair ≡ fact = cc in subst (λ (o : Option (ℕ × ℕ)). IsFactInRange blocks periods o) same (ranged blocks periods block period pair e)
     pair_range block period (Err c) e f = cc
 scheduled_pair-range blocks periods (b ∷ d ∷ t ∷ []) fact is = cc
@@ -80,7 +80,7 @@ scheduled_pair-range blocks periods (b ∷ d ∷ t ∷ y ∷ []) fact is =
     (λ period g. bound (IsFactInRange blocks periods) (decimal_field y) (λ part. pair_in_range blocks periods block period >>= mined_pair destination part) fact
     (λ part h. mined_pair_range block destination period part (pair_in_range blocks periods block period) refl h) g) f) e) is
   where
-    mined_pair_range : (block destination period : ℕ) (part : ℤ) (r : Result (ℕ × ℕ) Cause) → pair_in_range blocks periods block period ≡ r → (r >>= mined_pair destination part) ≡ Ok fact → IsFactInRange blocks periods fact
+    mined_pair_range : (block destination period : ℕ) (part : ℤ) (r : Result (ℕ × ℕ) Fault) → pair_in_range blocks periods block period ≡ r → (r >>= mined_pair destination part) ≡ Ok fact → IsFactInRange blocks periods fact
     mined_pair_range block destination period part (Ok pair) e f = mined_pair-range blocks periods destination part pair fact (ranged blocks periods block period pair e) f
     mined_pair_range block destination period part (Err c) e f = cc
 scheduled_pair-range blocks periods (b ∷ d ∷ t ∷ y ∷ more ∷ fields) fact is = cc
@@ -89,7 +89,7 @@ new_is : (o : Option ℕ) (pair : ℕ × ℕ) (fact : Option (ℕ × ℕ)) → c
 new_is None pair fact is = cc
 new_is (Some t) pair fact is = cc
 
-line-range : (blocks periods : ℕ) (earlier : List (Option (ℕ × ℕ))) (fields : List (List ℕ)) (fact : Option (ℕ × ℕ)) (r : Result (Option (ℕ × ℕ)) Cause) → scheduled_pair blocks periods fields ≡ r → (r >>= new_to earlier) ≡ Ok fact → IsFactInRange blocks periods fact
+line-range : (blocks periods : ℕ) (earlier : List (Option (ℕ × ℕ))) (fields : List (List ℕ)) (fact : Option (ℕ × ℕ)) (r : Result (Option (ℕ × ℕ)) Fault) → scheduled_pair blocks periods fields ≡ r → (r >>= new_to earlier) ≡ Ok fact → IsFactInRange blocks periods fact
 line-range blocks periods earlier fields fact (Ok None) e is = let same : None ≡ fact = cc in subst (λ (f : Option (ℕ × ℕ)). IsFactInRange blocks periods f) same tt
 line-range blocks periods earlier fields fact (Ok (Some p)) e is = scheduled_pair-range blocks periods fields fact (e ∙ ap (λ q. Ok q) (new_is (period_in earlier p.0) p fact is))
 line-range blocks periods earlier fields fact (Err c) e is = cc
@@ -166,11 +166,11 @@ schedule_of-is_schedule blocks periods period in_time = schedule-from_rising blo
 -- ---- a plain line
 
 -- two fields schedule what their numbers say, if that is in range
-pub pair-schedules : (blocks periods : ℕ) (fields : List (List ℕ)) (b t : ℕ) (r : Result (ℕ × ℕ) Cause) → ArePair fields b t → r ≡ pair_in_range blocks periods b t → (r >>= (λ pair. Ok (Some pair))) ≡ scheduled_pair blocks periods fields
+pub pair-schedules : (blocks periods : ℕ) (fields : List (List ℕ)) (b t : ℕ) (r : Result (ℕ × ℕ) Fault) → ArePair fields b t → r ≡ pair_in_range blocks periods b t → (r >>= (λ pair. Ok (Some pair))) ≡ scheduled_pair blocks periods fields
 unfolding scheduled_pair
 pair-schedules blocks periods fields b t r are is =
-    let said : ℕ → ℕ → Result (Option (ℕ × ℕ)) Cause = λ block period. pair_in_range blocks periods block period >>= (λ pair. Ok (Some pair)) in
-    ap (λ (p : Result (ℕ × ℕ) Cause). p >>= (λ pair. Ok (Some pair))) is
-    ∙ sym (ap (λ (n : Result ℕ Cause). n >>= (λ period. said b period)) are.other)
-    ∙ sym (ap (λ (n : Result ℕ Cause). n >>= (λ block. whole_field are.second >>= (λ period. said block period))) are.one)
+    let said : ℕ → ℕ → Result (Option (ℕ × ℕ)) Fault = λ block period. pair_in_range blocks periods block period >>= (λ pair. Ok (Some pair)) in
+    ap (λ (p : Result (ℕ × ℕ) Fault). p >>= (λ pair. Ok (Some pair))) is
+    ∙ sym (ap (λ (n : Result ℕ Fault). n >>= (λ period. said b period)) are.other)
+    ∙ sym (ap (λ (n : Result ℕ Fault). n >>= (λ block. whole_field are.second >>= (λ period. said block period))) are.one)
     ∙ sym (ap (λ (fs : List (List ℕ)). scheduled_pair blocks periods fs) are.two)

@@ -5,8 +5,8 @@ use Rattle.std.proofs.lemmas.List.Elements.{filter_map-append}
 use Rattle.std.specs.Option.{option_to_list, option_map}
 use Rattle.std.proofs.Math.ListN.{length-set}
 use Rattle.std.proofs.lemmas.Bool.{cases_eq}
-use Rattle.pit_text.specs.declared.error.Cause.{Cause}
-use Rattle.pit_text.specs.declared.error.Cause.TheVariants.{Build}
+use Rattle.pit_text.specs.declared.error.Fault.{Fault}
+use Rattle.pit_text.specs.declared.error.Fault.TheVariants.{Build}
 use Rattle.pit_model.specs.declared.error.BuildError.TheVariants.{Repeated}
 use Rattle.pit_text.specs.Stands.{◌>>=◌}
 use Rattle.std.proofs.lemmas.Bool.Decides.{nat_tests}
@@ -82,7 +82,7 @@ unfolding solution_line
 line_again blocks periods facts fields b t is some =
     ap (λ r. r >>= new_to facts) is ∙ ap (λ (c : Bool). cond c (Err (Build Repeated)) (Ok (Some (b, t)))) some
 
-pub line_bad : (blocks periods : ℕ) (facts : List (Option (ℕ × ℕ))) (fields : List (List ℕ)) (e : Cause) → scheduled_pair blocks periods fields ≡ Err e → solution_line blocks periods facts fields ≡ Err e
+pub line_bad : (blocks periods : ℕ) (facts : List (Option (ℕ × ℕ))) (fields : List (List ℕ)) (e : Fault) → scheduled_pair blocks periods fields ≡ Err e → solution_line blocks periods facts fields ≡ Err e
 unfolding solution_line
 line_bad blocks periods facts fields e is = ap (λ r. r >>= new_to facts) is
 

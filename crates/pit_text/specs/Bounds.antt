@@ -3,8 +3,8 @@ use Rattle.std.specs.Prelude.{ℕ, ℤ, ◌||◌, Bool, if◌then◌else◌, Lis
 use Rattle.std.specs.Str.{bytes_eq, str_to_ascii_lowercase}
 use Rattle.pit_num.specs.Decimal.{micro_of}
 use Rattle.pit_num.specs.declared.parse.NumError.{NumError}
-use Rattle.pit_text.specs.declared.error.Cause.{Cause}
-use Rattle.pit_text.specs.declared.error.Cause.TheVariants.{NotAscii, BadNumber}
+use Rattle.pit_text.specs.declared.error.Fault.{Fault}
+use Rattle.pit_text.specs.declared.error.Fault.TheVariants.{NotAscii, BadNumber}
 use Rattle.pit_text.specs.Numbers.{field_as}
 
 -- no upper bound, in any ASCII case
@@ -33,8 +33,8 @@ upper_bound_of text = if is_infinite text then Ok None else some_bound (micro_of
 unfoldable pub lower_bound_of : List ℕ → Result (Option ℤ) NumError
 lower_bound_of text = if is_negative_infinite text then Ok None else some_bound (micro_of text)
 
-unfoldable pub upper_field : List ℕ → Result (Option ℤ) Cause
+unfoldable pub upper_field : List ℕ → Result (Option ℤ) Fault
 upper_field field = field_as NotAscii BadNumber upper_bound_of field
 
-unfoldable pub lower_field : List ℕ → Result (Option ℤ) Cause
+unfoldable pub lower_field : List ℕ → Result (Option ℤ) Fault
 lower_field field = field_as NotAscii BadNumber lower_bound_of field

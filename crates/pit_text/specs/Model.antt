@@ -4,8 +4,8 @@ use Rattle.std.specs.List.{list_any, filter_map}
 use Rattle.std.specs.Option.{option_map}
 use Rattle.std.specs.Str.{bytes_eq}
 use Rattle.pit_model.specs.Pit.{Pit, empty_pit}
-use Rattle.pit_text.specs.declared.error.Cause.{Cause}
-use Rattle.pit_text.specs.declared.error.Cause.TheVariants.{MissingHeader, BadHeader, SectionTwice}
+use Rattle.pit_text.specs.declared.error.Fault.{Fault}
+use Rattle.pit_text.specs.declared.error.Fault.TheVariants.{MissingHeader, BadHeader, SectionTwice}
 use Rattle.pit_text.specs.declared.model.key.Key.{Key}
 use Rattle.pit_text.specs.declared.model.key.Key.TheVariants.{Kind, Blocks, Periods, Resources, Rate}
 use Rattle.pit_text.specs.declared.model.section.Section.{Section}
@@ -60,17 +60,17 @@ section_facts facts = filter_map section_fact_in facts
 
 -- ---- the header
 
-abbrev pub new_value : List Fact → Key → List ℕ → Result Fact Cause
+abbrev pub new_value : List Fact → Key → List ℕ → Result Fact Fault
 new_value earlier key value =
     if is_some (header_value earlier key) then Err (BadHeader key)
     else (value_of_key key value >>= (λ n. Ok (header key n)))
 
 -- the line of a key that is listed has exactly one value
-abbrev pub key_line : List Fact → Key → List (List ℕ) → Result Fact Cause
+abbrev pub key_line : List Fact → Key → List (List ℕ) → Result Fact Fault
 key_line earlier key (value ∷ []) = new_value earlier key value
 key_line earlier key values = Err (BadHeader key)
 
-abbrev pub header_line : List Fact → Option Key → List (List ℕ) → Result Fact Cause
+abbrev pub header_line : List Fact → Option Key → List (List ℕ) → Result Fact Fault
 header_line earlier None values = Ok skipped
 header_line earlier (Some key) values = key_line earlier key values
 
@@ -90,15 +90,15 @@ section_of field =
     else if bytes_eq field (codes "RESOURCE_CONSTRAINT_LIMITS") then Some Limits
     else None
 
-abbrev pub new_section : List Fact → Section → Result Fact Cause
+abbrev pub new_section : List Fact → Section → Result Fact Fault
 new_section earlier s = if list_any (same_section s) (sections earlier) then Err SectionTwice else Ok (section s)
 
 -- a section line ends the header
-abbrev pub section_after : List Fact → Section → Option Key → Result Fact Cause
+abbrev pub section_after : List Fact → Section → Option Key → Result Fact Fault
 section_after earlier s (Some key) = Err (MissingHeader key)
 section_after earlier s None = new_section earlier s
 
-abbrev pub section_line : List Fact → Section → Result Fact Cause
+abbrev pub section_line : List Fact → Section → Result Fact Fault
 section_line earlier s = section_after earlier s (missing_key earlier)
 
 -- ---- the pit
@@ -115,30 +115,30 @@ unfoldable pub pit_of : List Fact → Pit
 pit_of facts = pit_with with_section_fact (header_pit facts) (section_facts facts)
 
 -- a fact of a section stands, unless the pit so far refuses it
-abbrev pub new_section_fact : List Fact → SectionFact → Result Fact Cause
+abbrev pub new_section_fact : List Fact → SectionFact → Result Fact Fault
 new_section_fact earlier e = fact_unless (section_fact_refusal (pit_of earlier) e) (in_section e)
 
-abbrev pub section_fact_line : List Fact → Section → List (List ℕ) → Result Fact Cause
+abbrev pub section_fact_line : List Fact → Section → List (List ℕ) → Result Fact Fault
 section_fact_line earlier s fields = section_fact_of s fields >>= new_section_fact earlier
 
 -- ---- any line
 
 -- by the section that the line stands in
-abbrev pub body_line : List Fact → Option Section → List ℕ → List (List ℕ) → Result Fact Cause
+abbrev pub body_line : List Fact → Option Section → List ℕ → List (List ℕ) → Result Fact Fault
 body_line earlier (Some s) first values = section_fact_line earlier s (first ∷ values)
 body_line earlier None first values = header_line earlier (key_of first) values
 
 -- by the section that the line begins
-abbrev pub line_by : List Fact → Option Section → List ℕ → List (List ℕ) → Result Fact Cause
+abbrev pub line_by : List Fact → Option Section → List ℕ → List (List ℕ) → Result Fact Fault
 line_by earlier (Some s) first values = section_line earlier s
 line_by earlier None first values = body_line earlier (last_of (sections earlier)) first values
 
-unfoldable pub model_line : List Fact → List (List ℕ) → Result Fact Cause
+unfoldable pub model_line : List Fact → List (List ℕ) → Result Fact Fault
 model_line earlier [] = Ok skipped
 model_line earlier (first ∷ values) = line_by earlier (section_of first) first values
 
 -- where no section line has seen to it, the end does
-unfoldable pub model_end : List Fact → Option Cause
+unfoldable pub model_end : List Fact → Option Fault
 model_end facts = option_map MissingHeader (missing_key facts)
 
 -- ---- out of memory

@@ -3,8 +3,8 @@ use Rattle.std.specs.Prelude.{ℕ, ℤ, nat_lt, Bool, if◌then◌else◌, List,
 use Rattle.std.specs.List.{list_all}
 use Rattle.pit_num.specs.Decimal.{whole_of, micro_of}
 use Rattle.pit_num.specs.declared.parse.NumError.{NumError}
-use Rattle.pit_text.specs.declared.error.Cause.{Cause}
-use Rattle.pit_text.specs.declared.error.Cause.TheVariants.{NotAscii, BadNumber}
+use Rattle.pit_text.specs.declared.error.Fault.{Fault}
+use Rattle.pit_text.specs.declared.error.Fault.TheVariants.{NotAscii, BadNumber}
 
 -- no byte above 127
 abbrev pub is_ascii : List ℕ → Bool
@@ -19,9 +19,9 @@ or_bad bad (Err e) = Err (bad e)
 abbrev pub field_as : {X C : Type 0} → C → (NumError → C) → (List ℕ → Result X NumError) → List ℕ → Result X C
 field_as not_ascii bad number_of field = if is_ascii field then or_bad bad (number_of field) else Err not_ascii
 
-unfoldable pub whole_field : List ℕ → Result ℕ Cause
+unfoldable pub whole_field : List ℕ → Result ℕ Fault
 whole_field field = field_as NotAscii BadNumber whole_of field
 
 -- in millionths
-unfoldable pub decimal_field : List ℕ → Result ℤ Cause
+unfoldable pub decimal_field : List ℕ → Result ℤ Fault
 decimal_field field = field_as NotAscii BadNumber micro_of field

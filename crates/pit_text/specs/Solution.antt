@@ -3,8 +3,8 @@ use Rattle.std.specs.Prelude.{◌≡◌, ◌⊎◌, ℕ, ℤ, pos, negsuc, ◌==
 use Rattle.std.specs.List.{filter_map, range_with_len}
 use Rattle.std.specs.Option.{option_map}
 use Rattle.pit_model.specs.declared.error.BuildError.TheVariants.{BlockRange, PeriodRange, Repeated}
-use Rattle.pit_text.specs.declared.error.Cause.{Cause}
-use Rattle.pit_text.specs.declared.error.Cause.TheVariants.{FieldCount, Unsupported, PartBlock, Build}
+use Rattle.pit_text.specs.declared.error.Fault.{Fault}
+use Rattle.pit_text.specs.declared.error.Fault.TheVariants.{FieldCount, Unsupported, PartBlock, Build}
 use Rattle.pit_text.specs.declared.model.key.Key.TheVariants.{Destinations}
 use Rattle.pit_text.specs.Numbers.{whole_field, decimal_field}
 use Rattle.pit_text.specs.Cutting.{Cut}
@@ -12,25 +12,25 @@ use Rattle.pit_text.specs.Stands.{◌>>=◌, StandsTo, StandsFor}
 use Rattle.pit_text.specs.Earlier.{first_value}
 
 -- a block and a period
-abbrev pub pair_in_range : ℕ → ℕ → ℕ → ℕ → Result (ℕ × ℕ) Cause
+abbrev pub pair_in_range : ℕ → ℕ → ℕ → ℕ → Result (ℕ × ℕ) Fault
 pair_in_range blocks periods b t =
     if nat_le blocks b then Err (Build BlockRange)
     else if nat_le periods t then Err (Build PeriodRange)
     else Ok (b, t)
 
 -- the whole of a block is mined, or nothing of it
-abbrev pub whole_or_none : ℤ → ℕ × ℕ → Result (Option (ℕ × ℕ)) Cause
+abbrev pub whole_or_none : ℤ → ℕ × ℕ → Result (Option (ℕ × ℕ)) Fault
 whole_or_none (pos millionths) pair =
     if millionths == 0 then Ok None
     else if millionths == 10 ^ 6 then Ok (Some pair)
     else Err PartBlock
 whole_or_none (negsuc n) pair = Err PartBlock
 
-abbrev pub mined_pair : ℕ → ℤ → ℕ × ℕ → Result (Option (ℕ × ℕ)) Cause
+abbrev pub mined_pair : ℕ → ℤ → ℕ × ℕ → Result (Option (ℕ × ℕ)) Fault
 mined_pair destination part pair = if destination == 0 then whole_or_none part pair else Err (Unsupported Destinations)
 
 -- a line `b t` or `b d t y`, apart from the lines before it: the block and the period that it schedules, if any
-unfoldable pub scheduled_pair : ℕ → ℕ → List (List ℕ) → Result (Option (ℕ × ℕ)) Cause
+unfoldable pub scheduled_pair : ℕ → ℕ → List (List ℕ) → Result (Option (ℕ × ℕ)) Fault
 scheduled_pair blocks periods [] = Err FieldCount
 scheduled_pair blocks periods (b ∷ []) = Err FieldCount
 scheduled_pair blocks periods (b ∷ t ∷ []) =
@@ -50,11 +50,11 @@ abbrev pub period_in : List (Option (ℕ × ℕ)) → ℕ → Option ℕ
 period_in facts block = first_value (period_in_fact block) facts
 
 -- no earlier line gave this block
-abbrev pub new_to : List (Option (ℕ × ℕ)) → Option (ℕ × ℕ) → Result (Option (ℕ × ℕ)) Cause
+abbrev pub new_to : List (Option (ℕ × ℕ)) → Option (ℕ × ℕ) → Result (Option (ℕ × ℕ)) Fault
 new_to earlier None = Ok None
 new_to earlier (Some pair) = if is_some (period_in earlier pair.0) then Err (Build Repeated) else Ok (Some pair)
 
-unfoldable pub solution_line : ℕ → ℕ → List (Option (ℕ × ℕ)) → List (List ℕ) → Result (Option (ℕ × ℕ)) Cause
+unfoldable pub solution_line : ℕ → ℕ → List (Option (ℕ × ℕ)) → List (List ℕ) → Result (Option (ℕ × ℕ)) Fault
 solution_line blocks periods earlier fields = scheduled_pair blocks periods fields >>= new_to earlier
 
 -- each block that has a period, beside it, by rising block

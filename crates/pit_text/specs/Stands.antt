@@ -67,6 +67,10 @@ abbrev pub FailsWhole : {F C : Type 0} → Judge F C → EndTest F C → List Cu
 FailsWhole judge end_test lines end place cause =
     FailsFirst judge lines place cause ⊎ FailsAtEnd judge end_test lines end place cause
 
+-- The cause names a fault, and this holds of it.
+abbrev pub NamesFault : {C D : Type 0} → (D → C) → (D → Type 0) → C → Type 0
+NamesFault {C} {D} cause_of Holds cause = (fault : D) × (cause ≡ cause_of fault) × Holds fault
+
 -- There is one result, facts or a fault, and only one.
 pub record HasOneResult {F C : Type 0} (Stands : List F → Type 0) (Fails : ℕ → C → Type 0) : Type 0 where
   pub some : ((facts : List F) × Stands facts) ⊎ ((place : ℕ) × (cause : C) × Fails place cause)

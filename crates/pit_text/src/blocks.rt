@@ -1,12 +1,13 @@
 ghost use Rattle.std.specs.Prelude.{◌≡◌, ℕ, ℤ, List, Ok, Err, MatchResult, ◌⊎◌};
 ghost use Rattle.pit_text.specs.Cutting.{cut_of};
 ghost use Rattle.pit_text.specs.Left.{fields_left};
-ghost use Rattle.pit_text.specs.Stands.{StandsFor, StopsAt, FailsFirst};
+ghost use Rattle.pit_text.specs.Causes.{cause_of};
+ghost use Rattle.pit_text.specs.Stands.{StandsFor, StopsAt, FailsFirst, NamesFault};
 ghost use Rattle.pit_text.specs.Inside.Stands.{IsCauseOf};
 ghost use Rattle.pit_text.specs.Blocks.{place_line, with_place_fact, place_fact, pit_with_places, block_line};
 
 use super::cutting::{Fields, Lines};
-use super::error::{Cause, TextError};
+use super::error::{Cause, Fault, TextError};
 use super::number::{decimal, whole};
 use pit_model::Builder;
 use std::alloc::Allocator;
@@ -18,7 +19,7 @@ pub fn read_blocks<A: Allocator + Copy + Drop>(
 ) -> Result<Builder<A>, TextError>
     ensures { let judge = block_line builder in MatchResult result
         (λ read. (facts : List (ℕ × (ℤ × ℤ × ℤ))) × StandsFor judge (cut_of text.now) facts × (read ≡ pit_with_places builder facts))
-        (λ fault. ((fault.cause ≡ Cause.NoMemory) × StopsAt judge (cut_of text.now) fault.line) ⊎ FailsFirst judge (cut_of text.now) fault.line fault.cause) }
+        (λ fault. ((fault.cause ≡ Cause.NoMemory) × StopsAt judge (cut_of text.now) fault.line) ⊎ NamesFault cause_of (FailsFirst judge (cut_of text.now) fault.line) fault.cause) }
 {
     let mut lines = Lines::new(text);
     while let Some(line) = lines.next() {
@@ -38,7 +39,7 @@ fn judge_line<A: Allocator + Copy + Drop>(
 ) -> Result<(), Cause>
     ensures { MatchResult result
         (λ _. (fact : ℕ × (ℤ × ℤ × ℤ)) × (place_fact builder.old (fields_left fields.entry) ≡ Ok fact) × (builder.new ≡ with_place_fact builder.old fact))
-        (λ cause. IsCauseOf Cause.NoMemory (place_fact builder.old (fields_left fields.entry)) cause) }
+        (λ cause. IsCauseOf Cause.NoMemory cause_of (place_fact builder.old (fields_left fields.entry)) cause) }
 {
     let (block, (x, y, z)) = place(fields)?;
     builder.set_place(block, x, y, z)?;
@@ -47,7 +48,7 @@ fn judge_line<A: Allocator + Copy + Drop>(
 
 /// The block and the place of a line.
 #[tactic(auto, unfolding(crate::specs::Blocks::place_line))]
-fn place(mut fields: Fields<'_>) -> Result<(u32, (i64, i64, i64)), Cause>
+fn place(mut fields: Fields<'_>) -> Result<(u32, (i64, i64, i64)), Fault>
     ensures { result ≡ place_line (fields_left fields.entry) }
 {
     let (Some(first), Some(x), Some(y), Some(z)) = (
@@ -56,7 +57,7 @@ fn place(mut fields: Fields<'_>) -> Result<(u32, (i64, i64, i64)), Cause>
         fields.next(),
         fields.next(),
     ) else {
-        return Err(Cause::FieldCount);
+        return Err(Fault::FieldCount);
     };
     let block = whole(first)?;
     let x = decimal(x)?;

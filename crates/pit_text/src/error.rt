@@ -1,4 +1,4 @@
-ghost use Rattle.std.specs.Prelude.{◌≡◌};
+ghost use Rattle.std.specs.Prelude.{◌≡◌, ◌≢◌};
 
 use super::model::Key;
 use pit_model::BuildError;
@@ -50,10 +50,51 @@ pub enum Cause {
     NoMemory,
 }
 
-impl From<BuildError> for Cause {
+/// What a line, or the end of a text, is judged to be wrong with: each cause of the same name but `NoMemory`.
+#[derive(Clone, Copy)]
+pub enum Fault {
+    NotAscii,
+    MissingHeader(Key),
+    BadHeader(Key),
+    NotCpit,
+    Unsupported(Key),
+    SectionTwice,
+    FieldCount,
+    BadNumber(NumError),
+    Build(BuildError),
+    CountWrong,
+    PartBlock,
+    BadKind,
+}
+
+impl From<Fault> for Cause {
     ghost use Rattle.pit_text.specs.Causes.{cause_of};
 
-    ghost from_gives = { λ error cause. cause ≡ cause_of error };
+    ghost from_gives = { λ fault cause. cause ≡ cause_of fault };
+
+    fn from(fault: Fault) -> Cause {
+        match fault {
+            Fault::NotAscii => Cause::NotAscii,
+            Fault::MissingHeader(key) => Cause::MissingHeader(key),
+            Fault::BadHeader(key) => Cause::BadHeader(key),
+            Fault::NotCpit => Cause::NotCpit,
+            Fault::Unsupported(key) => Cause::Unsupported(key),
+            Fault::SectionTwice => Cause::SectionTwice,
+            Fault::FieldCount => Cause::FieldCount,
+            Fault::BadNumber(error) => Cause::BadNumber(error),
+            Fault::Build(refusal) => Cause::Build(refusal),
+            Fault::CountWrong => Cause::CountWrong,
+            Fault::PartBlock => Cause::PartBlock,
+            Fault::BadKind => Cause::BadKind,
+        }
+    }
+}
+
+impl From<BuildError> for Cause {
+    ghost use Rattle.pit_model.specs.declared.error.BuildError.TheVariants.{NoMemory};
+    ghost use Rattle.pit_text.specs.declared.error.Cause.TheVariants.{Build, NoMemory as WantsMemory};
+
+    ghost from_gives = { λ error cause. (error ≡ NoMemory → cause ≡ WantsMemory) × (error ≢ NoMemory → cause ≡ Build error) };
 
     fn from(error: BuildError) -> Cause {
         match error {

@@ -1,16 +1,13 @@
 //! Laws of the definitions, each as the contract of a function that does nothing.
-ghost use Rattle.std.specs.Prelude.{ℕ, List};
-ghost use Rattle.pit_model.specs.Pit.{Pit};
+ghost use Rattle.std.specs.Prelude.{◌≢◌, ℕ, List};
 ghost use Rattle.pit_model.specs.Tightest.{AreTightest};
+ghost use Rattle.pit_text.specs.Causes.{cause_of};
 ghost use Rattle.pit_text.specs.Cutting.{Cut};
 ghost use Rattle.pit_text.specs.Stands.{Judge, EndTest, StandsFor, FailsFirst, StandsWhole, FailsWhole, HasOneResult};
-ghost use Rattle.pit_text.specs.Model.{Fact, model_line, model_end, pit_of};
+ghost use Rattle.pit_text.specs.Model.{Fact, model_line, pit_of};
 ghost use Rattle.pit_text.specs.LimitLines.{limit_lines};
-ghost use Rattle.pit_text.specs.Precedence.{precedence_line};
-ghost use Rattle.pit_text.specs.Blocks.{block_line};
-ghost use Rattle.pit_text.specs.Solution.{solution_line};
 
-use super::error::Cause;
+use super::error::{Cause, Fault};
 
 /// Each text has exactly one result, however its lines are judged: facts, or the place and the cause of a fault.
 pub fn one_result<F, C>()
@@ -19,12 +16,9 @@ pub fn one_result<F, C>()
         → HasOneResult (StandsWhole judge end_test lines) (FailsWhole judge end_test lines end) }
 {}
 
-/// A law of texts: to be out of memory is no fault of a text. So a reader answers it only where it has stopped for it.
+/// A law of causes: to be out of memory is no fault. So a reader answers it only where it has stopped for it.
 pub fn no_fault_wants_memory()
-    ensures model { (lines : List Cut) (end place : ℕ) → FailsWhole model_line model_end lines end place Cause.NoMemory → ⊥ }
-    ensures precedence { (given : Pit) (lines : List Cut) (place : ℕ) → FailsFirst (precedence_line given) lines place Cause.NoMemory → ⊥ }
-    ensures blocks { (given : Pit) (lines : List Cut) (place : ℕ) → FailsFirst (block_line given) lines place Cause.NoMemory → ⊥ }
-    ensures solution { (blocks periods : ℕ) (lines : List Cut) (place : ℕ) → FailsFirst (solution_line blocks periods) lines place Cause.NoMemory → ⊥ }
+    ensures { (fault : Fault) → cause_of fault ≢ Cause.NoMemory }
 {}
 
 /// A law of models: in the pit of a text each resource in each period has the greatest lower and the least upper bound that the limit lines

@@ -17,7 +17,7 @@ mod table;
 
 pub use blocks::read_blocks;
 pub use cutting::{Fields, Line, Lines};
-pub use error::{Cause, TextError};
+pub use error::{Cause, Fault, TextError};
 pub use laws::{limits_are_tightest, no_fault_wants_memory, one_result};
 pub use model::{Key, Section, SectionFact, key_of, read_model, section_of, upper_bound};
 pub use number::is_ascii;

@@ -2,7 +2,8 @@
 ghost use Rattle.std.specs.Prelude.{◌≡◌, ◌≢◌, ◌∷◌, ◌++◌, [], List, Ok, Err, None, Some, IfSome, MatchResult, ◌⊎◌};
 ghost use Rattle.pit_text.specs.Cutting.{cut_of, end_line};
 ghost use Rattle.pit_text.specs.Left.{fields_left, lines_left, end_left};
-ghost use Rattle.pit_text.specs.Stands.{StandsWhole, FailsWhole};
+ghost use Rattle.pit_text.specs.Causes.{cause_of};
+ghost use Rattle.pit_text.specs.Stands.{StandsWhole, FailsWhole, NamesFault};
 ghost use Rattle.pit_text.specs.Inside.Stands.{IsReadTo, IsCauseOf};
 ghost use Rattle.pit_text.specs.SectionFacts.{with_section_fact};
 ghost use Rattle.pit_text.specs.Model.{Fact, in_section, section_fact_line, new_section_fact, model_line, model_end, pit_of, ModelStops};
@@ -19,7 +20,7 @@ mod section;
 mod section_fact;
 
 use super::cutting::{Fields, Lines};
-use super::error::{Cause, TextError};
+use super::error::{Cause, Fault, TextError};
 pub use bound::upper_bound;
 use draft::Draft;
 pub use key::{Key, key_of};
@@ -39,7 +40,7 @@ pub fn read_model<A: Allocator + Copy + Drop>(
     ensures { MatchResult result
         (λ builder. (facts : List Fact) × StandsWhole model_line model_end (cut_of text.now) facts × (builder ≡ pit_of facts))
         (λ fault. ((fault.cause ≡ Cause.NoMemory) × ModelStops (cut_of text.now) (end_line text.now) fault.line)
-        ⊎ FailsWhole model_line model_end (cut_of text.now) (end_line text.now) fault.line fault.cause) }
+        ⊎ NamesFault cause_of (FailsWhole model_line model_end (cut_of text.now) (end_line text.now) fault.line) fault.cause) }
 {
     let mut lines = Lines::new(text);
     let (mut draft, begun) = read_header(&mut lines)?;
@@ -65,14 +66,14 @@ fn read_header(lines: &mut Lines<'_>) -> Result<(Draft, u64), TextError>
     ensures { MatchResult result
         (λ read. (facts : List Fact) × IsReadTo model_line (lines_left lines.old) (lines_left lines.new) facts × IsHeader facts read.0
         × HasHeader read.0 × (read.0.section ≡ None → lines_left lines.new ≡ []) × ModelStops (lines_left lines.old) (end_left lines.old) read.1)
-        (λ fault. FailsWhole model_line model_end (lines_left lines.old) (end_left lines.old) fault.line fault.cause) }
+        (λ fault. NamesFault cause_of (FailsWhole model_line model_end (lines_left lines.old) (end_left lines.old) fault.line) fault.cause) }
 {
     let mut draft = Draft::new();
     while let Some(line) = lines.next() {
-        if let Err(cause) = read_header_line(&mut draft, line.fields) {
+        if let Err(fault) = read_header_line(&mut draft, line.fields) {
             return Err(TextError {
                 line: line.number,
-                cause,
+                cause: Cause::from(fault),
             });
         }
         if draft.section().is_some() {
@@ -89,11 +90,11 @@ fn read_header(lines: &mut Lines<'_>) -> Result<(Draft, u64), TextError>
 }
 
 /// A line before the sections, or the first section line.
-fn read_header_line(draft: &mut Draft, mut fields: Fields<'_>) -> Result<(), Cause>
+fn read_header_line(draft: &mut Draft, mut fields: Fields<'_>) -> Result<(), Fault>
     requires { draft.old.section ≡ None }
     ensures { (facts : List Fact) → IsDraft facts draft.old → MatchResult result
         (λ _. (fact : Fact) × (model_line facts (fields_left fields.entry) ≡ Ok fact) × IsDraft (facts ++ fact ∷ []) draft.new × IsHeaderFact facts fact draft.new)
-        (λ cause. model_line facts (fields_left fields.entry) ≡ Err cause) }
+        (λ fault. model_line facts (fields_left fields.entry) ≡ Err fault) }
 {
     let Some(first) = fields.next() else {
         return Ok(());
@@ -118,7 +119,7 @@ fn judge_line<A: Allocator + Copy + Drop>(
     requires said { IfSome said (λ fact. (s : Section) × (draft.old.section ≡ Some s) × IsSaid s (fields_left fields) fact) }
     ensures { (facts : List Fact) → IsBody facts draft.old builder.old → MatchResult result
         (λ _. (fact : Fact) × (model_line facts (fields_left fields.entry) ≡ Ok fact) × IsBody (facts ++ fact ∷ []) draft.new builder.new × (draft.new.section ≢ None))
-        (λ cause. IsCauseOf Cause.NoMemory (model_line facts (fields_left fields.entry)) cause) }
+        (λ cause. IsCauseOf Cause.NoMemory cause_of (model_line facts (fields_left fields.entry)) cause) }
 {
     match said {
         Some(fact) => add_said(builder, fact),
@@ -133,7 +134,7 @@ fn add_said<A: Allocator + Copy + Drop>(
 ) -> Result<(), Cause>
     ensures { (facts : List Fact) → builder.old ≡ pit_of facts → MatchResult result
         (λ _. (new_section_fact facts said ≡ Ok (in_section said)) × (builder.new ≡ with_section_fact builder.old said))
-        (λ cause. IsCauseOf Cause.NoMemory (new_section_fact facts said) cause) }
+        (λ cause. IsCauseOf Cause.NoMemory cause_of (new_section_fact facts said) cause) }
 {
     add(builder, said)?;
     Ok(())
@@ -148,13 +149,14 @@ fn general_line<A: Allocator + Copy + Drop>(
     requires { draft.old.section ≢ None }
     ensures { (facts : List Fact) → IsBody facts draft.old builder.old → MatchResult result
         (λ _. (fact : Fact) × (model_line facts (fields_left fields.entry) ≡ Ok fact) × IsBody (facts ++ fact ∷ []) draft.new builder.new × (draft.new.section ≢ None))
-        (λ cause. IsCauseOf Cause.NoMemory (model_line facts (fields_left fields.entry)) cause) }
+        (λ cause. IsCauseOf Cause.NoMemory cause_of (model_line facts (fields_left fields.entry)) cause) }
 {
     let Some(first) = fields.next() else {
         return Ok(());
     };
     if let Some(section) = section_of(first) {
-        return draft.start(section);
+        draft.start(section)?;
+        return Ok(());
     }
     let Some(section) = draft.section() else {
         return Ok(());
@@ -171,7 +173,7 @@ fn read_section_fact<A: Allocator + Copy + Drop>(
 ) -> Result<(), Cause>
     ensures { (facts : List Fact) → builder.old ≡ pit_of facts → MatchResult result
         (λ _. (said : SectionFact) × (section_fact_line facts section (first.now ∷ fields_left fields.entry) ≡ Ok (in_section said)) × (builder.new ≡ with_section_fact builder.old said))
-        (λ cause. IsCauseOf Cause.NoMemory (section_fact_line facts section (first.now ∷ fields_left fields.entry)) cause) }
+        (λ cause. IsCauseOf Cause.NoMemory cause_of (section_fact_line facts section (first.now ∷ fields_left fields.entry)) cause) }
 {
     let said = section_fact_of(section, first, fields)?;
     add(builder, said)?;

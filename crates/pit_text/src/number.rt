@@ -1,13 +1,13 @@
 ghost use Rattle.std.specs.Prelude.{◌≡◌, if◌then◌else◌};
-ghost use Rattle.pit_text.specs.declared.error.Cause.TheVariants.{BadNumber, NotAscii};
+ghost use Rattle.pit_text.specs.declared.error.Fault.TheVariants.{BadNumber, NotAscii};
 ghost use Rattle.pit_text.specs.Numbers.{is_ascii, whole_field, decimal_field};
 
-use super::error::Cause;
+use super::error::Fault;
 use pit_num::{NumError, micro_from_bytes, whole_from_bytes};
 
 /// The whole number in a field.
 #[tactic(auto, unfolding(crate::specs::Numbers::whole_field), using(crate::proofs::Ascii::reads))]
-pub(crate) fn whole(field: &[u8]) -> Result<u32, Cause>
+pub(crate) fn whole(field: &[u8]) -> Result<u32, Fault>
     ensures { result ≡ whole_field field.now }
 {
     match whole_from_bytes(field) {
@@ -18,7 +18,7 @@ pub(crate) fn whole(field: &[u8]) -> Result<u32, Cause>
 
 /// The decimal in a field, in millionths.
 #[tactic(auto, unfolding(crate::specs::Numbers::decimal_field), using(crate::proofs::Ascii::reads))]
-pub(crate) fn decimal(field: &[u8]) -> Result<i64, Cause>
+pub(crate) fn decimal(field: &[u8]) -> Result<i64, Fault>
     ensures { result ≡ decimal_field field.now }
 {
     match micro_from_bytes(field) {
@@ -28,13 +28,13 @@ pub(crate) fn decimal(field: &[u8]) -> Result<i64, Cause>
 }
 
 /// Why a field that is no number is refused. A number has no byte above 127, so only other fields are looked at again.
-fn refusal(field: &[u8], error: NumError) -> Cause
+fn refusal(field: &[u8], error: NumError) -> Fault
     ensures { result ≡ (if is_ascii field.now then BadNumber error else NotAscii) }
 {
     if is_ascii(field) {
-        Cause::BadNumber(error)
+        Fault::BadNumber(error)
     } else {
-        Cause::NotAscii
+        Fault::NotAscii
     }
 }
 

@@ -1,13 +1,14 @@
 ghost use Rattle.std.specs.Prelude.{◌≡◌, ◌==◌, ℕ, List, length, Ok, Err, IsOk, IfOk, IfSome, OnErr, MatchResult, ◌⊎◌};
 ghost use Rattle.pit_text.specs.Cutting.{cut_of};
 ghost use Rattle.pit_text.specs.Left.{fields_left};
-ghost use Rattle.pit_text.specs.Stands.{StandsFor, StopsAt, FailsFirst};
+ghost use Rattle.pit_text.specs.Causes.{cause_of};
+ghost use Rattle.pit_text.specs.Stands.{StandsFor, StopsAt, FailsFirst, NamesFault};
 ghost use Rattle.pit_text.specs.Inside.Unlisted.{with_block, has_from};
 ghost use Rattle.pit_text.specs.Inside.Stands.{IsCauseOf};
 ghost use Rattle.pit_text.specs.Precedence.{wholes_of, preds_line, with_preds_fact, preds_fact, pit_with_preds, precedence_line};
 
 use super::cutting::{Fields, Lines};
-use super::error::{Cause, TextError};
+use super::error::{Cause, Fault, TextError};
 use super::number::whole;
 use pit_model::{BuildError, Builder};
 use pit_num::NoMemory;
@@ -22,7 +23,7 @@ pub fn read_precedence<A: Allocator + Copy + Drop, B: Allocator + Copy + Drop>(
 ) -> Result<Builder<A>, TextError>
     ensures { let judge = precedence_line builder in MatchResult result
         (λ read. (facts : List (ℕ × List ℕ)) × StandsFor judge (cut_of text.now) facts × (read ≡ pit_with_preds builder facts))
-        (λ fault. ((fault.cause ≡ Cause.NoMemory) × StopsAt judge (cut_of text.now) fault.line) ⊎ FailsFirst judge (cut_of text.now) fault.line fault.cause) }
+        (λ fault. ((fault.cause ≡ Cause.NoMemory) × StopsAt judge (cut_of text.now) fault.line) ⊎ NamesFault cause_of (FailsFirst judge (cut_of text.now) fault.line) fault.cause) }
 {
     let mut listed = Vec::new(alloc);
     let mut lines = Lines::new(text);
@@ -48,7 +49,7 @@ fn judge_line<A: Allocator + Copy + Drop, B: Allocator + Drop>(
     requires { IfOk known (λ found. IfSome found (λ block. preds_line (fields_left fields) ≡ Ok (block, listed.old.items))) }
     ensures { MatchResult result
         (λ _. (fact : ℕ × List ℕ) × (preds_fact builder.old (fields_left fields.entry) ≡ Ok fact) × (builder.new ≡ with_preds_fact builder.old fact))
-        (λ cause. IsCauseOf Cause.NoMemory (preds_fact builder.old (fields_left fields.entry)) cause) }
+        (λ cause. IsCauseOf Cause.NoMemory cause_of (preds_fact builder.old (fields_left fields.entry)) cause) }
 {
     match add_line(builder, listed, fields, known) {
         Ok(()) => Ok(()),
@@ -70,7 +71,7 @@ fn add_line<A: Allocator + Copy + Drop, B: Allocator + Drop>(
     requires { IfOk known (λ found. IfSome found (λ block. preds_line (fields_left fields) ≡ Ok (block, listed.old.items))) }
     ensures result { MatchResult result
         (λ _. (fact : ℕ × List ℕ) × (preds_fact builder.old (fields_left fields.entry) ≡ Ok fact) × (builder.new ≡ with_preds_fact builder.old fact))
-        (λ cause. (cause ≡ Cause.NoMemory) ⊎ (preds_fact builder.old (fields_left fields.entry) ≡ Err cause)) }
+        (λ cause. (cause ≡ Cause.NoMemory) ⊎ NamesFault cause_of (λ fault. preds_fact builder.old (fields_left fields.entry) ≡ Err fault) cause) }
     ensures err { OnErr result (builder.new ≡ builder.old) }
 {
     let block = listed_block(listed, fields, known)?;
@@ -87,7 +88,7 @@ fn listed_block<B: Allocator + Drop>(
     requires { IfOk known (λ found. IfSome found (λ block. preds_line (fields_left fields) ≡ Ok (block, listed.old.items))) }
     ensures { MatchResult result
         (λ block. preds_line (fields_left fields.entry) ≡ Ok (block, listed.new.items))
-        (λ cause. (cause ≡ Cause.NoMemory) ⊎ (preds_line (fields_left fields.entry) ≡ Err cause)) }
+        (λ cause. (cause ≡ Cause.NoMemory) ⊎ NamesFault cause_of (λ fault. preds_line (fields_left fields.entry) ≡ Err fault) cause) }
 {
     match known {
         Ok(Some(block)) => Ok(block),
@@ -103,7 +104,7 @@ fn general_block<B: Allocator + Drop>(
 ) -> Result<u32, Cause>
     ensures { MatchResult result
         (λ block. preds_line (fields_left fields.entry) ≡ Ok (block, listed.new.items))
-        (λ cause. (cause ≡ Cause.NoMemory) ⊎ (preds_line (fields_left fields.entry) ≡ Err cause)) }
+        (λ cause. (cause ≡ Cause.NoMemory) ⊎ NamesFault cause_of (λ fault. preds_line (fields_left fields.entry) ≡ Err fault) cause) }
 {
     let (block, rest) = block_and_rest(fields)?;
     wholes(listed, rest)?;
@@ -112,24 +113,24 @@ fn general_block<B: Allocator + Drop>(
 
 /// The block of a line and its predecessors, which are as many as it says.
 #[tactic(auto, unfolding(crate::specs::Precedence::preds_line))]
-fn block_and_rest<'a>(mut fields: Fields<'a>) -> Result<(u32, Fields<'a>), Cause>
+fn block_and_rest<'a>(mut fields: Fields<'a>) -> Result<(u32, Fields<'a>), Fault>
     ensures { MatchResult result
         (λ read. preds_line (fields_left fields.entry) ≡ with_block read.0 (wholes_of (fields_left read.1)))
         (λ cause. preds_line (fields_left fields.entry) ≡ Err cause) }
 {
     let (Some(first), Some(second)) = (fields.next(), fields.next()) else {
-        return Err(Cause::FieldCount);
+        return Err(Fault::FieldCount);
     };
     let block = whole(first)?;
     let count = whole(second)?;
     if !is_count(count, fields) {
-        return Err(Cause::CountWrong);
+        return Err(Fault::CountWrong);
     }
     Ok((block, fields))
 }
 
 /// Judges a line without a list of its predecessors.
-fn judge<A: Allocator + Copy + Drop>(builder: &Builder<A>, fields: Fields<'_>) -> Result<(), Cause>
+fn judge<A: Allocator + Copy + Drop>(builder: &Builder<A>, fields: Fields<'_>) -> Result<(), Fault>
     ensures { MatchResult result
         (λ _. IsOk (preds_fact builder.now (fields_left fields.entry)))
         (λ cause. preds_fact builder.now (fields_left fields.entry) ≡ Err cause) }
@@ -137,19 +138,19 @@ fn judge<A: Allocator + Copy + Drop>(builder: &Builder<A>, fields: Fields<'_>) -
     let (block, rest) = block_and_rest(fields)?;
     let is_out = has_from(builder.blocks(), rest)?;
     if block >= builder.blocks() {
-        return Err(Cause::Build(BuildError::BlockRange));
+        return Err(Fault::Build(BuildError::BlockRange));
     }
     if is_out {
-        return Err(Cause::Build(BuildError::BlockRange));
+        return Err(Fault::Build(BuildError::BlockRange));
     }
     if builder.has_preds(block) {
-        return Err(Cause::Build(BuildError::Repeated));
+        return Err(Fault::Build(BuildError::Repeated));
     }
     Ok(())
 }
 
 /// Whether one of the whole numbers of the fields is this or a greater one.
-fn has_from(least: u32, mut fields: Fields<'_>) -> Result<bool, Cause>
+fn has_from(least: u32, mut fields: Fields<'_>) -> Result<bool, Fault>
     ensures { result ≡ has_from least (wholes_of (fields_left fields.entry)) }
 {
     let mut found = false;
@@ -181,7 +182,7 @@ fn wholes<B: Allocator + Drop>(
 ) -> Result<(), Cause>
     ensures { MatchResult result
         (λ _. wholes_of (fields_left fields.entry) ≡ Ok listed.new.items)
-        (λ cause. (cause ≡ Cause.NoMemory) ⊎ (wholes_of (fields_left fields.entry) ≡ Err cause)) }
+        (λ cause. (cause ≡ Cause.NoMemory) ⊎ NamesFault cause_of (λ fault. wholes_of (fields_left fields.entry) ≡ Err fault) cause) }
 {
     listed.clear();
     while let Some(field) = fields.next() {

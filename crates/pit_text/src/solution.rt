@@ -2,13 +2,14 @@ ghost use Rattle.std.specs.Prelude.{◌≡◌, ℕ, ◌<◌, ◌^◌, ◌∷◌,
 ghost use Rattle.pit_model.specs.Fitting.{IsSchedule};
 ghost use Rattle.pit_text.specs.Cutting.{cut_of, end_line};
 ghost use Rattle.pit_text.specs.Left.{fields_left};
-ghost use Rattle.pit_text.specs.Stands.{StandsFor, FailsFirst};
+ghost use Rattle.pit_text.specs.Causes.{cause_of};
+ghost use Rattle.pit_text.specs.Stands.{StandsFor, FailsFirst, NamesFault};
 ghost use Rattle.pit_text.specs.Solution.{pair_in_range, mined_pair, scheduled_pair, solution_line, period_in, schedule_of, SolutionStops};
 ghost use Rattle.pit_text.specs.Inside.Plain.{ArePair};
 ghost use Rattle.pit_text.specs.Inside.Solution.{AreSlots};
 
 use super::cutting::{Fields, Lines};
-use super::error::{Cause, TextError};
+use super::error::{Cause, Fault, TextError};
 use super::model::Key;
 use super::number::{decimal, whole};
 use pit_model::{BuildError, Instance};
@@ -25,7 +26,7 @@ pub fn read_solution<A: Allocator + Copy + Drop>(
         (λ solution. (facts : List (Option (ℕ × ℕ))) × StandsFor judge (cut_of text.now) facts
         × (solution.items ≡ schedule_of instance.now.blocks (period_in facts)))
         (λ fault. ((fault.cause ≡ Cause.NoMemory) × SolutionStops instance.now.blocks instance.now.periods (cut_of text.now) (end_line text.now) fault.line)
-        ⊎ FailsFirst judge (cut_of text.now) fault.line fault.cause) }
+        ⊎ NamesFault cause_of (FailsFirst judge (cut_of text.now) fault.line) fault.cause) }
     ensures fits { IfOk result (λ solution. IsSchedule instance.now.blocks instance.now.periods solution.items) }
 {
     let (slots, end) = read_slots(alloc, text, instance.blocks(), instance.periods())?;
@@ -65,7 +66,7 @@ fn read_slots<A: Allocator + Drop>(
     ensures { let judge = solution_line blocks periods in MatchResult result
         (λ read. (facts : List (Option (ℕ × ℕ))) × StandsFor judge (cut_of text.now) facts × AreSlots blocks facts read.0.items × (read.1 ≡ end_line text.now))
         (λ fault. ((fault.cause ≡ Cause.NoMemory) × SolutionStops blocks periods (cut_of text.now) (end_line text.now) fault.line)
-        ⊎ FailsFirst judge (cut_of text.now) fault.line fault.cause) }
+        ⊎ NamesFault cause_of (FailsFirst judge (cut_of text.now) fault.line) fault.cause) }
 {
     let mut slots = Vec::new(alloc);
     let mut lines = Lines::new(text);
@@ -93,12 +94,12 @@ fn judge_line<A: Allocator + Drop>(
     ensures { (facts : List (Option (ℕ × ℕ))) → AreSlots blocks facts slots.old.items → MatchResult result
         (λ _. (fact : Option (ℕ × ℕ)) × (solution_line blocks periods facts (fields_left fields.entry) ≡ Ok fact) × AreSlots blocks (facts ++ fact ∷ []) slots.new.items)
         (λ cause. ((cause ≡ Cause.NoMemory) × ((pair : ℕ × ℕ) × (solution_line blocks periods facts (fields_left fields.entry) ≡ Ok (Some pair))))
-        ⊎ (solution_line blocks periods facts (fields_left fields.entry) ≡ Err cause)) }
+        ⊎ NamesFault cause_of (λ fault. solution_line blocks periods facts (fields_left fields.entry) ≡ Err fault) cause) }
 {
     let (block, period) = match scheduled_pair(fields, pair, blocks, periods) {
         Ok(Some(pair)) => pair,
         Ok(None) => return Ok(()),
-        Err(cause) => return Err(cause),
+        Err(fault) => return Err(Cause::from(fault)),
     };
     let Ok(()) = make_slots(slots, blocks) else {
         return Err(Cause::NoMemory);
@@ -133,7 +134,7 @@ fn scheduled_pair(
     pair: Option<(u32, u32)>,
     blocks: u32,
     periods: u32,
-) -> Result<Option<(u32, u32)>, Cause>
+) -> Result<Option<(u32, u32)>, Fault>
     requires { IfSome pair (λ numbers. ArePair (fields_left fields) numbers.0 numbers.1) }
     ensures value { result ≡ scheduled_pair blocks periods (fields_left fields.entry) }
     ensures in_range { IfOk result (λ fact. IfSome fact (λ pair. (pair.0 < blocks) × (pair.1 < periods))) }
@@ -153,12 +154,12 @@ fn general_pair(
     mut fields: Fields<'_>,
     blocks: u32,
     periods: u32,
-) -> Result<Option<(u32, u32)>, Cause>
+) -> Result<Option<(u32, u32)>, Fault>
     ensures value { result ≡ scheduled_pair blocks periods (fields_left fields.entry) }
     ensures in_range { IfOk result (λ fact. IfSome fact (λ pair. (pair.0 < blocks) × (pair.1 < periods))) }
 {
     let (Some(first), Some(second)) = (fields.next(), fields.next()) else {
-        return Err(Cause::FieldCount);
+        return Err(Fault::FieldCount);
     };
     let Some(third) = fields.next() else {
         let block = whole(first)?;
@@ -167,7 +168,7 @@ fn general_pair(
         return Ok(Some(pair));
     };
     let (Some(fourth), None) = (fields.next(), fields.next()) else {
-        return Err(Cause::FieldCount);
+        return Err(Fault::FieldCount);
     };
     let block = whole(first)?;
     let destination = whole(second)?;
@@ -177,29 +178,29 @@ fn general_pair(
     mined_pair(destination, part, pair)
 }
 
-fn pair_in_range(blocks: u32, periods: u32, block: u32, period: u32) -> Result<(u32, u32), Cause>
+fn pair_in_range(blocks: u32, periods: u32, block: u32, period: u32) -> Result<(u32, u32), Fault>
     ensures value { result ≡ pair_in_range blocks periods block period }
     ensures in_range { IfOk result (λ pair. (pair.0 < blocks) × (pair.1 < periods)) }
 {
     if block >= blocks {
-        return Err(Cause::Build(BuildError::BlockRange));
+        return Err(Fault::Build(BuildError::BlockRange));
     }
     if period >= periods {
-        return Err(Cause::Build(BuildError::PeriodRange));
+        return Err(Fault::Build(BuildError::PeriodRange));
     }
     Ok((block, period))
 }
 
-fn mined_pair(destination: u32, part: i64, pair: (u32, u32)) -> Result<Option<(u32, u32)>, Cause>
+fn mined_pair(destination: u32, part: i64, pair: (u32, u32)) -> Result<Option<(u32, u32)>, Fault>
     ensures value { result ≡ mined_pair destination part pair }
     ensures same { IfOk result (λ fact. IfSome fact (λ kept. kept ≡ pair)) }
 {
     if destination != 0 {
-        return Err(Cause::Unsupported(Key::Destinations));
+        return Err(Fault::Unsupported(Key::Destinations));
     }
     match part {
         0 => Ok(None),
         1_000_000 => Ok(Some(pair)),
-        _ => Err(Cause::PartBlock),
+        _ => Err(Fault::PartBlock),
     }
 }

@@ -1,7 +1,7 @@
 ghost use Rattle.std.specs.Prelude.{◌≡◌};
 ghost use Rattle.pit_text.specs.Bounds.{is_infinite, is_negative_infinite, upper_bound_of, lower_bound_of, upper_field, lower_field};
 
-use crate::error::Cause;
+use crate::error::Fault;
 use crate::number::is_ascii;
 use pit_num::{NumError, micro_from_bytes};
 
@@ -41,29 +41,29 @@ fn lower_from_bytes(text: &[u8]) -> Result<Option<i64>, NumError>
 
 /// The bound in a field in an upper place.
 #[tactic(auto, unfolding(crate::specs::Bounds::upper_field))]
-pub(crate) fn upper(field: &[u8]) -> Result<Option<i64>, Cause>
+pub(crate) fn upper(field: &[u8]) -> Result<Option<i64>, Fault>
     ensures { result ≡ upper_field field.now }
 {
     if !is_ascii(field) {
-        return Err(Cause::NotAscii);
+        return Err(Fault::NotAscii);
     }
     match upper_from_bytes(field) {
         Ok(bound) => Ok(bound),
-        Err(error) => Err(Cause::BadNumber(error)),
+        Err(error) => Err(Fault::BadNumber(error)),
     }
 }
 
 /// The bound in a field in a lower place.
 #[tactic(auto, unfolding(crate::specs::Bounds::lower_field))]
-pub(crate) fn lower(field: &[u8]) -> Result<Option<i64>, Cause>
+pub(crate) fn lower(field: &[u8]) -> Result<Option<i64>, Fault>
     ensures { result ≡ lower_field field.now }
 {
     if !is_ascii(field) {
-        return Err(Cause::NotAscii);
+        return Err(Fault::NotAscii);
     }
     match lower_from_bytes(field) {
         Ok(bound) => Ok(bound),
-        Err(error) => Err(Cause::BadNumber(error)),
+        Err(error) => Err(Fault::BadNumber(error)),
     }
 }
 

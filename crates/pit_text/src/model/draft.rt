@@ -8,7 +8,7 @@ use super::header::value_of_key;
 use super::key::Key;
 use super::section::Section;
 use crate::cutting::Fields;
-use crate::error::Cause;
+use crate::error::Fault;
 use pit_model::Builder;
 use pit_num::NoMemory;
 use std::alloc::Allocator;
@@ -96,17 +96,17 @@ impl Draft {
     }
 
     /// A line of the header, by its key and what follows it.
-    pub(crate) fn key_line(&mut self, key: Key, mut values: Fields<'_>) -> Result<(), Cause>
+    pub(crate) fn key_line(&mut self, key: Key, mut values: Fields<'_>) -> Result<(), Fault>
         ensures keeps { (facts : List Fact) → IsDraft facts self.old → MatchResult result
             (λ _. (n : ℕ) × (key_line facts key (fields_left values.entry) ≡ Ok (header key n)) × IsDraft (facts ++ header key n ∷ []) self.new)
             (λ cause. key_line facts key (fields_left values.entry) ≡ Err cause) }
         ensures section { self.new.section ≡ self.old.section }
     {
         let (Some(value), None) = (values.next(), values.next()) else {
-            return Err(Cause::BadHeader(key));
+            return Err(Fault::BadHeader(key));
         };
         if self.value(key).is_some() {
-            return Err(Cause::BadHeader(key));
+            return Err(Fault::BadHeader(key));
         }
         let n = value_of_key(key, value)?;
         self.values[key.number()] = Some(n);
@@ -114,16 +114,16 @@ impl Draft {
     }
 
     /// A line that begins a section.
-    pub(crate) fn start(&mut self, begun: Section) -> Result<(), Cause>
+    pub(crate) fn start(&mut self, begun: Section) -> Result<(), Fault>
         ensures { (facts : List Fact) → IsDraft facts self.old → MatchResult result
             (λ _. (section_line facts begun ≡ Ok (section begun)) × IsDraft (facts ++ section begun ∷ []) self.new × (missing_key facts ≡ None))
             (λ cause. section_line facts begun ≡ Err cause) }
     {
         if let Some(key) = self.missing_key() {
-            return Err(Cause::MissingHeader(key));
+            return Err(Fault::MissingHeader(key));
         }
         if self.seen[begun.number()] {
-            return Err(Cause::SectionTwice);
+            return Err(Fault::SectionTwice);
         }
         self.seen[begun.number()] = true;
         self.section = Some(begun);

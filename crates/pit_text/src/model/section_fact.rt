@@ -6,7 +6,7 @@ ghost use Rattle.pit_text.specs.SectionFacts.{profit_line, coefficient_line, lim
 use super::bound::{lower, upper};
 use super::section::Section;
 use crate::cutting::Fields;
-use crate::error::Cause;
+use crate::error::Fault;
 use crate::number::{decimal, is_ascii, whole};
 use pit_model::{BuildError, Builder};
 use std::alloc::Allocator;
@@ -38,7 +38,7 @@ pub(crate) fn section_fact_of(
     section: Section,
     first: &[u8],
     fields: Fields<'_>,
-) -> Result<SectionFact, Cause>
+) -> Result<SectionFact, Fault>
     ensures { result ≡ section_fact_of section (first.now ∷ fields_left fields.entry) }
 {
     match section {
@@ -49,11 +49,11 @@ pub(crate) fn section_fact_of(
 }
 
 #[tactic(auto, unfolding(crate::specs::SectionFacts::profit_line))]
-fn profit(first: &[u8], mut fields: Fields<'_>) -> Result<SectionFact, Cause>
+fn profit(first: &[u8], mut fields: Fields<'_>) -> Result<SectionFact, Fault>
     ensures { result ≡ profit_line (first.now ∷ fields_left fields.entry) }
 {
     let (Some(second), None) = (fields.next(), fields.next()) else {
-        return Err(Cause::FieldCount);
+        return Err(Fault::FieldCount);
     };
     let block = whole(first)?;
     let value = decimal(second)?;
@@ -61,11 +61,11 @@ fn profit(first: &[u8], mut fields: Fields<'_>) -> Result<SectionFact, Cause>
 }
 
 #[tactic(auto, unfolding(crate::specs::SectionFacts::coefficient_line))]
-fn coefficient(first: &[u8], mut fields: Fields<'_>) -> Result<SectionFact, Cause>
+fn coefficient(first: &[u8], mut fields: Fields<'_>) -> Result<SectionFact, Fault>
     ensures { result ≡ coefficient_line (first.now ∷ fields_left fields.entry) }
 {
     let (Some(second), Some(third), None) = (fields.next(), fields.next(), fields.next()) else {
-        return Err(Cause::FieldCount);
+        return Err(Fault::FieldCount);
     };
     let block = whole(first)?;
     let resource = whole(second)?;
@@ -74,12 +74,12 @@ fn coefficient(first: &[u8], mut fields: Fields<'_>) -> Result<SectionFact, Caus
 }
 
 #[tactic(auto, unfolding(crate::specs::SectionFacts::limit_line))]
-fn limit(first: &[u8], mut fields: Fields<'_>) -> Result<SectionFact, Cause>
+fn limit(first: &[u8], mut fields: Fields<'_>) -> Result<SectionFact, Fault>
     ensures { result ≡ limit_line (first.now ∷ fields_left fields.entry) }
 {
     let (Some(second), Some(third), Some(bound)) = (fields.next(), fields.next(), fields.next())
     else {
-        return Err(Cause::FieldCount);
+        return Err(Fault::FieldCount);
     };
     let resource = whole(first)?;
     let period = whole(second)?;
@@ -89,11 +89,11 @@ fn limit(first: &[u8], mut fields: Fields<'_>) -> Result<SectionFact, Cause>
 }
 
 #[tactic(auto, unfolding(crate::specs::SectionFacts::kind_by, crate::specs::SectionFacts::kind_field))]
-fn limit_kind(field: &[u8]) -> Result<LimitKind, Cause>
+fn limit_kind(field: &[u8]) -> Result<LimitKind, Fault>
     ensures { result ≡ kind_field field.now }
 {
     if !is_ascii(field) {
-        return Err(Cause::NotAscii);
+        return Err(Fault::NotAscii);
     }
     if field == b"L".as_slice() {
         Ok(LimitKind::AtMost)
@@ -102,7 +102,7 @@ fn limit_kind(field: &[u8]) -> Result<LimitKind, Cause>
     } else if field == b"I".as_slice() {
         Ok(LimitKind::Between)
     } else {
-        Err(Cause::BadKind)
+        Err(Fault::BadKind)
     }
 }
 
@@ -112,7 +112,7 @@ fn bounds(
     kind: LimitKind,
     bound: &[u8],
     mut fields: Fields<'_>,
-) -> Result<(Option<i64>, Option<i64>), Cause>
+) -> Result<(Option<i64>, Option<i64>), Fault>
     ensures { result ≡ bounds_by kind bound.now (fields_left fields.entry) }
 {
     match (kind, fields.next()) {
@@ -126,13 +126,13 @@ fn bounds(
         }
         (LimitKind::Between, Some(second)) => {
             if fields.next().is_some() {
-                return Err(Cause::FieldCount);
+                return Err(Fault::FieldCount);
             }
             let lo = lower(bound)?;
             let hi = upper(second)?;
             Ok((lo, hi))
         }
-        _ => Err(Cause::FieldCount),
+        _ => Err(Fault::FieldCount),
     }
 }
 

@@ -3,8 +3,9 @@ use Rattle.pit_text.specs.Cutting.{cut_of}
 use Rattle.pit_text.specs.Left.{cut_seen, fields_left, lines_left}
 use Rattle.pit_text.specs.Inside.Stands.{IsCauseOf}
 use Rattle.pit_text.proofs.CallerLemmas.{read_more, read_all, read_stops}
+use Rattle.pit_script.specs.Causes.{script_cause_of}
 use Rattle.pit_script.specs.Jobs.{Progress, with_fact, fact_in, script_line}
-use Rattle.pit_script.specs.declared.error.ScriptCause.{ScriptCause}
+use Rattle.pit_script.specs.declared.error.ScriptFault.{ScriptFault}
 use Rattle.pit_script.specs.declared.error.ScriptCause.TheVariants.{NoMemory}
 use Rattle.pit_script.specs.declared.fact.ScriptFact.{ScriptFact}
 use Rattle.pit_script.proofs.Progressing.{progress_of-none, progress_of-more, judged}
@@ -43,8 +44,8 @@ returns-in-Err-clause-result g c =
     let was = c.loop-line.invariant.facts in
     let pit = c.args.benches.now in
     let fields = fields_left c.in-Some.line.fields in
-    read_stops NoMemory (script_line pit) (cut_of c.args.text.now) (lines_left c.loop-line.lines) (lines_left c.next.new.self) (cut_seen c.in-Some.line) was.0 c.in-Err.cause was.1 c.in-Some.ensures.steps.0
-    (subst (λ (r : Result ScriptFact ScriptCause). IsCauseOf NoMemory r c.in-Err.cause)
+    read_stops NoMemory script_cause_of (script_line pit) (cut_of c.args.text.now) (lines_left c.loop-line.lines) (lines_left c.next.new.self) (cut_seen c.in-Some.line) was.0 c.in-Err.cause was.1 c.in-Some.ensures.steps.0
+    (subst (λ (r : Result ScriptFact ScriptFault). IsCauseOf NoMemory script_cause_of r c.in-Err.cause)
     (sym (judged pit c.loop-line.draft was.0 fields (fact_in pit c.loop-line.draft fields) was.2 refl)) c.in-Err.ensures)
 
 pub returns-clause-result : goal.returns-clause-result

@@ -3,8 +3,9 @@ use Rattle.pit_model.specs.Pit.{Pit}
 use Rattle.pit_text.specs.Cutting.{cut_of}
 use Rattle.pit_text.specs.Left.{cut_seen, fields_left, lines_left}
 use Rattle.pit_text.specs.Blocks.{block_line, place_fact, with_place_fact}
+use Rattle.pit_text.specs.Causes.{cause_of}
 use Rattle.pit_text.specs.Inside.Stands.{IsCauseOf}
-use Rattle.pit_text.specs.declared.error.Cause.{Cause}
+use Rattle.pit_text.specs.declared.error.Fault.{Fault}
 use Rattle.pit_text.specs.declared.error.Cause.TheVariants.{NoMemory}
 use Rattle.pit_text.proofs.Pits.{pit_with-none, pit_with-more, line_of_pit-is}
 use Rattle.pit_text.proofs.Reading.{read_more, read_stops}
@@ -29,6 +30,6 @@ returns-in-Err g c =
     let was = c.loop-line.invariant in
     let given : Pit = c.args.builder in
     let fields = fields_left c.in-Some.line.fields in
-    read_stops NoMemory (block_line given) (cut_of c.args.text.now) (lines_left c.loop-line.lines) (lines_left c.next.new.self) (cut_seen c.in-Some.line) was.0 c.in-Err.cause was.1 c.in-Some.ensures.steps.0
-    (subst (λ (r : Result (ℕ × (ℤ × ℤ × ℤ)) Cause). IsCauseOf NoMemory r c.in-Err.cause)
+    read_stops NoMemory cause_of (block_line given) (cut_of c.args.text.now) (lines_left c.loop-line.lines) (lines_left c.next.new.self) (cut_seen c.in-Some.line) was.0 c.in-Err.cause was.1 c.in-Some.ensures.steps.0
+    (subst (λ (r : Result (ℕ × (ℤ × ℤ × ℤ)) Fault). IsCauseOf NoMemory cause_of r c.in-Err.cause)
     (sym (line_of_pit-is with_place_fact place_fact given c.loop-line.builder was.0 fields (place_fact c.loop-line.builder fields) was.2 refl)) c.in-Err.ensures)

@@ -6,11 +6,12 @@ use Rattle.pit_model.specs.declared.error.BuildError.TheVariants.{NoMemory}
 use Rattle.pit_text.specs.SectionFacts.{section_fact_refusal}
 use Rattle.pit_text.specs.Model.{in_section, pit_of}
 use Rattle.pit_text.proofs.Dues.{line_due}
+use Rattle.pit_text.proofs.Wanting.{refused_fact}
 use Rattle.pit_text.proofs.model.add_said.Goals as goal
 
 pub returns-in_err-add : goal.returns-in_err-add
 returns-in_err-add g c = λ facts says.
     let p = err_from_is_err_and c.from_residual.result c.from_residual.ensures.1 in
-    rw (p.1, p.2)
-    (line_due (Ok c.args.said) c.args.said (λ e. section_fact_refusal (pit_of facts) e) in_section c.add.result c.in_err-add.field-0.0 refl c.in_err-add.was
-    (subst (λ (pit : Pit). IsRefusedBy NoMemory c.add.result (section_fact_refusal pit c.args.said)) says c.add.ensures.cause))
+    rw p.1
+    (line_due (Ok c.args.said) c.args.said (λ e. section_fact_refusal (pit_of facts) e) in_section c.add.result c.in_err-add.field-0.0 p.0 refl c.in_err-add.was (refused_fact (pit_of facts) c.args.said)
+    (subst (λ (pit : Pit). IsRefusedBy NoMemory c.add.result (section_fact_refusal pit c.args.said)) says c.add.ensures.cause) p.2)

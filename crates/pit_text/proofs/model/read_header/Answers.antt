@@ -1,6 +1,8 @@
-use Rattle.std.proofs.Common.{◌≡◌, None, Some, inr, ap, sym, ◌∙◌, is_some}
+use Rattle.std.proofs.Common.{◌≡◌, None, Some, inr, ap, sym, refl, ◌∙◌, is_some}
 use Rattle.pit_text.specs.Left.{cut_seen, lines_left, end_left}
-use Rattle.pit_text.specs.Model.{missing_key, model_line}
+use Rattle.pit_text.specs.Stands.{FailsAtEnd}
+use Rattle.pit_text.specs.Model.{missing_key, model_line, model_end}
+use Rattle.pit_text.specs.declared.error.Fault.TheVariants.{MissingHeader}
 use Rattle.pit_text.proofs.Drafts.{missing_key-draft, header-whole}
 use Rattle.pit_text.proofs.Reading.{read_all, read_left}
 use Rattle.pit_text.proofs.Headers.{end_is, header_ends, header_goes_on}
@@ -28,12 +30,13 @@ loop-line-preserved c =
 pub returns-in-Some-missing_key : goal.returns-in-Some-missing_key
 returns-in-Some-missing_key c =
     let was = c.loop-line.invariant.facts in
-    inr (record {
+    let end : FailsAtEnd model_line model_end (lines_left c.args.lines.now) (end_left c.args.lines.now) _ (MissingHeader c.in-Some-missing_key.key) = record {
       facts = was.0;
       stands = read_all model_line (lines_left c.args.lines.now) (lines_left c.loop-line.lines) was.0 was.1 c.in_default.ensures.steps.0.0;
       number = c.end_line.ensures ∙ c.in_default.ensures.steps.1 ∙ c.loop-line.invariant.end;
       wanting = end_is was.0 (Some c.in-Some-missing_key.key) (missing_key-draft was.0 c.loop-line.draft was.2 ∙ sym c.missing_key.ensures ∙ c.in-Some-missing_key.is);
-    })
+    } in
+    (MissingHeader c.in-Some-missing_key.key, refl, inr end)
 
 pub returns-in-None : goal.returns-in-None
 returns-in-None c =

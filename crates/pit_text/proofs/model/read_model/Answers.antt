@@ -58,5 +58,5 @@ returns-in-Err g c =
             ),
           )
       | inr wrong ↦
-          inr (inl (read_fails model_line (cut_of c.args.text.now) (lines_left c.loop-line.lines) (lines_left c.next_said.new.lines) line was.0 c.in-Err.cause was.1 c.in-Some.ensures.steps.0 wrong))
+          inr (wrong.0, wrong.1, inl (read_fails model_line (cut_of c.args.text.now) (lines_left c.loop-line.lines) (lines_left c.next_said.new.lines) line was.0 wrong.0 was.1 c.in-Some.ensures.steps.0 wrong.2))
     ]

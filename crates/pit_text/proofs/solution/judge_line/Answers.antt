@@ -1,4 +1,6 @@
 use Rattle.std.proofs.Common.{◌≡◌, ◌<◌, ℕ, Option, Some, None, Ok, is_some, true, inl, inr, refl, ap, sym, ◌∙◌, slice_index_or, List}
+use Rattle.pit_model.specs.declared.error.BuildError.TheVariants.{Repeated}
+use Rattle.pit_text.specs.declared.error.Fault.TheVariants.{Build}
 use Rattle.pit_text.specs.Left.{fields_left}
 use Rattle.pit_text.specs.Solution.{period_in}
 use Rattle.pit_text.specs.Inside.Solution.{AreSlots}
@@ -13,7 +15,7 @@ returns-in-Ok-None g c = λ facts are. (
 )
 
 pub returns-in-Err : goal.returns-in-Err
-returns-in-Err g c = λ facts are. inr (line_bad c.args.blocks c.args.periods facts (fields_left c.args.fields) c.in-Err.cause (sym c.scheduled_pair.ensures.value ∙ c.in-Err.is))
+returns-in-Err g c = λ facts are. inr (c.in-Err.fault, c.from.ensures, line_bad c.args.blocks c.args.periods facts (fields_left c.args.fields) c.in-Err.fault (sym c.scheduled_pair.ensures.value ∙ c.in-Err.is))
 
 pub returns-in_default : goal.returns-in_default
 returns-in_default g c = λ facts are.
@@ -32,7 +34,7 @@ returns-then-is_some g c = λ facts are.
     let made : AreSlots c.args.blocks facts c.make_slots.new.slots.items = slots_made c.args.blocks facts c.args.slots.now.items c.make_slots.new.slots.items are c.in-Ok.ensures.count c.make_slots.ensures.same in
     let period : c.index.result.now ≡ period_in facts b = slot_is c.args.blocks facts c.make_slots.new.slots.items b c.index.result.now made c.in-Ok.ensures.count within c.index.ensures in
     let some : is_some (period_in facts b) ≡ true = ap (λ (o : Option ℕ). is_some o) (sym period) ∙ sym c.if-is_some.ensures in
-    inr (line_again c.args.blocks c.args.periods facts (fields_left c.args.fields) b c.in-Ok-Some.pair.1 (sym c.scheduled_pair.ensures.value ∙ c.in-Ok-Some.is ∙ ap (λ o. Ok o) c.in-Ok-Some.field-0-is) some)
+    inr (Build Repeated, refl, line_again c.args.blocks c.args.periods facts (fields_left c.args.fields) b c.in-Ok-Some.pair.1 (sym c.scheduled_pair.ensures.value ∙ c.in-Ok-Some.is ∙ ap (λ o. Ok o) c.in-Ok-Some.field-0-is) some)
 
 pub returns : goal.returns
 returns g c = λ facts are.

@@ -43,7 +43,7 @@ returns-in-Err g c =
           schedules_some was.0 wanting.1.0,
         ),
       )
-      | inr wrong ↦ inr (read_fails judge (cut_of c.args.text.now) (lines_left c.loop-line.lines) (lines_left c.next_pair.new.self) line was.0 c.in-Err.cause was.1 c.in-Some.ensures.steps.0 wrong)
+      | inr wrong ↦ inr (wrong.0, wrong.1, read_fails judge (cut_of c.args.text.now) (lines_left c.loop-line.lines) (lines_left c.next_pair.new.self) line was.0 wrong.0 was.1 c.in-Some.ensures.steps.0 wrong.2)
     ]
 
 pub returns : goal.returns

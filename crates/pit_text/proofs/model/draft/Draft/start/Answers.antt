@@ -1,6 +1,6 @@
 use Rattle.std.proofs.Common.{◌≡◌, ◌++◌, ◌∷◌, [], ℕ, Bool, true, false, cond, Some, None, Ok, Err, ap, sym, ◌∙◌, subst, set, slice_index_or}
 use Rattle.std.specs.List.{list_any}
-use Rattle.pit_text.specs.declared.error.Cause.TheVariants.{SectionTwice}
+use Rattle.pit_text.specs.declared.error.Fault.TheVariants.{SectionTwice}
 use Rattle.pit_text.specs.Keys.{same_section}
 use Rattle.pit_text.specs.Model.{section, sections, missing_key, section_after}
 use Rattle.pit_text.specs.Inside.Draft.{IsDraft}
