@@ -5,7 +5,9 @@ pub mod Drafts
 pub mod Fields
 pub mod FirstLine
 pub mod Kept
+pub mod Numbers
 pub mod Placed
 pub mod Progressing
 pub mod Ranging
 pub mod Wanting
+pub mod Words

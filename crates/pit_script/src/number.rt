@@ -1,36 +1,45 @@
-ghost use Rattle.std.specs.Prelude.{◌≡◌};
+ghost use Rattle.std.specs.Prelude.{◌≡◌, if◌then◌else◌};
 ghost use Rattle.pit_num.specs.Decimal.{whole_of, micro_of, after_sign, is_negative};
 ghost use Rattle.pit_text.specs.Bounds.{upper_bound_of};
+ghost use Rattle.pit_text.specs.Numbers.{is_ascii};
 ghost use Rattle.pit_script.specs.Numbers.{read_as, shift_of, is_dash, period_or_none_of};
+ghost use Rattle.pit_script.specs.declared.error.ScriptFault.TheVariants.{BadNumber, NotAscii};
 
 use super::error::ScriptFault;
 use super::step::SHIFT_MAX;
 use pit_num::{NumError, micro_from_bytes, whole_from_bytes};
 use pit_text::{is_ascii, upper_bound};
 
+/// Why a field that is no such number is refused. A number has no byte above 127, so only other fields are looked at again.
+fn refusal(field: &[u8], error: NumError) -> ScriptFault
+    ensures { result ≡ (if is_ascii field.now then BadNumber error else NotAscii) }
+{
+    if is_ascii(field) {
+        ScriptFault::BadNumber(error)
+    } else {
+        ScriptFault::NotAscii
+    }
+}
+
 /// The whole number in a field.
+#[tactic(auto, using(crate::proofs::Numbers::reads))]
 pub(crate) fn whole(field: &[u8]) -> Result<u32, ScriptFault>
     ensures { result ≡ read_as whole_of field.now }
 {
-    if !is_ascii(field) {
-        return Err(ScriptFault::NotAscii);
-    }
     match whole_from_bytes(field) {
         Ok(n) => Ok(n),
-        Err(error) => Err(ScriptFault::BadNumber(error)),
+        Err(error) => Err(refusal(field, error)),
     }
 }
 
 /// The decimal in a field, in millionths.
+#[tactic(auto, using(crate::proofs::Numbers::reads))]
 pub(crate) fn decimal(field: &[u8]) -> Result<i64, ScriptFault>
     ensures { result ≡ read_as micro_of field.now }
 {
-    if !is_ascii(field) {
-        return Err(ScriptFault::NotAscii);
-    }
     match micro_from_bytes(field) {
         Ok(n) => Ok(n),
-        Err(error) => Err(ScriptFault::BadNumber(error)),
+        Err(error) => Err(refusal(field, error)),
     }
 }
 
@@ -51,15 +60,13 @@ pub(crate) fn upper(field: &[u8]) -> Result<Option<i64>, ScriptFault>
 }
 
 /// The period in a field, or none where it is a dash.
+#[tactic(auto, using(crate::proofs::Numbers::reads))]
 pub(crate) fn period_or_none(field: &[u8]) -> Result<Option<u32>, ScriptFault>
     ensures { result ≡ read_as period_or_none_of field.now }
 {
-    if !is_ascii(field) {
-        return Err(ScriptFault::NotAscii);
-    }
     match period_or_none_of(field) {
         Ok(period) => Ok(period),
-        Err(error) => Err(ScriptFault::BadNumber(error)),
+        Err(error) => Err(refusal(field, error)),
     }
 }
 
@@ -84,15 +91,13 @@ fn is_dash(text: &[u8]) -> bool
 }
 
 /// Whether the shift in a field goes back, and by how many periods.
+#[tactic(auto, using(crate::proofs::Numbers::reads))]
 pub(crate) fn shift(field: &[u8]) -> Result<(bool, u32), ScriptFault>
     ensures { result ≡ read_as shift_of field.now }
 {
-    if !is_ascii(field) {
-        return Err(ScriptFault::NotAscii);
-    }
     match shift_of(field) {
         Ok(shift) => Ok(shift),
-        Err(error) => Err(ScriptFault::BadNumber(error)),
+        Err(error) => Err(refusal(field, error)),
     }
 }
 

@@ -1,5 +1,7 @@
-ghost use Rattle.std.specs.Prelude.{◌≡◌};
+ghost use Rattle.std.specs.Prelude.{◌≡◌, if◌then◌else◌};
+ghost use Rattle.pit_text.specs.Numbers.{is_ascii};
 ghost use Rattle.pit_script.specs.Words.{word_of, word_in};
+ghost use Rattle.pit_script.specs.declared.error.ScriptFault.TheVariants.{NotAscii, UnknownWord};
 
 use super::error::ScriptFault;
 use pit_text::{is_ascii, look_up};
@@ -50,16 +52,25 @@ const WORDS: &[(&str, Word)] = &[
 ];
 
 /// The word in a field.
+#[tactic(auto, using(crate::proofs::Words::reads))]
 pub(crate) fn word_in(field: &[u8]) -> Result<Word, ScriptFault>
     ensures { result ≡ word_in field.now }
 {
-    if !is_ascii(field) {
-        return Err(ScriptFault::NotAscii);
+    match word_of(field) {
+        Some(word) => Ok(word),
+        None => Err(unknown(field)),
     }
-    let Some(word) = word_of(field) else {
-        return Err(ScriptFault::UnknownWord);
-    };
-    Ok(word)
+}
+
+/// Why a field that is no word is refused.
+fn unknown(field: &[u8]) -> ScriptFault
+    ensures { result ≡ (if is_ascii field.now then UnknownWord else NotAscii) }
+{
+    if is_ascii(field) {
+        ScriptFault::UnknownWord
+    } else {
+        ScriptFault::NotAscii
+    }
 }
 
 /// The word that a line begins with whose first field this is. A byte above 127 stands in no word.

@@ -44,7 +44,7 @@ sign_by : (b : ℕ) (bs : List ℕ) (c : Bool) → is_sign b ≡ c → is_ascii 
 sign_by b bs true e h = let small : nat_lt b 128 ≡ true = grind (arith, nat_tests) in both (nat_lt b 128) (is_ascii bs) small h
 sign_by b bs false e h = h
 
-sign_ascii : (text : List ℕ) → is_ascii (after_sign text) ≡ true → is_ascii text ≡ true
+pub sign_ascii : (text : List ℕ) → is_ascii (after_sign text) ≡ true → is_ascii text ≡ true
 sign_ascii [] h = refl
 sign_ascii (b ∷ bs) h = sign_by b bs (is_sign b) refl h
 
@@ -82,11 +82,11 @@ pub passed : {X : Type 0} (good : Bool) (e : NumError) (r : Result X NumError) (
 passed true e r x h = refl
 passed false e r x h = cc
 
-whole_ascii : (text : List ℕ) (n : ℕ) → whole_of text ≡ Ok n → is_ascii text ≡ true
+pub whole_ascii : (text : List ℕ) (n : ℕ) → whole_of text ≡ Ok n → is_ascii text ≡ true
 unfolding whole_of
 whole_ascii text n h = digits_ascii text (each (nat_lt 0 (length text)) (are_digits text) (passed (is_number text) _ _ n h)).1
 
-micro_ascii : (text : List ℕ) (z : ℤ) → micro_of text ≡ Ok z → is_ascii text ≡ true
+pub micro_ascii : (text : List ℕ) (z : ℤ) → micro_of text ≡ Ok z → is_ascii text ≡ true
 unfolding micro_of
 micro_ascii text z h = decimal_ascii text (passed (is_decimal text) _ _ z h)
 
