@@ -1,5 +1,5 @@
 -- What is so of tries and runs, also where less had been seen before, or more is seen then.
-use Rattle.std.proofs.Common.{ℕ, zero, suc, ◌+◌, List, [], ◌∷◌, length, ap, arith, length-append, inl, inr}
+use Rattle.std.proofs.Common.{ℕ, zero, suc, ◌+◌, List, [], ◌∷◌, ◌++◌, length, ap, arith, length-append, inl, inr}
 use mathlib.Core.List.{IsPrefix}
 use Rattle.pit_model.specs.Pit.{Pit}
 use Rattle.pit_desk.specs.History.{Answered}
@@ -45,6 +45,9 @@ ran-from pit task retries n less old new es o begins (inl s) = inl (record {
   repeats = repeats-from pit task n s.before less old s.mid s.repeated begins s.repeats;
   sees = s.sees;
   item = s.item;
+  after = s.after;
+  before_more = s.before_more;
+  stands = s.stands;
   answer = s.answer;
   other = s.other;
   tries = s.tries;
@@ -103,6 +106,9 @@ ran-on pit task retries n old new more es o on (inl s) = inl (record {
   repeats = s.repeats;
   sees = prefix-trans s.mid new more s.sees on;
   item = s.item;
+  after = s.after;
+  before_more = let few = s.before_more in omega (arith, few, commits-fewer new more on);
+  stands = record { before = s.stands.before; begins = prefix-trans (s.stands.before ++ s.last ∷ []) new more s.stands.begins on };
   answer = s.answer;
   other = s.other;
   tries = s.tries;

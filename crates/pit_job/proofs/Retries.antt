@@ -59,7 +59,7 @@ tries-of-outcome reply.Withdrawn tries = refl
 -- an answer settles the job
 pub settles : (pit : Pit) (max_entries : ℕ) (task : Job) (retries n k : ℕ) (old mid new es fs : List Answered) (r : EntryReply) → k ≤ retries → Repeats pit task n k old mid es → IsPrefix mid new
     → Tries pit max_entries task n mid new fs (tried.Answered r) → Ran pit task retries n old new (es ++ fs) (outcome_of r (k + 1))
-settles pit max_entries task retries n k old mid new es fs r few repeats sees (e, is, item, same, other) = inl (record {
+settles pit max_entries task retries n k old mid new es fs r few repeats sees (e, is, item, same, other, after, before_more, stands) = inl (record {
   before = k;
   mid = mid;
   repeated = es;
@@ -68,6 +68,9 @@ settles pit max_entries task retries n k old mid new es fs r few repeats sees (e
   repeats = repeats;
   sees = sees;
   item = item;
+  after = after;
+  before_more = before_more;
+  stands = stands;
   answer = same ∙ sym (reply-of-outcome r (k + 1));
   other = ap is_moved_reply same ∙ other;
   tries = tries-of-outcome r (k + 1);

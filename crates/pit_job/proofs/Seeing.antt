@@ -44,7 +44,7 @@ pub moved-on : (seen more : List Answered) (start block version : ℕ) → IsPre
 moved-on seen more start block version on moved =
     record { prefix = moved.prefix; begins = prefix-trans moved.prefix seen more moved.begins on; last = moved.last; past = moved.past }
 
-past-start : (commits : List Commit) (start b : ℕ) → nat_lt start (last_number commits b) ≡ true → start < last_number commits b
+pub past-start : (commits : List Commit) (start b : ℕ) → nat_lt start (last_number commits b) ≡ true → start < last_number commits b
 past-start commits start b is = grind (arith, is)
 
 least-past : (commits : List Commit) (start block : ℕ) (reads : List (ℕ × Option ℕ)) → IsLeastIn (is_moved commits start) reads (Some block) → start < last_number commits block

@@ -31,9 +31,9 @@ use Rattle.pit_job.specs.declared.outcome.JobStop.TheVariants as job_stop
 use Rattle.pit_job.specs.declared.outcome.Tried.{Tried}
 use Rattle.pit_job.specs.declared.outcome.Tried.TheVariants as tried
 use Rattle.pit_job.specs.Inside.Doing.{own_of, Same, NotesOnly, DoesSteps, Meets, IsFresh, come_to}
-use Rattle.pit_job.specs.Outcomes.{IsRead, IsReadAmong, IsCallOf, Grows}
+use Rattle.pit_job.specs.Outcomes.{IsRead, IsReadAmong, IsCallOf, StandsIn, Grows}
 use Rattle.pit_job.specs.Inside.Outcomes.{Tries, EndsBy, IsStop, stop_of, tried_at, tried_of}
-use Rattle.pit_job.proofs.Seeing.{prefix-trans, sees-same, answered-moved, answered-noted}
+use Rattle.pit_job.proofs.Seeing.{prefix-trans, commits-fewer, sees-same, answered-moved, answered-noted}
 use Rattle.pit_job.proofs.Growing.{try-from}
 use Rattle.pit_job.proofs.Noting.{among-read}
 
@@ -45,8 +45,8 @@ try-stop pit max_entries steps seen job_stop.NoEntry is = let none = is.1.among.
 
 -- an ending is a try's, where the call is the job's, and began after what had been seen
 pub tries-of : (pit : Pit) (max_entries : ℕ) (task : Job) (n : ℕ) (how : Act) (w : Sets) (old new : PlannerState) (es : List Answered) (t : Tried) → w.job ≡ n → length (commits_of old.seen) ≤ w.start
-    → IsCallOf pit task (work_call w how) → Grows old es new → EndsBy pit max_entries how w new.seen es t → Tries pit max_entries task n old.seen new.seen es t
-tries-of pit max_entries task n how w old new es (tried.Moved block version) same after has grows (is, moved, noted) = record {
+    → w.start ≤ length (commits_of new.seen) → IsCallOf pit task (work_call w how) → Grows old es new → EndsBy pit max_entries how w new.seen es t → Tries pit max_entries task n old.seen new.seen es t
+tries-of pit max_entries task n how w old new es (tried.Moved block version) same after few has grows (is, moved, noted) = record {
   start = w.start;
   after = after;
   sees = grows.seen;
@@ -59,9 +59,9 @@ tries-of pit max_entries task n how w old new es (tried.Moved block version) sam
     record { item = record { job = same; call = has }; begun = refl; answer = refl },
   );
 }
-tries-of pit max_entries task n how w old new es (tried.Answered answer) same after has grows (is, other) =
-    (record { call = work_call w how; reply = answer }, is, record { job = same; call = has }, refl, other)
-tries-of pit max_entries task n how w old new es (tried.Stopped why) same after has grows (is, stop) = (is, try-stop pit max_entries task.steps new.seen why stop)
+tries-of pit max_entries task n how w old new es (tried.Answered answer) same after few has grows (is, other, stands) =
+    (record { call = work_call w how; reply = answer }, is, record { job = same; call = has }, refl, other, after, few, stands)
+tries-of pit max_entries task n how w old new es (tried.Stopped why) same after few has grows (is, stop) = (is, try-stop pit max_entries task.steps new.seen why stop)
 
 -- what all steps come to, over the reads that were made
 steps-come : (pit : Pit) (task : Job) (n : ℕ) (old new : TransactionState) (goes : Bool) → IsFresh n old → DoesSteps pit old task.steps goes new
@@ -108,19 +108,23 @@ failed-has pit task n old new fresh does = by task.end (steps-come pit task n ol
     by ending.Commit is = is
     by ending.Abort is = ap (ended ending.Abort) is
 
+-- what was answered has been seen
+stands-of : (pit : Pit) (call : Call) (answer : EntryReply) (old seen : List Answered) → IsAnswered pit call answer old seen → StandsIn seen (record { call = call; reply = answer })
+stands-of pit call answer old seen is = record { before = is.before; begins = is.stands }
+
 -- a commit's answer
 pub commit-ends : (pit : Pit) (max_entries : ℕ) (w : Sets) (old seen es : List Answered) (r : Reply) → IsAnswered pit (work_call w act.Commit) (entry_reply r) old seen
     → es ≡ record { call = work_call w act.Commit; reply = entry_reply r } ∷ [] → EndsBy pit max_entries act.Commit w seen es (tried_of r)
-commit-ends pit max_entries w old seen es (answered.Committed number) answer is = (is, refl)
-commit-ends pit max_entries w old seen es (answered.Refused (refusal.Ahead start commits)) answer is = (is, refl)
+commit-ends pit max_entries w old seen es (answered.Committed number) answer is = (is, refl, stands-of pit _ _ old seen answer)
+commit-ends pit max_entries w old seen es (answered.Refused (refusal.Ahead start commits)) answer is = (is, refl, stands-of pit _ _ old seen answer)
 commit-ends pit max_entries w old seen es (answered.Refused (refusal.Moved block version)) answer is = (
   is,
   answered-moved pit (work_call w act.Commit) (reply.Refused (refusal.Moved block version)) old seen block version answer refl,
   answered-noted pit (work_call w act.Commit) (reply.Refused (refusal.Moved block version)) old seen block version answer refl,
 )
-commit-ends pit max_entries w old seen es (answered.Refused (refusal.Misread block)) answer is = (is, refl)
-commit-ends pit max_entries w old seen es (answered.Refused (refusal.Precedence block before)) answer is = (is, refl)
-commit-ends pit max_entries w old seen es (answered.Refused (refusal.Over resource period load limit)) answer is = (is, refl)
+commit-ends pit max_entries w old seen es (answered.Refused (refusal.Misread block)) answer is = (is, refl, stands-of pit _ _ old seen answer)
+commit-ends pit max_entries w old seen es (answered.Refused (refusal.Precedence block before)) answer is = (is, refl, stands-of pit _ _ old seen answer)
+commit-ends pit max_entries w old seen es (answered.Refused (refusal.Over resource period load limit)) answer is = (is, refl, stands-of pit _ _ old seen answer)
 
 grows-on : (old new p : PlannerState) (es : List Answered) → SeesOn old new → Grows new es p → Grows old es p
 grows-on old new p es sees grows = record {
@@ -129,14 +133,15 @@ grows-on old new p es sees grows = record {
   seen = prefix-trans old.seen new.seen p.seen sees.seen grows.seen;
 }
 
--- the transaction's start is still past what had been seen
-start-after : (n : ℕ) (old new : TransactionState) → IsFresh n old → Same old new → length (commits_of old.planner.seen) ≤ new.work.start
-start-after n old new fresh same = let is = same.start in let after = fresh.after in omega arith
+-- the transaction's start is still just behind what had been seen
+start-after : (n : ℕ) (old new : TransactionState) → IsFresh n old → Same old new → new.work.start ≡ length (commits_of old.planner.seen)
+start-after n old new fresh same = same.start ∙ fresh.after
 
 -- a try that had seen less before
 tries-from : (pit : Pit) (max_entries : ℕ) (task : Job) (n : ℕ) (less old new es : List Answered) (t : Tried) → IsPrefix less old → Tries pit max_entries task n old new es t → Tries pit max_entries task n less new es t
 tries-from pit max_entries task n less old new es (tried.Moved block version) begins tries = try-from pit task n less old new es block version begins tries
-tries-from pit max_entries task n less old new es (tried.Answered answer) begins tries = tries
+tries-from pit max_entries task n less old new es (tried.Answered answer) begins (e, is, item, same, other, after, few, stands) =
+    (e, is, item, same, other, omega (arith, after, commits-fewer less old begins), few, stands)
 tries-from pit max_entries task n less old new es (tried.Stopped why) begins tries = tries
 
 ends-tries : (pit : Pit) (max_entries : ℕ) (task : Job) (n : ℕ) (old new : TransactionState) (how : Act) (p : PlannerState) (t : Tried) → IsFresh n old → Same old new
@@ -144,7 +149,9 @@ ends-tries : (pit : Pit) (max_entries : ℕ) (task : Job) (n : ℕ) (old new : T
     → (es : List Answered) × Grows old.planner es p × Tries pit max_entries task n old.planner.seen p.seen es t
 ends-tries pit max_entries task n old new how p t fresh same has (es, grows, ends) =
     let grew = grows-on old.planner new.planner p es same.sees grows in
-    (es, grew, tries-of pit max_entries task n how new.work old.planner p es t (same.job ∙ fresh.job) (start-after n old new fresh same) has grew ends)
+    let start = start-after n old new fresh same in
+    let more = commits-fewer old.planner.seen p.seen grew.seen in
+    (es, grew, tries-of pit max_entries task n how new.work old.planner p es t (same.job ∙ fresh.job) (omega (arith, start)) (omega (arith, start, more)) has grew ends)
 
 -- the same of a job by another name
 tries-same : (pit : Pit) (max_entries : ℕ) (task other : Job) (n : ℕ) (old p : PlannerState) (t : Tried) → other ≡ task → ((es : List Answered) × Grows old es p × Tries pit max_entries task n old.seen p.seen es t)
@@ -184,7 +191,7 @@ moved-tries : (pit : Pit) (max_entries : ℕ) (task : Job) (n : ℕ) (old : Tran
 moved-tries pit max_entries task n old p block version fresh sees meets = (
   [],
   grows-none old.planner p sees,
-  record { start = old.work.start; after = fresh.after; sees = sees.seen; moved = meets.1; read = meets.0; made = inr refl },
+  record { start = old.work.start; after = (let after = fresh.after in omega (arith, after)); sees = sees.seen; moved = meets.1; read = meets.0; made = inr refl },
 )
 
 pub ended-grows : (pit : Pit) (old new : PlannerState) (call : Call) (reply : EntryReply) → IsEnded pit old call reply new → Grows old (record { call = call; reply = reply } ∷ []) new
@@ -232,7 +239,7 @@ stopped-ends pit max_entries how old later p s why stopped same is =
 pub withdrawn-ends : (pit : Pit) (max_entries : ℕ) (w : Sets) (old p : PlannerState) → IsEnded pit old (work_call w act.Withdraw) reply.Withdrawn p
     → (es : List Answered) × Grows old es p × EndsBy pit max_entries act.Withdraw w p.seen es (tried.Answered reply.Withdrawn)
 withdrawn-ends pit max_entries w old p ended =
-    (record { call = work_call w act.Withdraw; reply = reply.Withdrawn } ∷ [], ended-grows pit old p (work_call w act.Withdraw) reply.Withdrawn ended, (refl, refl))
+    (record { call = work_call w act.Withdraw; reply = reply.Withdrawn } ∷ [], ended-grows pit old p (work_call w act.Withdraw) reply.Withdrawn ended, (refl, refl, stands-of pit (work_call w act.Withdraw) reply.Withdrawn old.seen p.seen ended.answer))
 
 -- and a commit
 pub answered-ends : (pit : Pit) (max_entries : ℕ) (w : Sets) (old p : PlannerState) (r : Reply) (t : Tried) → IsEnded pit old (work_call w act.Commit) (entry_reply r) p → t ≡ tried_of r
@@ -252,7 +259,7 @@ begun-tries pit max_entries task n old new p t sees (es, grows, tries) =
 pub fresh-of : (pit : Pit) (old : PlannerState) (n : ℕ) (t : TransactionState) → Begins pit old n t → IsFresh n t
 fresh-of pit old n t begins = record {
   job = ap (λ (w : Sets). w.job) begins.work;
-  after = let is = ap (λ (w : Sets). w.start) begins.work in omega arith;
+  after = ap (λ (w : Sets). w.start) begins.work;
   own = ap (λ (w : Sets). own_of w) begins.work;
   reads = ap (λ (w : Sets). w.reads) begins.work;
 }

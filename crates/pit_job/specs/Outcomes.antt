@@ -87,6 +87,11 @@ pub record IsItem (pit : Pit) (task : Job) (n : ℕ) (e : Answered) : Type 0 whe
   pub job : e.call.job ≡ n
   pub call : IsCallOf pit task e.call
 
+-- it is the last of a prefix of what was seen
+pub record StandsIn (seen : List Answered) (e : Answered) : Type 0 where
+  pub before : List Answered
+  pub begins : IsPrefix (before ++ e ∷ []) seen
+
 -- ---- tries that end by Moved
 
 -- of the commits of some prefix of what was seen, the last one that names the block has this number, which is past the start

@@ -2,7 +2,7 @@
 use Rattle.std.specs.Prelude.{◌≡◌, ℕ, ◌+◌, ◌≤◌, ◌⊎◌, false, List, [], ◌∷◌, ◌++◌, length}
 use mathlib.Core.List.{IsPrefix}
 use Rattle.pit_model.specs.Pit.{Pit}
-use Rattle.pit_desk.specs.History.{Answered}
+use Rattle.pit_desk.specs.History.{Answered, commits_of}
 use Rattle.pit_desk.specs.declared.reply.Refusal.TheVariants as refusal
 use Rattle.pit_desk.specs.declared.reply.EntryReply.{EntryReply}
 use Rattle.pit_desk.specs.declared.reply.EntryReply.TheVariants as reply
@@ -12,7 +12,7 @@ use Rattle.pit_job.specs.declared.outcome.Outcome.TheVariants as outcome
 use Rattle.pit_job.specs.declared.outcome.RunEnd.{RunEnd}
 use Rattle.pit_job.specs.declared.outcome.RunEnd.TheVariants as end
 use Rattle.pit_script.specs.declared.step.Step.{Step}
-use Rattle.pit_job.specs.Outcomes.{IsItem, IsMovedTry, IsRead, Repeats, is_moved_reply}
+use Rattle.pit_job.specs.Outcomes.{IsItem, StandsIn, IsMovedTry, IsRead, Repeats, is_moved_reply}
 
 abbrev pub reply_of : Outcome → EntryReply
 reply_of (outcome.Committed number tries) = reply.Committed number
@@ -24,7 +24,8 @@ tries_of (outcome.Committed number tries) = tries
 tries_of (outcome.Withdrawn tries) = tries
 tries_of (outcome.Refused why tries) = tries
 
--- some tries ended by Moved, and the next one made an entry with another reply, which is the outcome's
+-- Some tries ended by Moved, and the next one made an entry with another reply, which is the outcome's, and which is then seen. It began behind all
+-- that had been seen before, and not behind more than is seen then.
 pub record Settled (pit : Pit) (task : Job) (retries n : ℕ) (old new es : List Answered) (o : Outcome) : Type 0 where
   pub before : ℕ
   pub mid : List Answered
@@ -34,6 +35,9 @@ pub record Settled (pit : Pit) (task : Job) (retries n : ℕ) (old new es : List
   pub repeats : Repeats pit task n before old mid repeated
   pub sees : IsPrefix mid new
   pub item : IsItem pit task n last
+  pub after : length (commits_of mid) ≤ last.call.start
+  pub before_more : last.call.start ≤ length (commits_of new)
+  pub stands : StandsIn new last
   pub answer : last.reply ≡ reply_of o
   pub other : is_moved_reply last.reply ≡ false
   pub tries : tries_of o ≡ before + 1

@@ -72,10 +72,10 @@ pub record StopsAt (IsOne : ℕ → Type 0) (old : TransactionState) (why : Step
 abbrev pub StepStopsAt : Pit → TransactionState → Step → StepStop → TransactionState → Type 0
 StepStopsAt pit old s why new = StopsAt (IsReadOver pit (read_in new.work.reads) (own_of old.work) s) old why new
 
--- a transaction that has begun for a job, no earlier than after the commits that its planner has seen, and done nothing
+-- a transaction that has begun for a job, after the commits that its planner has seen, and done nothing
 pub record IsFresh (n : ℕ) (t : TransactionState) : Type 0 where
   pub job : t.work.job ≡ n
-  pub after : length (commits_of t.planner.seen) ≤ t.work.start
+  pub after : t.work.start ≡ length (commits_of t.planner.seen)
   pub own : own_of t.work ≡ record { writes = []; revises = [] }
   pub reads : t.work.reads ≡ []
 

@@ -2,7 +2,7 @@
 use Rattle.std.specs.Prelude.{◌≡◌, ℕ, ◌≤◌, false, List, [], ◌∷◌, length, Option, Contains, ⊤}
 use Rattle.pit_model.specs.Pit.{Pit}
 use Rattle.pit_tx.specs.Sets.{Sets}
-use Rattle.pit_desk.specs.History.{Answered}
+use Rattle.pit_desk.specs.History.{Answered, commits_of}
 use Rattle.pit_desk.specs.Calls.{work_call}
 use Rattle.pit_desk.specs.declared.entry.Act.{Act}
 use Rattle.pit_desk.specs.declared.error.Stop.{Stop}
@@ -23,7 +23,7 @@ use Rattle.pit_job.specs.declared.outcome.Tried.{Tried}
 use Rattle.pit_job.specs.declared.outcome.Tried.TheVariants as tried
 use Rattle.pit_job.specs.declared.outcome.Outcome.{Outcome}
 use Rattle.pit_job.specs.declared.outcome.Outcome.TheVariants as outcome
-use Rattle.pit_job.specs.Outcomes.{is_moved_reply, IsItem, IsMovedBlock, IsMovedTry, IsRead}
+use Rattle.pit_job.specs.Outcomes.{is_moved_reply, IsItem, StandsIn, IsMovedBlock, IsMovedTry, IsRead}
 
 abbrev pub outcome_of : EntryReply → ℕ → Outcome
 outcome_of (reply.Committed number) tries = outcome.Committed number tries
@@ -53,6 +53,7 @@ abbrev pub Tries : Pit → ℕ → Job → ℕ → List Answered → List Answer
 Tries pit max_entries task n old new es (tried.Moved block version) = IsMovedTry pit task n old new es block version
 Tries pit max_entries task n old new es (tried.Answered answer) =
     (e : Answered) × (es ≡ e ∷ []) × IsItem pit task n e × (e.reply ≡ answer) × (is_moved_reply answer ≡ false)
+    × (length (commits_of old) ≤ e.call.start) × (e.call.start ≤ length (commits_of new)) × StandsIn new e
 Tries pit max_entries task n old new es (tried.Stopped why) = (es ≡ []) × IsStop pit max_entries task.steps new why
 
 -- what the ending of a transaction with this work adds to the log
@@ -62,6 +63,7 @@ EndsBy pit max_entries ending work seen es (tried.Moved block version) =
     × ((read : ℕ × Option ℕ) × Contains work.reads read × (read.0 ≡ block))
 EndsBy pit max_entries ending work seen es (tried.Answered answer) =
     (es ≡ record { call = work_call work ending; reply = answer } ∷ []) × (is_moved_reply answer ≡ false)
+    × StandsIn seen (record { call = work_call work ending; reply = answer })
 EndsBy pit max_entries ending work seen es (tried.Stopped why) = (es ≡ []) × IsStop pit max_entries [] seen why
 
 abbrev pub tried_refused : Refusal → Tried
