@@ -98,7 +98,7 @@ get-front [] ys k x less at = absurd (omega (arith, less))
 get-front (y ∷ xs) ys zero x less at = at
 get-front (y ∷ xs) ys (suc k) x less at = get-front xs ys k x (omega (arith, less)) at
 
-all-at : {X : Type 0} (P : X → Type 0) (xs : List X) (i : ℕ) (x : X) → All P xs → slice_get xs i ≡ Some x → P x
+pub all-at : {X : Type 0} (P : X → Type 0) (xs : List X) (i : ℕ) (x : X) → All P xs → slice_get xs i ≡ Some x → P x
 all-at P xs i x all at = subst P (get_or_from_slice_get xs i x x at) (all i x (slice_get_within xs i x at))
 
 pub get-back : {X : Type 0} (xs ys : List X) (i : ℕ) (x : X) → length xs ≤ i → slice_get (xs ++ ys) i ≡ Some x → (m : ℕ) × (i ≡ length xs + m) × (slice_get ys m ≡ Some x)

@@ -1,11 +1,10 @@
 //! Laws of runs.
-ghost use Rattle.std.specs.Prelude.{◌≡◌, ℕ, ◌+◌, ◌<◌, ◌≤◌, ℤ, List, slice_get, Some, length, drop, Contains};
+ghost use Rattle.std.specs.Prelude.{◌≡◌, ℕ, ◌+◌, ◌<◌, ◌≤◌, ℤ, List, slice_get, Some, length, drop, All};
 ghost use Rattle.pit_model.specs.Pit.{Pit};
 ghost use Rattle.pit_plan.specs.Schedule.{held_period, value_of};
 ghost use Rattle.pit_desk.specs.History.{Answered, commits_of};
 ghost use Rattle.pit_desk.specs.State.{State};
 ghost use Rattle.pit_desk.specs.OneThread.{IsOfOneThread};
-ghost use Rattle.pit_desk.specs.declared.reply.EntryReply.TheVariants.{Refused as refused};
 ghost use Rattle.pit_desk.specs.declared.reply.Refusal.TheVariants.{Moved};
 ghost use Rattle.pit_script.specs.Jobs.{Job};
 ghost use Rattle.pit_share.specs.Logs.{entries_of};
@@ -13,8 +12,8 @@ ghost use Rattle.pit_job.specs.JobByJob.{IsWriter};
 ghost use Rattle.pit_job.specs.declared.outcome.Outcome.TheVariants.{Refused};
 ghost use Rattle.pit_job.specs.declared.outcome.RunEnd.TheVariants.{Full};
 ghost use Rattle.pit_run.specs.Reports.{RunState, IsReport, RanScript};
-ghost use Rattle.pit_run.specs.Turns.{IsInTurn, HadTurns};
-ghost use Rattle.pit_run.specs.Laws.{IsOneByOne, IsOwnWriter};
+ghost use Rattle.pit_run.specs.Turns.{IsInTurn, HadTurns, after_turns};
+ghost use Rattle.pit_run.specs.Laws.{IsOneByOne, IsOwnTurn, TookTurns, IsServed};
 
 /// A law of reports: the run of each planner is that of its own script and of its own entries past the opening ones. An end since the history is full
 /// comes only where it is. An outcome Moved names a commit of the history past the opening, which writes the block.
@@ -46,15 +45,19 @@ pub fn in_turn()
         → e.call.planner ≤ f.call.planner }
 {}
 
-/// A law of turns: no planner meets a commit of another one. Where planners took turns on a history of one thread, an entry that was refused as Moved, and
-/// an outcome Moved, name a commit of the same planner's turn, which writes the block.
+/// A law of turns: no job meets a commit. Where planners took turns on a history of one thread, each entry began after just the commits before it. So
+/// none was refused as Moved, nor was a job, and each job had one try.
 pub fn own_turn()
-    ensures entries { (pit : Pit) (value : ℤ) (opening history : List Answered) (max_entries retries : ℕ) (scripts : List (List Job)) (runs : List RunState)
+    ensures { (pit : Pit) (value : ℤ) (opening history : List Answered) (max_entries retries : ℕ) (scripts : List (List Job)) (runs : List RunState)
         → IsOfOneThread pit history value → IsInTurn (length scripts) opening history → HadTurns pit max_entries retries opening history scripts runs
-        → (p block version : ℕ) (e : Answered) → p < length scripts → Contains (entries_of (1 + p) (drop (length opening) history)) e
-        → e.reply ≡ refused (Moved block version) → IsOwnWriter (entries_of (1 + p) (drop (length opening) history)) version block }
-    ensures outcomes { (pit : Pit) (value : ℤ) (opening history : List Answered) (max_entries retries : ℕ) (scripts : List (List Job)) (runs : List RunState)
-        → IsOfOneThread pit history value → IsInTurn (length scripts) opening history → HadTurns pit max_entries retries opening history scripts runs
-        → (p j block version tries : ℕ) (run : RunState) → slice_get runs p ≡ Some run → slice_get run.jobs j ≡ Some (Refused (Moved block version) tries)
-        → IsOwnWriter (entries_of (1 + p) (drop (length opening) history)) version block }
+        → (p : ℕ) (run : RunState) → slice_get runs p ≡ Some run
+        → IsOwnTurn (after_turns p opening history) (entries_of (1 + p) (drop (length opening) history)) run.jobs }
+{}
+
+/// A law of turns: the same scripts end alike. Two runs in turn behind the same history, in which no planner stopped for want of memory or of a place at
+/// the board, have the same outcomes and ends, and the same commits.
+pub fn same_ends()
+    ensures { (pit : Pit) (opening : List Answered) (max_entries retries : ℕ) (scripts : List (List Job)) (history other : List Answered) (runs others : List RunState) (value worth : ℤ)
+        → TookTurns pit opening max_entries retries scripts history runs value → TookTurns pit opening max_entries retries scripts other others worth
+        → All (λ run. IsServed run.ended) runs → All (λ run. IsServed run.ended) others → (runs ≡ others) × (commits_of history ≡ commits_of other) }
 {}
