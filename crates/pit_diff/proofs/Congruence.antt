@@ -7,9 +7,9 @@ use Rattle.std.proofs.lemmas.List.Concat.{flat_map-append}
 use Rattle.std.proofs.lemmas.List.Folds.{flat_map-map}
 use Rattle.pit_model.specs.Pit.{Pit}
 use Rattle.pit_plan.specs.Schedule.{Commit, held_period, limit_of, value_of}
-use Rattle.pit_plan.specs.Standing.{Standing, IsPlanOf, period_of, limit_in_force}
+use Rattle.pit_plan.specs.Standing.{Standing, IsPlanOf, period_of}
 use Rattle.pit_diff.specs.Changes.{change_at, changes_of, goes, moved, move_of, periods_and_none, moves_from, moves_by, moves_of}
-use Rattle.pit_diff.specs.DiffText.{changes_text, moves_text, by_cell, limit_change, limits_text, loads_text, value_change, diff_text}
+use Rattle.pit_diff.specs.DiffText.{changes_text, moves_text, limits_text, loads_text, value_change, diff_text}
 use Rattle.pit_diff.specs.Inside.Table.{table_number, IsPeriodOrNone, IsTableOf}
 use Rattle.pit_diff.proofs.Ranges.{flat_map-below}
 use Rattle.pit_diff.proofs.Counting.{moved-none, moved-more}
@@ -53,21 +53,13 @@ moves-same periods f g same =
     periods_and_none-same (moves_from periods f) (moves_from periods g) periods
     (λ from is. periods_and_none-same (λ to. move_of from to (f from to)) (λ to. move_of from to (g from to)) periods (λ to also. ap (move_of from to) (same from to is also)))
 
--- ---- of each resource in each period
-
-pub cells-same : (pit : Pit) (f g : ℕ → ℕ → List ℕ) → ((r t : ℕ) → r < pit.resources → t < pit.periods → f r t ≡ g r t) → by_cell pit f ≡ by_cell pit g
-unfolding by_cell
-cells-same pit f g same =
-    flat_map-below (λ (t : ℕ). flat_map (λ (r : ℕ). f r t) (range_with_len 0 pit.resources)) (λ (t : ℕ). flat_map (λ (r : ℕ). g r t) (range_with_len 0 pit.resources)) pit.periods
-    (λ t in_time. flat_map-below (λ (r : ℕ). f r t) (λ (r : ℕ). g r t) pit.resources (λ r known. same r t known in_time))
-
 -- ---- the text of two plans is that of the commits they stand for
 
 pub text-of-plans : (old new : Standing) (before after : List Commit) (counts : List ℕ) (value worth : ℤ) → new.pit ≡ old.pit → IsPlanOf old before → IsPlanOf new after
     → IsTableOf old.pit.periods counts (moved old.pit.blocks (period_of old) (period_of new)) → value ≡ value_of old.pit (held_period before) → worth ≡ value_of new.pit (held_period after)
     → changes_text (changes_of old.pit.blocks (period_of old) (period_of new))
     ++ (moves_text (moves_by old.pit.periods (table_number old.pit.periods counts))
-    ++ (limits_text old.pit (limit_in_force old) (limit_in_force new)
+    ++ (limits_text old.pit (limit_of old.pit before) (limit_of old.pit after)
     ++ (loads_text old.pit (held_period before) (held_period after)
     ++ value_change value worth)))
     ≡ diff_text old.pit before after
@@ -75,8 +67,6 @@ unfolding diff_text
 text-of-plans old new before after counts value worth same stands also right value_is worth_is =
     let pit = old.pit in
     let blocks : new.pit.blocks ≡ pit.blocks = ap (λ (p : Pit). p.blocks) same in
-    let periods : new.pit.periods ≡ pit.periods = ap (λ (p : Pit). p.periods) same in
-    let resources : new.pit.resources ≡ pit.resources = ap (λ (p : Pit). p.resources) same in
     let is : (b : ℕ) → b < pit.blocks → period_of old b ≡ held_period before b = stands.period in
     let is_new : (b : ℕ) → b < pit.blocks → period_of new b ≡ held_period after b = λ b below. also.period b (omega (arith, below, blocks)) in
     let changes : changes_of pit.blocks (period_of old) (period_of new) ≡ changes_of pit.blocks (held_period before) (held_period after) =
@@ -84,10 +74,5 @@ text-of-plans old new before after counts value worth same stands also right val
     let moves : moves_by pit.periods (table_number pit.periods counts) ≡ moves_of pit.blocks pit.periods (held_period before) (held_period after) =
     moves-same pit.periods (table_number pit.periods counts) (moved pit.blocks (held_period before) (held_period after))
     (λ from to lf lt. right from to lf lt ∙ moved-same (period_of old) (period_of new) (held_period before) (held_period after) pit.blocks from to is is_new) in
-    let limits : limits_text pit (limit_in_force old) (limit_in_force new) ≡ limits_text pit (limit_of pit before) (limit_of pit after) =
-    cells-same pit (λ r t. limit_change r t (limit_in_force old r t) (limit_in_force new r t)) (λ r t. limit_change r t (limit_of pit before r t) (limit_of pit after r t))
-    (λ r t known in_time.
-    ap (λ (l : Option ℤ). limit_change r t l (limit_in_force new r t)) (stands.limit r t known in_time)
-    ∙ ap (limit_change r t (limit_of pit before r t)) (also.limit r t (omega (arith, known, resources)) (omega (arith, in_time, periods)) ∙ ap (λ (p : Pit). limit_of p after r t) same)) in
     let worth_too : worth ≡ value_of pit (held_period after) = worth_is ∙ ap (λ (p : Pit). value_of p (held_period after)) same in
-    rw (changes, moves, limits, value_is, worth_too) refl
+    rw (changes, moves, value_is, worth_too) refl

@@ -1,5 +1,5 @@
 -- Texts that are written piece by piece.
-use Rattle.std.proofs.Common.{◌≡◌, ℕ, ℤ, ◌+◌, List, [], ◌∷◌, ◌++◌, map, Option, Some, None, Result, Ok, Err, IsOk, OnOk, refl, sym, ap, subst, ◌∙◌}
+use Rattle.std.proofs.Common.{◌≡◌, ℕ, ◌+◌, List, [], ◌∷◌, ◌++◌, map, Option, Some, None, Result, Ok, Err, IsOk, OnOk, refl, sym, ap, subst, ◌∙◌}
 use Rattle.std.specs.Prelude.{flat_map}
 use Rattle.std.specs.List.{range_with_len}
 use Rattle.std.specs.Io.KnownBytes.{Appends}
@@ -24,9 +24,9 @@ pub given-ok : {X Y P : Type 0} (result : Result X Y) → IsOk result → OnOk r
 given-ok (Ok x) is p = p
 given-ok (Err e) is p = absurd (false≢true is)
 
--- two numbers that are the same
-pub both_same : (P : ℤ → ℤ → Type 0) {x y u v : ℤ} → x ≡ y → u ≡ v → P x u → P y v
-both_same P {x} {y} {u} {v} same also is = subst (λ (z : ℤ). P z v) same (subst (P x) also is)
+-- two values that are the same
+pub both_same : {X : Type 0} (P : X → X → Type 0) {x y u v : X} → x ≡ y → u ≡ v → P x u → P y v
+both_same {X} P {x} {y} {u} {v} same also is = subst (λ (z : X). P z v) same (subst (P x) also is)
 
 -- ---- blocks
 

@@ -2,51 +2,63 @@
 ghost use Rattle.std.specs.Prelude.{◌≡◌, ◌<◌, List, OnOk, flat_map};
 ghost use Rattle.std.specs.List.{range_with_len};
 ghost use Rattle.std.specs.Io.KnownBytes.{Appends};
-ghost use Rattle.pit_plan.specs.Schedule.{Commit, held_period, load_of};
-ghost use Rattle.pit_plan.specs.Standing.{IsPlanOf, limit_in_force};
-ghost use Rattle.pit_diff.specs.DiffText.{limit_line, limit_change, limits_text, load_line, load_change, loads_text};
+ghost use Rattle.pit_plan.specs.Schedule.{Commit};
+ghost use Rattle.pit_plan.specs.Standing.{IsPlanOf};
+ghost use Rattle.pit_diff.specs.DiffText.{by_cell, limit_line, limit_change, load_line, load_change};
+ghost use Rattle.pit_diff.specs.Inside.Cells.{cell_change};
 
 use pit_num::{Sink, WriteFault, write_text};
 use pit_plan::Plan;
 use pit_step::{write_amount, write_field, write_limit};
 use std::alloc::Allocator;
 
-/// A line for each limit in force that differs.
-pub(crate) fn write_limits<W: Sink, A: Allocator + Copy + Drop>(
+/// What may differ of a resource in a period: its limit in force, or its load.
+#[derive(Clone, Copy)]
+pub(crate) enum Quantity {
+    Limit,
+    Load,
+}
+
+/// A line for each that differs.
+pub(crate) fn write_cells<W: Sink, A: Allocator + Copy + Drop>(
     w: &mut W,
+    quantity: Quantity,
     old: &Plan<A>,
     new: &Plan<A>,
 ) -> Result<(), WriteFault>
     requires { new.now.pit ≡ old.now.pit }
-    ensures { OnOk result (Appends (W.contents w.old) (W.contents w.new) (limits_text old.now.pit (limit_in_force old.now) (limit_in_force new.now))) }
+    ensures { OnOk result ((before after : List Commit) → IsPlanOf old.now before → IsPlanOf new.now after
+        → Appends (W.contents w.old) (W.contents w.new) (by_cell old.now.pit (cell_change quantity old.now.pit before after))) }
 {
     for t in 0..old.instance().periods() {
-        write_limits_in(w, old, new, t)?;
+        write_cells_in(w, quantity, old, new, t)?;
     }
     Ok(())
 }
 
 /// Those of a period.
-fn write_limits_in<W: Sink, A: Allocator + Copy + Drop>(
+fn write_cells_in<W: Sink, A: Allocator + Copy + Drop>(
     w: &mut W,
+    quantity: Quantity,
     old: &Plan<A>,
     new: &Plan<A>,
     t: u32,
 ) -> Result<(), WriteFault>
     requires same { new.now.pit ≡ old.now.pit }
     requires period { t < old.now.pit.periods }
-    ensures { OnOk result (Appends (W.contents w.old) (W.contents w.new)
-        (flat_map (λ r. limit_change r t (limit_in_force old.now r t) (limit_in_force new.now r t)) (range_with_len 0 old.now.pit.resources))) }
+    ensures { OnOk result ((before after : List Commit) → IsPlanOf old.now before → IsPlanOf new.now after
+        → Appends (W.contents w.old) (W.contents w.new) (flat_map (λ r. cell_change quantity old.now.pit before after r t) (range_with_len 0 old.now.pit.resources))) }
 {
     for r in 0..old.instance().resources() {
-        write_limit_at(w, old, new, r, t)?;
+        write_cell(w, quantity, old, new, r, t)?;
     }
     Ok(())
 }
 
 /// That of a resource in a period.
-fn write_limit_at<W: Sink, A: Allocator + Copy + Drop>(
+fn write_cell<W: Sink, A: Allocator + Copy + Drop>(
     w: &mut W,
+    quantity: Quantity,
     old: &Plan<A>,
     new: &Plan<A>,
     r: u32,
@@ -55,9 +67,13 @@ fn write_limit_at<W: Sink, A: Allocator + Copy + Drop>(
     requires same { new.now.pit ≡ old.now.pit }
     requires resource { r < old.now.pit.resources }
     requires period { t < old.now.pit.periods }
-    ensures { OnOk result (Appends (W.contents w.old) (W.contents w.new) (limit_change r t (limit_in_force old.now r t) (limit_in_force new.now r t))) }
+    ensures { OnOk result ((before after : List Commit) → IsPlanOf old.now before → IsPlanOf new.now after
+        → Appends (W.contents w.old) (W.contents w.new) (cell_change quantity old.now.pit before after r t)) }
 {
-    write_limit_change(w, r, t, old.limit(r, t), new.limit(r, t))
+    match quantity {
+        Quantity::Limit => write_limit_change(w, r, t, old.limit(r, t), new.limit(r, t)),
+        Quantity::Load => write_load_change(w, r, t, old.load(r, t), new.load(r, t)),
+    }
 }
 
 /// The line of a limit, where it differs.
@@ -92,58 +108,6 @@ fn write_limit_line<W: Sink>(
     write_field(w, u64::from(t), b" ")?;
     write_limit(w, old, b" ")?;
     write_limit(w, new, b"\n")
-}
-
-/// A line for each load that differs.
-pub(crate) fn write_loads<W: Sink, A: Allocator + Copy + Drop>(
-    w: &mut W,
-    old: &Plan<A>,
-    new: &Plan<A>,
-) -> Result<(), WriteFault>
-    requires { new.now.pit ≡ old.now.pit }
-    ensures { OnOk result ((before after : List Commit) → IsPlanOf old.now before → IsPlanOf new.now after
-        → Appends (W.contents w.old) (W.contents w.new) (loads_text old.now.pit (held_period before) (held_period after))) }
-{
-    for t in 0..old.instance().periods() {
-        write_loads_in(w, old, new, t)?;
-    }
-    Ok(())
-}
-
-/// Those of a period.
-fn write_loads_in<W: Sink, A: Allocator + Copy + Drop>(
-    w: &mut W,
-    old: &Plan<A>,
-    new: &Plan<A>,
-    t: u32,
-) -> Result<(), WriteFault>
-    requires same { new.now.pit ≡ old.now.pit }
-    requires period { t < old.now.pit.periods }
-    ensures { OnOk result ((before after : List Commit) → IsPlanOf old.now before → IsPlanOf new.now after
-        → Appends (W.contents w.old) (W.contents w.new)
-        (flat_map (λ r. load_change r t (load_of old.now.pit (held_period before) r t) (load_of old.now.pit (held_period after) r t)) (range_with_len 0 old.now.pit.resources))) }
-{
-    for r in 0..old.instance().resources() {
-        write_load_at(w, old, new, r, t)?;
-    }
-    Ok(())
-}
-
-/// That of a resource in a period.
-fn write_load_at<W: Sink, A: Allocator + Copy + Drop>(
-    w: &mut W,
-    old: &Plan<A>,
-    new: &Plan<A>,
-    r: u32,
-    t: u32,
-) -> Result<(), WriteFault>
-    requires same { new.now.pit ≡ old.now.pit }
-    requires resource { r < old.now.pit.resources }
-    requires period { t < old.now.pit.periods }
-    ensures { OnOk result ((before after : List Commit) → IsPlanOf old.now before → IsPlanOf new.now after
-        → Appends (W.contents w.old) (W.contents w.new) (load_change r t (load_of old.now.pit (held_period before) r t) (load_of old.now.pit (held_period after) r t))) }
-{
-    write_load_change(w, r, t, old.load(r, t), new.load(r, t))
 }
 
 /// The line of a load, where it differs.

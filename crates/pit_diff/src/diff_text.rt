@@ -8,7 +8,7 @@ ghost use Rattle.pit_diff.specs.Inside.Table.{IsTableOf};
 ghost use Rattle.pit_diff.specs.DiffText.{value_line, value_change, diff_text, diff_status as status_by};
 
 use crate::blocks::write_changes;
-use crate::cells::{write_limits, write_loads};
+use crate::cells::{Quantity, write_cells};
 use crate::counts::counts_of;
 use crate::moves::write_moves;
 use pit_num::{NoMemory, Sink, WriteFault, write_text};
@@ -48,8 +48,8 @@ fn write_diff<W: Sink, A: Allocator + Copy + Drop>(
     old.instance().shows_sound();
     write_changes(w, old, new)?;
     write_moves(w, old.instance().periods(), counts)?;
-    write_limits(w, old, new)?;
-    write_loads(w, old, new)?;
+    write_cells(w, Quantity::Limit, old, new)?;
+    write_cells(w, Quantity::Load, old, new)?;
     write_value_change(w, old.value(), new.value())
 }
 
