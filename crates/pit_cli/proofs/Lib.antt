@@ -8,3 +8,4 @@ pub mod Closed
 pub mod ShownRun
 pub mod ReportLines
 pub mod OpenDesk
+pub mod InTurn

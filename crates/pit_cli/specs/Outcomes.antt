@@ -1,5 +1,5 @@
 -- What the texts of a plan decide alone, and what its answer says.
-use Rattle.std.specs.Prelude.{◌≡◌, ◌⊎◌, ℕ, ◌+◌, true, false, List, length, drop, slice_get, Option, Some, Result, Ok, Err, ⊤}
+use Rattle.std.specs.Prelude.{◌≡◌, ◌⊎◌, ℕ, ◌+◌, Bool, true, false, List, length, drop, slice_get, Option, Some, Result, Ok, Err, All, ⊤}
 use Rattle.std.specs.Io.KnownBytes.{Appends}
 use Rattle.pit_plan.specs.Schedule.{held_period, value_of}
 use Rattle.pit_desk.specs.History.{commits_of}
@@ -9,7 +9,7 @@ use Rattle.pit_desk.specs.declared.entry.TheConstants.{ENTRIES_MAX}
 use Rattle.pit_script.specs.Jobs.{Job}
 use Rattle.pit_share.specs.GoingOn.{GoesOn}
 use Rattle.pit_share.specs.Logs.{entries_of}
-use Rattle.pit_run.specs.Laws.{IsOneByOne}
+use Rattle.pit_run.specs.Laws.{IsOneByOne, IsServed}
 use Rattle.pit_run.specs.Reports.{RunState, RanScript}
 use Rattle.pit_run.specs.Turns.{IsInTurn, HadTurns}
 use Rattle.pit_step.specs.Devices.{Writing}
@@ -76,3 +76,15 @@ pub record IsOneHistory (texts : Texts) (options : PlanOptions) (closed : State)
 pub record IsOfOneHistory (texts : Texts) (options : PlanOptions) (out lines : Writing) (kept : Option Keeping) (result : Result Status CliFault) : Type 0 where
   pub written : IsWritten texts options out lines kept result
   pub one_history : IsOneHistory texts options written.ran.0 written.ran.1
+
+-- they were written of planners in turn, none of whom stopped for want of memory or of a place at the board
+pub record AreTurnsWritten (texts : Texts) (options : PlanOptions) (out lines : Writing) (kept : Option Keeping) (result : Result Status CliFault) : Type 0 where
+  pub written : IsWritten texts options out lines kept result
+  pub in_turn : options.is_in_turn ≡ true
+  pub served : All (λ run. IsServed run.ended) written.ran.1
+
+-- the same is written of two runs, but for what the history says of the order in which blocks were noted, and they end alike
+pub record AreWrittenAlike (is_new : Bool) (ran other : Ran) (result again : Result Status CliFault) : Type 0 where
+  pub solution : (outputs_of is_new ran).solution ≡ (outputs_of is_new other).solution
+  pub report : (outputs_of is_new ran).report ≡ (outputs_of is_new other).report
+  pub ended : result ≡ again

@@ -19,7 +19,7 @@ mod texts;
 
 pub use engine::plan;
 pub use laws::one_solution;
-pub use outcome::{one_closed_history, one_outcome};
+pub use outcome::{one_closed_history, one_outcome, same_in_turn};
 pub use pit_all::check_all;
 pub use pit_diff::diff;
 pub use pit_file::{HistoryOut, Stream};

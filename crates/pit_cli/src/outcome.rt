@@ -6,7 +6,8 @@ ghost use Rattle.pit_cli.specs.declared.plan_options.PlanOptions.{PlanOptions};
 ghost use Rattle.pit_cli.specs.Texts.{Texts};
 ghost use Rattle.pit_output.specs.Outputs.{Keeping, IsUnwritten, HasFailed};
 ghost use Rattle.pit_cli.specs.Output.{plan_run};
-ghost use Rattle.pit_cli.specs.Outcomes.{MayRun, AreRefused, IsDecisive, IsWritten, IsOfOneHistory};
+ghost use Rattle.pit_opening.specs.Beginnings.{is_unbegun};
+ghost use Rattle.pit_cli.specs.Outcomes.{MayRun, AreRefused, IsDecisive, IsWritten, IsOfOneHistory, AreTurnsWritten, AreWrittenAlike};
 
 use pit_opening::{one_beginning, one_opening};
 use pit_step::{CliFault, Status};
@@ -54,3 +55,15 @@ pub fn one_closed_history()
     ensures stopped { (texts : Texts) (options : PlanOptions) (out lines : Writing) (kept : Option Keeping)
         → (plan_run texts options out lines kept).Fails tt CliFault.Stopped → IsOfOneHistory texts options out lines kept (Err CliFault.Stopped) }
 {}
+
+/// A law of plans in turn: the same texts end alike. Of two that had what they asked for, with the same retries and as strict, the solution and the report
+/// are the same, and so is how they end, whatever their keys.
+pub fn same_in_turn()
+    ensures { (texts : Texts) (options again : PlanOptions) (out lines other_out other_lines : Writing) (kept other_kept : Option Keeping) (result other : Result Status CliFault)
+        → again.retries ≡ options.retries → again.is_strict ≡ options.is_strict
+        → (one : AreTurnsWritten texts options out lines kept result) → (two : AreTurnsWritten texts again other_out other_lines other_kept other)
+        → AreWrittenAlike (is_unbegun texts.beginning) one.written.ran two.written.ran result other }
+{
+    one_beginning();
+    one_opening();
+}
