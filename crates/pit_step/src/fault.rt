@@ -3,6 +3,7 @@ ghost use Rattle.std.specs.Prelude.{◌≡◌, ◌≤◌};
 use super::breach_line::BreachLine;
 use super::input::Input;
 use pit_lines::LinesError;
+use pit_num::NoMemory;
 use pit_script::ScriptError;
 use pit_text::TextError;
 use thiserror::Error;
@@ -74,6 +75,16 @@ pub enum CliFault {
     /// Some planner did not do all of its script, as the report says.
     #[error("")]
     Stopped,
+}
+
+impl From<NoMemory> for CliFault {
+    ghost use Rattle.pit_step.specs.declared.fault.CliFault.TheVariants.{NoMemory as WantsMemory};
+
+    ghost from_gives = { λ _ fault. fault ≡ WantsMemory };
+
+    fn from(_error: NoMemory) -> CliFault {
+        CliFault::NoMemory
+    }
 }
 
 impl CliFault {

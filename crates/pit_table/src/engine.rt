@@ -1,18 +1,18 @@
-ghost use Rattle.std.specs.Prelude.{◌≡◌, List, IfOk, MatchResult};
-ghost use Rattle.pit_plan.specs.Schedule.{Commit, held_period, limit_of};
+ghost use Rattle.std.specs.Prelude.{◌≡◌, List, MatchResult};
+ghost use Rattle.pit_plan.specs.Schedule.{Commit};
 ghost use Rattle.pit_plan.specs.Standing.{IsPlanOf};
 ghost use Rattle.pit_step.specs.declared.status.Status.TheVariants.{Fine};
 ghost use Rattle.pit_step.specs.Steps.{IsResultOf};
 ghost use Rattle.pit_step.specs.Devices.{reading_of, writing_of};
 ghost use Rattle.pit_state.specs.Views.{view_step};
-ghost use Rattle.pit_table.specs.CsvText.{table_text, table_answer};
+ghost use Rattle.pit_table.specs.CsvText.{table_answer};
 ghost use Rattle.pit_table.specs.Table.{table_run};
 ghost use Rattle.pit_table.specs.Inside.OfCommits.{IsOfCommits};
 
 use crate::csv_text::write_table;
 use crate::mined::by_period;
 use pit_model::Instance;
-use pit_num::{NoMemory, Sink, Source};
+use pit_num::{Sink, Source};
 use pit_plan::Plan;
 use pit_state::read_state;
 use pit_step::{CliFault, Input, Status, empty_text, gathered, read_pit, write_answer};
@@ -55,34 +55,20 @@ fn read_table<A: Allocator + Copy + Drop, S: Source>(
         ((view_step table_answer Input.Schedule read).Fails pit) }
 {
     match read_state(alloc, json, schedule, Input::Schedule, pit) {
-        Ok(plan) => table_of(alloc, plan),
+        Ok(plan) => table_of(alloc, &plan),
         Err(fault) => Err(fault),
     }
 }
 
-/// The text of the table of a plan, which is freed.
-fn table_of<A: Allocator + Copy + Drop>(alloc: A, plan: Plan<A>) -> Result<Vec<u8, A>, CliFault>
-    requires { IsOfCommits plan }
-    ensures { MatchResult result
-        (λ text. (commits : List Commit) → IsPlanOf plan commits → (text.items, Fine) ≡ table_answer plan.pit commits)
-        (λ fault. fault ≡ CliFault.NoMemory) }
-{
-    let text = text_of(alloc, &plan);
-    drop(plan);
-    match text {
-        Ok(text) => Ok(text),
-        Err(_) => Err(CliFault::NoMemory),
-    }
-}
-
 /// The text of the table of a plan.
-fn text_of<A: Allocator + Copy + Drop>(alloc: A, plan: &Plan<A>) -> Result<Vec<u8, A>, NoMemory>
+fn table_of<A: Allocator + Copy + Drop>(alloc: A, plan: &Plan<A>) -> Result<Vec<u8, A>, CliFault>
     requires { IsOfCommits plan.now }
-    ensures { IfOk result (λ text. (commits : List Commit) → IsPlanOf plan.now commits
-        → text.items ≡ table_text plan.now.pit (held_period commits) (limit_of plan.now.pit commits)) }
+    ensures { MatchResult result
+        (λ text. (commits : List Commit) → IsPlanOf plan.now commits → (text.items, Fine) ≡ table_answer plan.now.pit commits)
+        (λ fault. fault ≡ CliFault.NoMemory) }
 {
     let mined = by_period(alloc, plan)?;
     let mut text = empty_text(alloc);
     let written = write_table(&mut text, plan, &mined);
-    gathered(text, written)
+    Ok(gathered(text, written)?)
 }
