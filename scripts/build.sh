@@ -3,19 +3,15 @@
 # usage: scripts/build.sh, at the top of the repository. LANES=N in the environment: at most N crates at once.
 set -euo pipefail
 
-# What a crate of crates.txt uses.
-declare -A uses
+# What a crate of crates.txt uses, and the repository's crates that it stands on, lowest first: a crate stands behind those that it uses.
+declare -A uses under
 while IFS=: read -r crate names; do
     uses[$crate]=$names
+    under[$crate]=$(for it in $names; do printf '%s\n' ${under[$it]-} ${under[$it]+"$it"}; done | awk 'NF && !seen[$0]++')
 done < <(sed -n 's/#.*//; /^[a-z]/p' crates.txt)
 
 # below CRATE: the repository's crates that it stands on, lowest first.
-below() {
-    local it
-    for it in ${uses[$1]}; do
-        [[ ! -v uses[$it] ]] || { below "$it"; echo "$it"; }
-    done | awk '!seen[$0]++'
-}
+below() { echo "${under[$1]}"; }
 
 # marks NAME: how many crates have a mark of that name, `running` or `proved`.
 marks() {
