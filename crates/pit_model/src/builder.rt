@@ -8,8 +8,9 @@ ghost use Rattle.pit_num.specs.Refused.{IsRefusedBy};
 
 use crate::bounds::{Bounds, cell_of, is_empty_interval, tighter_bounds};
 use crate::coefficients::Coefficients;
+use crate::deposit::{Deposit, Tables};
 use crate::error::BuildError;
-use crate::instance::{Instance, Tables};
+use crate::instance::Instance;
 use crate::places::Places;
 use crate::predecessors::Predecessors;
 use crate::profits::Profits;
@@ -208,13 +209,28 @@ impl<A: Allocator + Copy + Drop> Builder<A> {
         ensures ok { IfOk result (λ instance. instance ≡ self) }
         ensures err { IfErr result (λ refused. refused.0 ≡ self) }
     {
+        let succs = match Successors::shared(*self.bounds.allocator(), &self.preds) {
+            Ok(succs) => succs,
+            Err(error) => return Err((self, error)),
+        };
+        match self.build_deposit() {
+            Ok(deposit) => Ok(Instance {
+                deposit,
+                succs,
+                keys: Keys::default(),
+            }),
+            Err(refused) => Err(refused),
+        }
+    }
+
+    /// The pit as it was set, without its successors. Where memory runs out, the builder is handed back.
+    pub fn build_deposit(self) -> Result<Deposit<A>, (Builder<A>, NoMemory)>
+        ensures ok { IfOk result (λ deposit. deposit ≡ self) }
+        ensures err { IfErr result (λ refused. refused.0 ≡ self) }
+    {
         let alloc = *self.bounds.allocator();
         let discount = match Discount::new(alloc, self.rate, self.periods) {
             Ok(discount) => discount,
-            Err(error) => return Err((self, error)),
-        };
-        let succs = match Successors::of(alloc, &self.preds) {
-            Ok(succs) => succs,
             Err(error) => return Err((self, error)),
         };
         let Builder {
@@ -233,16 +249,14 @@ impl<A: Allocator + Copy + Drop> Builder<A> {
             profits,
             coefs: coefs.sorted(),
             preds,
-            succs,
             bounds,
             places,
         };
         match Arc::new(alloc, tables) {
-            Ok(tables) => Ok(Instance {
+            Ok(tables) => Ok(Deposit {
                 blocks,
                 periods,
                 resources,
-                keys: Keys::default(),
                 tables,
             }),
             Err(refused) => {

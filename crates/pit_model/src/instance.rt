@@ -2,14 +2,11 @@ ghost use Rattle.std.specs.Prelude.{◌≡◌, ◌<◌, ◌*◌, ◌^◌, pos, �
 ghost use Rattle.pit_num.specs.Least.{IsLeast};
 ghost use Rattle.pit_model.specs.Pit.{IsSound, profit_of, factor_of, coefs_of, preds_of, succs_of, lower_of, upper_of, cell_of, place_of, IsUnmeetable, IsFirstUnmeetable, IsMeetable, AreCoefs, ArePreds};
 
-use crate::bounds::{Bounds, is_below_zero};
-use crate::places::Places;
-use crate::predecessors::Predecessors;
-use crate::profits::Profits;
-use crate::sorted_coefficients::SortedCoefficients;
+use crate::bounds::is_below_zero;
+use crate::deposit::Deposit;
 use crate::successors::Successors;
 use pit_keyed::Keys;
-use pit_num::{Discount, NoMemory};
+use pit_num::NoMemory;
 use std::alloc::Allocator;
 use std::marker::Model;
 use std::sync::Arc;
@@ -17,23 +14,9 @@ use std::sync::Arc;
 /// A pit: an instance of MineLib's problem CPIT (2013). Its readers take no memory.
 #[derive(Drop)]
 pub struct Instance<A: Allocator + Drop> {
-    pub(crate) blocks: u32,
-    pub(crate) periods: u32,
-    pub(crate) resources: u32,
+    pub(crate) deposit: Deposit<A>,
+    pub(crate) succs: Arc<Successors<A>, A>,
     pub(crate) keys: Keys,
-    pub(crate) tables: Arc<Tables<A>, A>,
-}
-
-/// What a pit has of each block, period and resource. It never changes, so one may serve several threads.
-#[derive(Drop)]
-pub(crate) struct Tables<A: Allocator + Drop> {
-    pub(crate) discount: Discount<A>,
-    pub(crate) profits: Profits<A>,
-    pub(crate) coefs: SortedCoefficients<A>,
-    pub(crate) preds: Predecessors<A>,
-    pub(crate) succs: Successors<A>,
-    pub(crate) bounds: Vec<Bounds, A>,
-    pub(crate) places: Places<A>,
 }
 
 impl<A: Allocator + Drop> Model for Instance<A> {
@@ -43,25 +26,28 @@ impl<A: Allocator + Drop> Model for Instance<A> {
 
     ghost Value = { Pit };
 
-    ghost view = { λ i. record { blocks = i.blocks; periods = i.periods; resources = i.resources; rate = i.tables.value.discount.rate; profits = i.tables.value.profits; coefs = i.tables.value.coefs; preds = i.tables.value.preds; bounds = i.tables.value.bounds.items; places = i.tables.value.places } };
+    ghost view = { λ i. i.deposit };
 
-    ghost invariant = { λ i. IsSound (record { blocks = i.blocks; periods = i.periods; resources = i.resources; rate = i.tables.value.discount.rate; profits = i.tables.value.profits; coefs = i.tables.value.coefs; preds = i.tables.value.preds; bounds = i.tables.value.bounds.items; places = i.tables.value.places })
-        × (i.tables.value.discount.periods ≡ i.periods)
-        × (i.tables.value.succs ≡ map (succs_in i.tables.value.preds) (range_with_len 0 (length i.tables.value.preds))) };
+    ghost invariant = { λ i. IsSound i.deposit × (i.succs.value ≡ map (succs_in i.deposit.preds) (range_with_len 0 (length i.deposit.preds))) };
 }
 
 impl<A: Allocator + Copy + Drop> Instance<A> {
-    /// The same pit once more. Its tables are shared, so that it takes no memory; it is refused where there are 2^63 already.
+    /// The same pit once more. What it has is shared, so that it takes no memory; it is refused where there are 2^63 already.
     pub fn share(&self) -> Result<Instance<A>, NoMemory>
         ensures { IfOk result (λ shared. shared ≡ self.now) }
     {
         Ok(Instance {
-            blocks: self.blocks,
-            periods: self.periods,
-            resources: self.resources,
+            deposit: self.deposit.share()?,
+            succs: Arc::try_clone(&self.succs)?,
             keys: self.keys,
-            tables: Arc::try_clone(&self.tables)?,
         })
+    }
+
+    /// The pit without its successors.
+    pub fn deposit(&self) -> &Deposit<A>
+        ensures { result.now ≡ self.now }
+    {
+        &self.deposit
     }
 
     /// The same pit, by whose keys the sets of its transactions hash from now on.
@@ -81,35 +67,35 @@ impl<A: Allocator + Copy + Drop> Instance<A> {
         ensures count { result ≡ self.now.blocks }
         ensures sound { IsSound self.now }
     {
-        self.blocks
+        self.deposit.blocks()
     }
 
     /// Shows that the pit is sound.
     pub fn shows_sound(&self)
         ensures { IsSound self.now }
     {
-        let _ = &self.blocks;
+        self.deposit.shows_sound();
     }
 
     /// The number of periods; they are numbered from 0.
     pub fn periods(&self) -> u32
         ensures { result ≡ self.now.periods }
     {
-        self.periods
+        self.deposit.periods()
     }
 
     /// The number of resources; they are numbered from 0.
     pub fn resources(&self) -> u32
         ensures { result ≡ self.now.resources }
     {
-        self.resources
+        self.deposit.resources()
     }
 
     /// The discount rate of a period, in millionths.
     pub fn rate(&self) -> u32
         ensures { result ≡ self.now.rate }
     {
-        self.tables.discount.rate()
+        self.deposit.rate()
     }
 
     /// The profit of a block, in millionths; 0 where none was set.
@@ -117,7 +103,7 @@ impl<A: Allocator + Copy + Drop> Instance<A> {
         requires { b < self.now.blocks }
         ensures { result ≡ profit_of self.now b }
     {
-        self.tables.profits.profit(b).unwrap_or(0)
+        self.deposit.profit(b)
     }
 
     /// The discount factor of a period, in units of 10^-12.
@@ -127,7 +113,7 @@ impl<A: Allocator + Copy + Drop> Instance<A> {
         ensures low { pos 0 ≤ℤ result }
         ensures high { result ≤ℤ pos (10 ^ 12) }
     {
-        self.tables.discount.factor(t)
+        self.deposit.factor(t)
     }
 
     /// The coefficients of a block that were set, each with its resource, in millionths, rising by resource. The others are 0.
@@ -136,7 +122,7 @@ impl<A: Allocator + Copy + Drop> Instance<A> {
         ensures value { result.now ≡ coefs_of self.now b }
         ensures sound { AreCoefs self.now.resources result.now }
     {
-        self.tables.coefs.row(b)
+        self.deposit.coefs(b)
     }
 
     /// The blocks that have to be mined no later than a block: rising, each once, and without the block.
@@ -145,7 +131,7 @@ impl<A: Allocator + Copy + Drop> Instance<A> {
         ensures value { result.now ≡ preds_of self.now b }
         ensures sound { ArePreds self.now.blocks b result.now }
     {
-        self.tables.preds.row(b)
+        self.deposit.preds(b)
     }
 
     /// The blocks that have a block among their predecessors, rising.
@@ -154,7 +140,7 @@ impl<A: Allocator + Copy + Drop> Instance<A> {
         ensures value { result.now ≡ succs_of self.now b }
         ensures sound { ArePreds self.now.blocks b result.now }
     {
-        self.tables.succs.row(b)
+        self.succs.row(b)
     }
 
     /// The cell of a resource in a period: cells go by period, and in it by resource.
@@ -164,7 +150,7 @@ impl<A: Allocator + Copy + Drop> Instance<A> {
         ensures cell { result ≡ cell_of self.now r t }
         ensures within { result < self.now.periods * self.now.resources }
     {
-        t * self.resources + r
+        self.deposit.cell(r, t)
     }
 
     /// The greatest lower bound that was given for the load of a resource in a period, in millionths.
@@ -173,7 +159,7 @@ impl<A: Allocator + Copy + Drop> Instance<A> {
         requires period { t < self.now.periods }
         ensures { result ≡ lower_of self.now r t }
     {
-        self.tables.bounds[self.cell(r, t) as usize].0
+        self.deposit.lower(r, t)
     }
 
     /// The least upper bound that was given for the load of a resource in a period, in millionths.
@@ -182,7 +168,7 @@ impl<A: Allocator + Copy + Drop> Instance<A> {
         requires period { t < self.now.periods }
         ensures { result ≡ upper_of self.now r t }
     {
-        self.tables.bounds[self.cell(r, t) as usize].1
+        self.deposit.upper(r, t)
     }
 
     /// The place of a block, each coordinate in millionths.
@@ -190,14 +176,14 @@ impl<A: Allocator + Copy + Drop> Instance<A> {
         requires { b < self.now.blocks }
         ensures { result ≡ place_of self.now b }
     {
-        self.tables.places.place(b)
+        self.deposit.place(b)
     }
 
     /// The first upper bound that is below zero, as its resource and its period: the least such period, and in it the least resource.
     pub fn unmeetable(&self) -> Option<(u32, u32)>
         ensures { MatchOption result (IsMeetable self.now) (IsFirstUnmeetable self.now) }
     {
-        for t in 0..self.periods {
+        for t in 0..self.periods() {
             if let Some(r) = self.unmeetable_in(t) {
                 return Some((r, t));
             }
@@ -210,7 +196,7 @@ impl<A: Allocator + Copy + Drop> Instance<A> {
         requires { t < self.now.periods }
         ensures { IsLeast ◌<◌ (λ r. IsUnmeetable self.now (t, r)) result }
     {
-        for r in 0..self.resources {
+        for r in 0..self.resources() {
             if is_below_zero(self.upper(r, t)) {
                 return Some(r);
             }

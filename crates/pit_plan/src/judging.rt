@@ -5,7 +5,7 @@ ghost use Rattle.pit_model.specs.Fitting.{Fits, RevisionsFit, revisions_of};
 ghost use Rattle.pit_num.specs.Least.{ComesBefore, IsLeast};
 ghost use Rattle.pit_model.specs.Pit.{cell_of};
 ghost use Rattle.pit_plan.specs.Schedule.{by_block};
-ghost use Rattle.pit_plan.specs.Breaches.{IsFirstBreach, IsGood, IsOutOfOrder};
+ghost use Rattle.pit_plan.specs.Breaches.{IsFirstBreach, IsGood, IsOrdered, IsOutOfOrder, IsUnderLimits};
 ghost use Rattle.pit_plan.specs.Inside.Totals.{IsTally};
 ghost use Rattle.pit_plan.specs.Limits.{cell_limit, at_cell};
 ghost use Rattle.pit_plan.specs.Inside.Limits.{by_cell};
@@ -21,7 +21,7 @@ use crate::overlay::{
 };
 use crate::schedule::{Schedule, first_late, keeps_order};
 use crate::tally::Tally;
-use pit_model::Instance;
+use pit_model::{Deposit, Instance};
 use pit_num::NoMemory;
 use std::alloc::Allocator;
 
@@ -52,6 +52,27 @@ pub(crate) fn first_breach_after<A: Allocator + Copy + Drop>(
     if let Some((block, before)) = out {
         return Ok(Some(Breach::Precedence { block, before }));
     }
+    first_over_where_ordered(alloc, pit.deposit(), tally, limits, writes, revises)
+}
+
+/// The first breach after the writes and the revisions, where they leave no pair out of order.
+fn first_over_where_ordered<A: Allocator + Copy + Drop>(
+    alloc: A,
+    pit: &Deposit<A>,
+    tally: &Tally<A>,
+    limits: &[Option<i64>],
+    writes: &[(u32, Option<u32>)],
+    revises: &[(u32, u32, Option<i64>)],
+) -> Result<Option<Breach>, NoMemory>
+    requires tally { IsTally pit.now tally.now }
+    requires limits { length limits.now ≡ pit.now.periods * pit.now.resources }
+    requires writes { Fits pit.now.blocks pit.now.periods writes.now }
+    requires revises { RevisionsFit pit.now.resources pit.now.periods (revisions_of revises.now) }
+    ensures { IfOk result (λ breach. IsUnderLimits pit.now (by_block tally.now.periods) (at_cell pit.now (cell_limit limits.now))
+        → IsOrdered pit.now (overlaid_item (by_block tally.now.periods) writes.now)
+        → IsFirstBreach pit.now (overlaid_item (by_block tally.now.periods) writes.now)
+        (at_cell pit.now (overlaid_item (cell_limit limits.now) (by_cell pit.now (revisions_of revises.now)))) breach) }
+{
     let revised = Overlay {
         kept: limits,
         pairs: revised(alloc, pit, revises)?,
@@ -169,7 +190,7 @@ fn lesser(one: Option<(u32, u32)>, other: Option<(u32, u32)>) -> Option<(u32, u3
 
 /// The load of the least period, and in it of the least resource, that is above its limit, as a breach.
 fn first_over_after<L: Limits, A: Allocator + Copy + Drop>(
-    pit: &Instance<A>,
+    pit: &Deposit<A>,
     limits: &L,
     cells: &CellList<A>,
 ) -> Option<Breach>
@@ -192,7 +213,7 @@ fn first_over_after<L: Limits, A: Allocator + Copy + Drop>(
 
 /// The least period, and in it the least resource, of a cell whose load is above its limit.
 fn least_over<L: Limits, A: Allocator + Copy + Drop>(
-    pit: &Instance<A>,
+    pit: &Deposit<A>,
     limits: &L,
     cells: &CellList<A>,
 ) -> Option<(u32, u32)>
@@ -209,7 +230,7 @@ fn least_over<L: Limits, A: Allocator + Copy + Drop>(
 
 /// The period and the resource of a cell, if its load is above its limit.
 fn over_at<L: Limits, A: Allocator + Copy + Drop>(
-    pit: &Instance<A>,
+    pit: &Deposit<A>,
     limits: &L,
     cells: &CellList<A>,
     i: usize,

@@ -6,7 +6,7 @@ ghost use Rattle.pit_plan.specs.Inside.Plan.{with_writes};
 ghost use Rattle.pit_plan.specs.Limits.{cell_limit, at_cell};
 ghost use Rattle.pit_plan.specs.Inside.Limits.{by_cell};
 
-use pit_model::Instance;
+use pit_model::Deposit;
 use pit_num::NoMemory;
 use std::alloc::Allocator;
 
@@ -36,7 +36,7 @@ impl<A: Allocator + Drop> Limits for Vec<Option<i64>, A> {
 /// The least upper bounds of a pit.
 pub(crate) fn limits_of<A: Allocator + Copy + Drop>(
     alloc: A,
-    pit: &Instance<A>,
+    pit: &Deposit<A>,
 ) -> Result<Vec<Option<i64>, A>, NoMemory>
     ensures len { IfOk result (λ limits. length limits.items ≡ pit.now.periods * pit.now.resources) }
     ensures each { IfOk result (λ limits. (r t : ℕ) → r < pit.now.resources → t < pit.now.periods → at_cell pit.now (cell_limit limits.items) r t ≡ upper_of pit.now r t) }
@@ -52,7 +52,7 @@ pub(crate) fn limits_of<A: Allocator + Copy + Drop>(
 
 /// Gives each revised cell its limit.
 pub(crate) fn revise<A: Allocator + Copy + Drop>(
-    pit: &Instance<A>,
+    pit: &Deposit<A>,
     limits: &mut Vec<Option<i64>, A>,
     revises: &[(u32, u32, Option<i64>)],
 )

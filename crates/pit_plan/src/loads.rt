@@ -5,7 +5,7 @@ ghost use Rattle.pit_plan.specs.Schedule.{coef_of};
 ghost use Rattle.pit_plan.specs.Inside.Totals.{Raises, MovesIn, signed_coef};
 ghost use Rattle.pit_plan.specs.Limits.{at_cell};
 
-use pit_model::Instance;
+use pit_model::Deposit;
 use pit_num::NoMemory;
 use std::alloc::Allocator;
 
@@ -36,7 +36,7 @@ pub(crate) trait Loads {
 
 /// Adds a block's coefficients to the loads of a period (`up`), or takes them off; does nothing where there is no period.
 pub(crate) fn shift<L: Loads, A: Allocator + Copy + Drop>(
-    pit: &Instance<A>,
+    pit: &Deposit<A>,
     loads: &mut L,
     b: u32,
     period: Option<u32>,

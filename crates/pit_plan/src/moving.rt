@@ -9,7 +9,7 @@ use crate::cell_list::CellList;
 use crate::loads::{Loads, plus, shift};
 use crate::schedule::Schedule;
 use crate::tally::Tally;
-use pit_model::Instance;
+use pit_model::Deposit;
 use pit_num::NoMemory;
 use std::alloc::Allocator;
 
@@ -49,7 +49,7 @@ fn load_of<A: Allocator + Copy + Drop>(kept: &[i128], moved: &CellList<A>, cell:
 /// The loads as the writes leave them.
 pub(crate) fn moved_loads<'a, A: Allocator + Copy + Drop>(
     alloc: A,
-    pit: &Instance<A>,
+    pit: &Deposit<A>,
     tally: &'a Tally<A>,
     writes: &[(u32, Option<u32>)],
 ) -> Result<Moved<'a, A>, NoMemory>
@@ -69,7 +69,7 @@ pub(crate) fn moved_loads<'a, A: Allocator + Copy + Drop>(
 
 /// Moves the loads by one more write.
 fn move_block<'a, A: Allocator + Copy + Drop>(
-    pit: &Instance<A>,
+    pit: &Deposit<A>,
     tally: &Tally<A>,
     writes: &[(u32, Option<u32>)],
     k: usize,
@@ -90,7 +90,7 @@ fn move_block<'a, A: Allocator + Copy + Drop>(
 
 /// Adds each revised cell to those that are moved, with the load that it has.
 pub(crate) fn look_at_revised<'a, A: Allocator + Copy + Drop>(
-    pit: &Instance<A>,
+    pit: &Deposit<A>,
     revises: &[(u32, u32, Option<i64>)],
     loads: &mut Moved<'a, A>,
 ) -> Result<(), NoMemory>

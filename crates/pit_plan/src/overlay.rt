@@ -11,7 +11,7 @@ ghost use Rattle.pit_plan.specs.Inside.Touched.{overlaid_item};
 use crate::limits::Limits;
 use crate::schedule::Schedule;
 use indexmap::IndexMap;
-use pit_model::Instance;
+use pit_model::Deposit;
 use pit_num::NoMemory;
 use std::alloc::Allocator;
 use std::hash::{BuildHasherDefault, FoldHasher};
@@ -182,7 +182,7 @@ pub(crate) fn written<A: Allocator + Copy + Drop>(
 /// The revised limits, by cell.
 pub(crate) fn revised<A: Allocator + Copy + Drop>(
     alloc: A,
-    pit: &Instance<A>,
+    pit: &Deposit<A>,
     revises: &[(u32, u32, Option<i64>)],
 ) -> Result<Pairs<Option<i64>, A>, NoMemory>
     requires { RevisionsFit pit.now.resources pit.now.periods (revisions_of revises.now) }

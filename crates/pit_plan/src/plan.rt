@@ -1,20 +1,13 @@
-ghost use Rattle.std.specs.Prelude.{◌≡◌, ◌≢◌, ℕ, ◌*◌, ◌<◌, ◌⊎◌, ◌++◌, ◌∷◌, [], List, IfOk, IfErr, IfSome, OnOk, OnErr, IsOk, length, replicate, All};
+ghost use Rattle.std.specs.Prelude.{◌≡◌, ◌≢◌, ◌<◌, ◌⊎◌, ◌++◌, ◌∷◌, [], List, IfOk, IfErr, IfSome, OnOk, OnErr, IsOk, length};
 ghost use Rattle.pit_model.specs.Fitting.{Fits, RevisionsFit, revisions_of};
-ghost use Rattle.pit_model.specs.Pit.{upper_of};
 ghost use Rattle.pit_plan.specs.Schedule.{Commit, held_period, load_of, value_of};
 ghost use Rattle.pit_plan.specs.Standing.{IsPlanOf, period_of, version_of, limit_in_force, Adds};
-ghost use Rattle.pit_plan.specs.Inside.Plan.{with_writes};
-ghost use Rattle.pit_plan.specs.Inside.Totals.{IsTally};
-ghost use Rattle.pit_plan.specs.Limits.{cell_limit, at_cell};
 ghost use Rattle.pit_plan.specs.Breaches.{IsBreachOf, IsGoodNow};
 ghost use Rattle.pit_plan.specs.Shortfalls.{shortfalls_of};
 
 use crate::breach::Breach;
-use crate::judging::first_breach_after;
-use crate::limits::{Limits, limits_of, revise};
-use crate::schedule;
+use crate::plan_view::PlanView;
 use crate::short::Short;
-use crate::tally::Tally;
 use pit_model::Instance;
 use pit_num::NoMemory;
 use std::alloc::Allocator;
@@ -28,31 +21,21 @@ pub const COMMITS_MAX: u32 = 4_294_967_295;
 /// Writes are blocks, each with its new period or none. They fit where blocks and periods are in range and no block stands twice.
 /// Revisions are resources and periods, each pair with its new upper limit in millionths, or none where there is to be no limit. They fit
 /// where both are in range and no pair stands twice.
-/// The body keeps each block's period and version, each load and limit, and the value.
 #[derive(Drop)]
 pub struct Plan<A: Allocator + Drop> {
     pit: Instance<A>,
-    commits: u32,
-    tally: Tally<A>,
-    versions: Vec<u32, A>,
-    limits: Vec<Option<i64>, A>,
+    seen: PlanView<A>,
 }
 
 impl<A: Allocator + Drop> Model for Plan<A> {
+    ghost use Rattle.std.specs.Prelude.{◌≡◌};
     ghost use Rattle.pit_plan.specs.Standing.{Standing};
-    ghost use Rattle.pit_plan.specs.Inside.Plan.{IsPlanKept};
 
     ghost Value = { Standing };
 
-    ghost view = { λ plan. record {
-      pit = plan.pit;
-      commits = plan.commits;
-      periods = plan.tally.periods;
-      versions = plan.versions.items;
-      limits = plan.limits.items;
-    } };
+    ghost view = { λ plan. plan.seen };
 
-    ghost invariant = { λ plan. IsPlanKept plan.pit plan.tally plan.versions.items plan.limits.items };
+    ghost invariant = { λ plan. plan.pit ≡ plan.seen.pit };
 }
 
 impl<A: Allocator + Copy + Drop> Plan<A> {
@@ -61,15 +44,9 @@ impl<A: Allocator + Copy + Drop> Plan<A> {
         ensures ok { IfOk result (λ plan. (plan.pit ≡ pit) × IsPlanOf plan []) }
         ensures err { IfErr result (λ refused. refused.0 ≡ pit) }
     {
-        match nothing(alloc, &pit) {
+        match empty_view(alloc, &pit) {
+            Ok(seen) => Ok(Plan { pit, seen }),
             Err(no_memory) => Err((pit, no_memory)),
-            Ok((tally, versions, limits)) => Ok(Plan {
-                pit,
-                commits: 0,
-                tally,
-                versions,
-                limits,
-            }),
         }
     }
 
@@ -92,7 +69,7 @@ impl<A: Allocator + Copy + Drop> Plan<A> {
     pub fn commits(&self) -> u32
         ensures { result ≡ self.now.commits }
     {
-        self.commits
+        self.seen.commits()
     }
 
     /// The period of a block, or none.
@@ -101,7 +78,7 @@ impl<A: Allocator + Copy + Drop> Plan<A> {
         ensures period { result ≡ period_of self.now b }
         ensures in_range { IfSome result (λ t. t < self.now.pit.periods) }
     {
-        self.tally.periods[b as usize]
+        self.seen.period(b)
     }
 
     /// The period of each block, or none, by rising block.
@@ -109,7 +86,7 @@ impl<A: Allocator + Copy + Drop> Plan<A> {
         ensures periods { result.now ≡ self.now.periods }
         ensures count { length result.now ≡ self.now.pit.blocks }
     {
-        &self.tally.periods
+        self.seen.periods()
     }
 
     /// The number of the last commit that named a block, or 0.
@@ -117,7 +94,7 @@ impl<A: Allocator + Copy + Drop> Plan<A> {
         requires { b < self.now.pit.blocks }
         ensures { result ≡ version_of self.now b }
     {
-        self.versions[b as usize]
+        self.seen.version(b)
     }
 
     /// The load of a resource in a period, in millionths.
@@ -127,7 +104,7 @@ impl<A: Allocator + Copy + Drop> Plan<A> {
         ensures { (commits : List Commit) → IsPlanOf self.now commits
             → result ≡ load_of self.now.pit (held_period commits) r t }
     {
-        schedule::load(&self.pit, &self.tally, r, t)
+        self.seen.load(r, t)
     }
 
     /// The upper limit in force on the load of a resource in a period, in millionths, or none: what the last commit that revised it
@@ -137,7 +114,7 @@ impl<A: Allocator + Copy + Drop> Plan<A> {
         requires period { t < self.now.pit.periods }
         ensures { result ≡ limit_in_force self.now r t }
     {
-        self.limits.limit(self.pit.cell(r, t))
+        self.seen.limit(r, t)
     }
 
     /// The discounted profit, in units of 10^-18, which is exact.
@@ -145,7 +122,7 @@ impl<A: Allocator + Copy + Drop> Plan<A> {
         ensures { (commits : List Commit) → IsPlanOf self.now commits
             → result ≡ value_of self.now.pit (held_period commits) }
     {
-        self.tally.worth
+        self.seen.value()
     }
 
     /// The first breach of the plan: the least pair of a block and its predecessor that is out of order; else the load of the
@@ -154,7 +131,7 @@ impl<A: Allocator + Copy + Drop> Plan<A> {
         ensures { (commits : List Commit) → IsPlanOf self.now commits
             → IsBreachOf self.now.pit commits result }
     {
-        schedule::first_breach(&self.pit, &self.tally, &self.limits)
+        self.seen.check()
     }
 
     /// The first breach that the plan would have after the writes and the revisions. Takes the memory of these, and of the loads that they move and
@@ -171,14 +148,7 @@ impl<A: Allocator + Copy + Drop> Plan<A> {
             → IsBreachOf self.now.pit (commits ++ (record { writes = writes.now; revises = revisions_of revises.now }) ∷ []) breach) }
         ensures refused { IfErr result (λ e. (writes.now ≢ []) ⊎ (revises.now ≢ [])) }
     {
-        first_breach_after(
-            *self.versions.allocator(),
-            &self.pit,
-            &self.tally,
-            &self.limits,
-            writes,
-            revises,
-        )
+        self.seen.judge(&self.pit, writes, revises)
     }
 
     /// Adds the writes and the revisions as one more commit. Takes no memory, and is never refused.
@@ -194,11 +164,7 @@ impl<A: Allocator + Copy + Drop> Plan<A> {
         ensures err { OnErr result (self.new ≡ self.old) }
         ensures done { IsOk result }
     {
-        self.commits += 1;
-        self.tally.write(&self.pit, writes);
-        write_versions(&mut self.versions, writes, self.commits);
-        revise(&self.pit, &mut self.limits, revises);
-        Ok(())
+        self.seen.apply(writes, revises)
     }
 
     /// Each load that is below its lower limit, by rising period, and in it by rising resource. Takes the memory of these, so none where
@@ -209,37 +175,19 @@ impl<A: Allocator + Copy + Drop> Plan<A> {
         ensures refused { IfErr result (λ e. (commits : List Commit) → IsPlanOf self.now commits
             → shortfalls_of self.now.pit (held_period commits) ≢ []) }
     {
-        schedule::shortfalls(*self.versions.allocator(), &self.pit, &self.tally)
+        self.seen.shortfalls()
     }
 }
 
-/// No period and the version 0 for each block, and the limits of the pit.
-fn nothing<A: Allocator + Copy + Drop>(
+/// What is seen of a plan after no commit.
+fn empty_view<A: Allocator + Copy + Drop>(
     alloc: A,
     pit: &Instance<A>,
-) -> Result<(Tally<A>, Vec<u32, A>, Vec<Option<i64>, A>), NoMemory>
-    ensures tally { IfOk result (λ parts. IsTally pit.now parts.0) }
-    ensures periods { IfOk result (λ parts. parts.0.periods ≡ replicate pit.now.blocks None) }
-    ensures versions { IfOk result (λ parts. parts.1.items ≡ replicate pit.now.blocks 0) }
-    ensures len { IfOk result (λ parts. length parts.2.items ≡ pit.now.periods * pit.now.resources) }
-    ensures limits { IfOk result (λ parts. (r t : ℕ) → r < pit.now.resources → t < pit.now.periods → at_cell pit.now (cell_limit parts.2.items) r t ≡ upper_of pit.now r t) }
+) -> Result<PlanView<A>, NoMemory>
+    ensures { IfOk result (λ seen. (seen.pit ≡ pit.now) × IsPlanOf seen []) }
 {
-    let tally = Tally::none(alloc, pit)?;
-    let versions = vec![in alloc; 0; pit.blocks() as usize]?;
-    let limits = limits_of(alloc, pit)?;
-    Ok((tally, versions, limits))
-}
-
-/// Gives each written block the number of the commit.
-fn write_versions<A: Allocator + Drop>(
-    versions: &mut Vec<u32, A>,
-    writes: &[(u32, Option<u32>)],
-    number: u32,
-)
-    requires { All (λ w. w.0 < length versions.old.items) writes.now }
-    ensures { versions.new.items ≡ with_writes (λ w. number) versions.old.items writes.now }
-{
-    for (block, _) in writes {
-        versions[*block as usize] = number;
+    match PlanView::empty(alloc, pit.deposit().share()?) {
+        Ok(seen) => Ok(seen),
+        Err((_, no_memory)) => Err(no_memory),
     }
 }

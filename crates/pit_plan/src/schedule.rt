@@ -14,7 +14,7 @@ use crate::breach::Breach;
 use crate::limits::Limits;
 use crate::short::Short;
 use crate::tally::Tally;
-use pit_model::Instance;
+use pit_model::Deposit;
 use pit_num::NoMemory;
 use std::alloc::Allocator;
 
@@ -33,7 +33,7 @@ pub(crate) trait Schedule {
 
 /// The load of a resource in a period.
 pub(crate) fn load<A: Allocator + Copy + Drop>(
-    pit: &Instance<A>,
+    pit: &Deposit<A>,
     tally: &Tally<A>,
     r: u32,
     t: u32,
@@ -48,7 +48,7 @@ pub(crate) fn load<A: Allocator + Copy + Drop>(
 
 /// What a block earns in a period.
 pub(crate) fn earned<A: Allocator + Copy + Drop>(
-    pit: &Instance<A>,
+    pit: &Deposit<A>,
     b: u32,
     period: Option<u32>,
 ) -> i128
@@ -93,7 +93,7 @@ pub fn keeps_order(later: Option<u32>, before: Option<u32>) -> bool
 
 /// The least pair of a block and its predecessor that is out of order.
 fn first_out_of_order<A: Allocator + Copy + Drop>(
-    pit: &Instance<A>,
+    pit: &Deposit<A>,
     tally: &Tally<A>,
 ) -> Option<(u32, u32)>
     requires { length tally.now.periods ≡ pit.now.blocks }
@@ -109,7 +109,7 @@ fn first_out_of_order<A: Allocator + Copy + Drop>(
 
 /// Whether the load of a resource in a period is at most its limit.
 fn keeps_limit<L: Limits, A: Allocator + Copy + Drop>(
-    pit: &Instance<A>,
+    pit: &Deposit<A>,
     tally: &Tally<A>,
     limits: &L,
     r: u32,
@@ -129,7 +129,7 @@ fn keeps_limit<L: Limits, A: Allocator + Copy + Drop>(
 
 /// The least resource whose load in the period is above its limit.
 fn first_over_in<L: Limits, A: Allocator + Copy + Drop>(
-    pit: &Instance<A>,
+    pit: &Deposit<A>,
     tally: &Tally<A>,
     limits: &L,
     t: u32,
@@ -149,7 +149,7 @@ fn first_over_in<L: Limits, A: Allocator + Copy + Drop>(
 
 /// The least period, and in it the least resource, whose load is above its limit.
 fn first_over<L: Limits, A: Allocator + Copy + Drop>(
-    pit: &Instance<A>,
+    pit: &Deposit<A>,
     tally: &Tally<A>,
     limits: &L,
 ) -> Option<(u32, u32)>
@@ -167,7 +167,7 @@ fn first_over<L: Limits, A: Allocator + Copy + Drop>(
 
 /// The first breach of the schedule.
 pub(crate) fn first_breach<L: Limits, A: Allocator + Copy + Drop>(
-    pit: &Instance<A>,
+    pit: &Deposit<A>,
     tally: &Tally<A>,
     limits: &L,
 ) -> Option<Breach>
@@ -191,7 +191,7 @@ pub(crate) fn first_breach<L: Limits, A: Allocator + Copy + Drop>(
 /// Each load that is below its lower limit, by rising period, and in it by rising resource.
 pub(crate) fn shortfalls<A: Allocator + Copy + Drop>(
     alloc: A,
-    pit: &Instance<A>,
+    pit: &Deposit<A>,
     tally: &Tally<A>,
 ) -> Result<Vec<Short, A>, NoMemory>
     requires { IsTally pit.now tally.now }
@@ -208,7 +208,7 @@ pub(crate) fn shortfalls<A: Allocator + Copy + Drop>(
 /// Appends the shortfalls of a period.
 fn push_shorts<A: Allocator + Copy + Drop>(
     shorts: &mut Vec<Short, A>,
-    pit: &Instance<A>,
+    pit: &Deposit<A>,
     tally: &Tally<A>,
     t: u32,
 ) -> Result<(), NoMemory>
@@ -226,7 +226,7 @@ fn push_shorts<A: Allocator + Copy + Drop>(
 /// Appends the load where it is below its lower limit.
 fn push_short<A: Allocator + Copy + Drop>(
     shorts: &mut Vec<Short, A>,
-    pit: &Instance<A>,
+    pit: &Deposit<A>,
     tally: &Tally<A>,
     r: u32,
     t: u32,

@@ -9,7 +9,7 @@ ghost use Rattle.pit_plan.specs.Limits.{at_cell};
 
 use crate::loads::{Loads, plus, shift};
 use crate::schedule::{Schedule, earned};
-use pit_model::Instance;
+use pit_model::Deposit;
 use pit_num::NoMemory;
 use std::alloc::Allocator;
 use std::marker::Model;
@@ -42,7 +42,7 @@ impl<A: Allocator + Drop> Schedule for Tally<A> {
 
 impl<A: Allocator + Copy + Drop> Tally<A> {
     /// No block has a period.
-    pub(crate) fn none(alloc: A, pit: &Instance<A>) -> Result<Tally<A>, NoMemory>
+    pub(crate) fn none(alloc: A, pit: &Deposit<A>) -> Result<Tally<A>, NoMemory>
         ensures tally { IfOk result (IsTally pit.now) }
         ensures periods { IfOk result (λ tally. tally.periods ≡ replicate pit.now.blocks None) }
     {
@@ -56,7 +56,7 @@ impl<A: Allocator + Copy + Drop> Tally<A> {
     }
 
     /// Gives each written block its period.
-    pub(crate) fn write(&mut self, pit: &Instance<A>, writes: &[(u32, Option<u32>)])
+    pub(crate) fn write(&mut self, pit: &Deposit<A>, writes: &[(u32, Option<u32>)])
         requires tally { IsTally pit.now self.old }
         requires fits { Fits pit.now.blocks pit.now.periods writes.now }
         ensures periods { self.new.periods ≡ with_writes (λ w. w.1) self.old.periods writes.now }
@@ -69,7 +69,7 @@ impl<A: Allocator + Copy + Drop> Tally<A> {
     }
 
     /// Takes a block out of its period.
-    fn take_out(&mut self, pit: &Instance<A>, b: u32)
+    fn take_out(&mut self, pit: &Deposit<A>, b: u32)
         requires tally { IsTally pit.now self.old }
         requires known { b < pit.now.blocks }
         ensures periods { self.new.periods ≡ slice_set self.old.periods b None }
@@ -83,7 +83,7 @@ impl<A: Allocator + Copy + Drop> Tally<A> {
     }
 
     /// Puts a block that has no period into one, or into none.
-    fn put_in(&mut self, pit: &Instance<A>, b: u32, period: Option<u32>)
+    fn put_in(&mut self, pit: &Deposit<A>, b: u32, period: Option<u32>)
         requires tally { IsTally pit.now self.old }
         requires known { b < pit.now.blocks }
         requires none { by_block self.old.periods b ≡ None }
@@ -116,7 +116,7 @@ impl<A: Allocator + Drop> Loads for Vec<i128, A> {
 
 /// Moves the loads of all cells, which is never refused.
 fn shift_kept<A: Allocator + Copy + Drop>(
-    pit: &Instance<A>,
+    pit: &Deposit<A>,
     loads: &mut Vec<i128, A>,
     b: u32,
     period: Option<u32>,

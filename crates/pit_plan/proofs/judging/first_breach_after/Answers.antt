@@ -1,15 +1,16 @@
-use Rattle.std.proofs.Common.{◌≡◌, ℕ, ℤ, List, [], Option, None, sym, subst, rules}
+use Rattle.std.proofs.Common.{◌≡◌, ℕ, ℤ, List, [], Option, IfOk, sym, subst, rules}
 use Rattle.std.proofs.lemmas.List.{nil_from_length}
-use Rattle.std.specs.Prelude.{IfNone, IfSome}
+use Rattle.std.proofs.lemmas.Result.{IfOk-weaker}
 use Rattle.pit_num.specs.Least.{ComesBefore, IsLeast}
-use Rattle.pit_plan.specs.Schedule.{Writes, by_block}
+use Rattle.pit_model.specs.Pit.{Pit}
 use Rattle.pit_model.specs.Fitting.{revisions_of}
+use Rattle.pit_plan.specs.Schedule.{Writes, by_block}
 use Rattle.pit_plan.specs.Limits.{cell_limit, at_cell}
 use Rattle.pit_plan.specs.Inside.Limits.{by_cell}
-use Rattle.pit_plan.specs.Breaches.{IsGood, IsOutOfOrder}
-use Rattle.pit_plan.specs.Inside.Touched.{overlaid_item, IsOutNear, IsOverAt, IsLeastOver}
+use Rattle.pit_plan.specs.Breaches.{IsFirstBreach, IsGood, IsOrdered, IsOutOfOrder, IsUnderLimits}
+use Rattle.pit_plan.specs.Inside.Touched.{overlaid_item, IsOutNear}
 use Rattle.pit_plan.proofs.Good.{ordered-from_none}
-use Rattle.pit_plan.proofs.Touched.{least-after, over-found, moved-looked, revised-looked}
+use Rattle.pit_plan.proofs.Touched.{least-after}
 use Rattle.pit_plan.proofs.judging.first_breach_after.Goals as goal
 
 pub returns-then-is_empty-2-clause-breach : goal.returns-then-is_empty-2-clause-breach
@@ -31,19 +32,13 @@ returns-in-Some-clause-breach g c = λ good.
     subst (IsLeast ComesBefore (IsOutOfOrder pit (overlaid_item s writes))) c.in-Some.is (least-after pit s writes c.in_ok-out.out good.ordered near)
 
 pub returns-clause-breach : goal.returns-clause-breach
-returns-clause-breach g c = λ good.
+returns-clause-breach g c =
     let pit = c.args.pit.now in
     let writes = c.args.writes.now in
     let s = by_block c.args.tally.now.periods in
-    let near : IsLeast ComesBefore (IsOutNear pit (overlaid_item s writes) writes) c.in_ok-out.out = c.in_ok-out.ensures.least in
-    let none = subst (IsLeast ComesBefore (IsOutOfOrder pit (overlaid_item s writes))) c.in_default.is (least-after pit s writes c.in_ok-out.out good.ordered near) in
-    let revised = by_cell pit (revisions_of c.args.revises.now) in
     let limits = cell_limit c.args.limits.now in
-    let loads = c.look_at_revised.new.loads in
-    let looks = c.in_ok-look_at_revised.ensures.looks in
-    let lim = at_cell pit (overlaid_item limits revised) in
-    over-found pit c.args.tally.now writes loads.kept.now loads.cells (at_cell pit limits) lim c.first_over_after.result c.requires.tally
-    (moved-looked pit c.args.tally.now writes revised c.in_ok-loads.loads.kept.now loads.kept.now c.in_ok-loads.loads.cells loads.cells c.in_ok-loads.ensures looks)
-    (revised-looked pit limits revised loads.cells looks.named) good.within (ordered-from_none pit (overlaid_item s writes) none)
-    (subst (λ (xs : List (ℕ × Option ℤ)). IfNone c.first_over_after.result (IsLeast ComesBefore (IsOverAt pit (at_cell pit (overlaid_item limits xs)) loads.cells) None)) c.in_ok-revised.ensures.entries c.first_over_after.ensures.none)
-    (subst (λ (xs : List (ℕ × Option ℤ)). IfSome c.first_over_after.result (IsLeastOver pit (at_cell pit (overlaid_item limits xs)) loads.cells)) c.in_ok-revised.ensures.entries c.first_over_after.ensures.some)
+    let near : IsLeast ComesBefore (IsOutNear pit (overlaid_item s writes) writes) c.in_ok-out.out = c.in_ok-out.ensures.least in
+    IfOk-weaker c.first_over_where_ordered.result _ _
+    (λ breach found good. found good.within (ordered-from_none pit (overlaid_item s writes) (subst (IsLeast ComesBefore (IsOutOfOrder pit (overlaid_item s writes))) c.in_default.is (least-after pit s writes c.in_ok-out.out good.ordered near))))
+    (subst (λ (p : Pit). IfOk c.first_over_where_ordered.result (λ breach. IsUnderLimits p s (at_cell p limits) → IsOrdered p (overlaid_item s writes)
+    → IsFirstBreach p (overlaid_item s writes) (at_cell p (overlaid_item limits (by_cell p (revisions_of c.args.revises.now)))) breach)) c.deposit.ensures c.first_over_where_ordered.ensures)

@@ -3,12 +3,9 @@ use Rattle.std.specs.List.{All}
 use Rattle.pit_model.specs.Pit.{preds_in}
 use Rattle.pit_model.proofs.builder.Builder.build.Goals as goal
 
-pub of-requires-clause-in_range : goal.of-requires-clause-in_range
-of-requires-clause-in_range g c b =
+pub shared-requires-clause-in_range : goal.shared-requires-clause-in_range
+shared-requires-clause-in_range g c b =
     subst (λ (n : ℕ). All (λ a. a < n) (preds_in c.self.inside.preds b)) (sym c.self.invariant.each_preds) (c.self.invariant.preds b).in_range
 
-pub of-requires-clause-rising : goal.of-requires-clause-rising
-of-requires-clause-rising g c b = (c.self.invariant.preds b).rising
-
-pub sorted-requires : goal.sorted-requires
-sorted-requires g c b = (c.self.invariant.coefs b).rising
+pub shared-requires-clause-rising : goal.shared-requires-clause-rising
+shared-requires-clause-rising g c b = (c.self.invariant.preds b).rising

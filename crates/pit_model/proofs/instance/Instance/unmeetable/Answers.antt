@@ -1,4 +1,4 @@
-use Rattle.std.proofs.Common.{◌<◌, subst, ap, arith, inl, inr}
+use Rattle.std.proofs.Common.{◌<◌, subst, arith, inl, inr}
 use Rattle.std.proofs.lemmas.Bool.{cases_Bool}
 use Rattle.pit_num.specs.Least.{IsLeast}
 use Rattle.pit_num.proofs.CallerLemmas.{rows-more, least-row}
@@ -15,8 +15,7 @@ loop-t-preserved g c =
 
 pub returns : goal.returns
 returns g c = λ resource period lr lt.
-    let same = ap (λ pit. pit.periods) c.self.view_is in
     elim (cases_Bool (is_below_zero (upper_of c.args.self.now resource period))) [
-      | inl below ↦ absurd (c.loop-t.invariant (period, resource) (omega (arith, lt, same)) (lt, lr, below))
+      | inl below ↦ absurd (c.loop-t.invariant (period, resource) (omega (arith, lt, c.periods-t-end.ensures, c.loop-t-test.false)) (lt, lr, below))
       | inr meets ↦ meets
     ]

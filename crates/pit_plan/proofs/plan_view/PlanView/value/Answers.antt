@@ -2,7 +2,7 @@ use Rattle.std.proofs.Common.{ap, ◌∙◌, refl, rules}
 use Rattle.std.specs.Int.{w128}
 use Rattle.std.proofs.lemmas.Int.{to_z-of_z}
 use Rattle.pit_plan.proofs.Same.{value-of}
-use Rattle.pit_plan.proofs.plan.Plan.value.Goals as goal
+use Rattle.pit_plan.proofs.plan_view.PlanView.value.Goals as goal
 
 pub returns : goal.returns
 returns g c =

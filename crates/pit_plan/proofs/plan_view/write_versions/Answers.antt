@@ -1,6 +1,6 @@
 use Rattle.std.proofs.Common.{sym, ap, ◌∙◌, arith, length, take, None}
 use Rattle.pit_plan.proofs.Slots.{with_writes-none, with_writes-more, length-with_writes}
-use Rattle.pit_plan.proofs.plan.write_versions.Goals as goal
+use Rattle.pit_plan.proofs.plan_view.write_versions.Goals as goal
 
 pub loop-block-init : goal.loop-block-init
 loop-block-init g c = sym (with_writes-none (λ w. c.args.number) c.args.versions.now.items)

@@ -1,7 +1,7 @@
 use Rattle.std.proofs.Common.{ℕ, List, [], Option, refl, subst}
 use Rattle.pit_plan.specs.Standing.{IsPlanOf}
 use Rattle.pit_plan.proofs.Slots.{nothing-stands}
-use Rattle.pit_plan.proofs.plan.Plan.empty.Goals as goal
+use Rattle.pit_plan.proofs.plan_view.PlanView.empty.Goals as goal
 
 pub returns-in-Ok-clause-ok : goal.returns-in-Ok-clause-ok
 returns-in-Ok-clause-ok g c = (

@@ -4,7 +4,7 @@ use Rattle.pit_plan.specs.Schedule.{Commit}
 use Rattle.pit_plan.specs.Inside.Limits.{by_cell}
 use Rattle.pit_plan.specs.Standing.{Standing, Adds}
 use Rattle.pit_plan.proofs.Slots.{length-with_writes, with_writes-adds}
-use Rattle.pit_plan.proofs.plan.Plan.apply.Goals as goal
+use Rattle.pit_plan.proofs.plan_view.PlanView.apply.Goals as goal
 
 pub returns-clause-ok : goal.returns-clause-ok
 returns-clause-ok g c =
