@@ -8,7 +8,7 @@ ghost use Rattle.pit_all.specs.declared.out_of_order.OutOfOrder.{OutOfOrder as P
 
 use crate::out_of_order::OutOfOrder;
 use pit_num::NoMemory;
-use pit_plan::{Plan, keeps_order};
+use pit_plan::{PlanView, keeps_order};
 use std::alloc::Allocator;
 use std::marker::Model;
 
@@ -32,14 +32,14 @@ impl<A: Allocator + Drop> Model for Outs<A> {
 
 impl<A: Allocator + Copy + Drop> Outs<A> {
     /// The pairs of a block and its predecessor that are out of order in a plan, rising. Takes the memory of those that are shown.
-    pub fn of(alloc: A, plan: &Plan<A>) -> Result<Outs<A>, NoMemory>
+    pub fn of(alloc: A, plan: &PlanView<A>) -> Result<Outs<A>, NoMemory>
         ensures { IfOk result (λ outs. (commits : List Commit) → IsPlanOf plan.now commits → Counts outs (outs_of plan.now.pit (held_period commits))) }
     {
         let mut outs = Outs {
             first: Vec::new(alloc),
             count: 0,
         };
-        for b in 0..plan.instance().blocks() {
+        for b in 0..plan.deposit().blocks() {
             outs.note_block(plan, b)?;
         }
         Ok(outs)
@@ -60,21 +60,21 @@ impl<A: Allocator + Copy + Drop> Outs<A> {
     }
 
     /// Adds the pairs of a block.
-    fn note_block(&mut self, plan: &Plan<A>, b: u32) -> Result<(), NoMemory>
+    fn note_block(&mut self, plan: &PlanView<A>, b: u32) -> Result<(), NoMemory>
         requires known { b < plan.now.pit.blocks }
         requires room { self.old.count + plan.now.pit.blocks < 2 ^ 64 }
         ensures count { OnOk result (self.new.count ≤ self.old.count + plan.now.pit.blocks) }
         ensures notes { OnOk result ((commits : List Commit) → IsPlanOf plan.now commits
             → Notes self.old (outs_in plan.now.pit (held_period commits) b) self.new) }
     {
-        for a in plan.instance().preds(b) {
+        for a in plan.deposit().preds(b) {
             self.note(plan, b, *a)?;
         }
         Ok(())
     }
 
     /// Adds the pair of a block and its predecessor, where it is out of order.
-    fn note(&mut self, plan: &Plan<A>, b: u32, a: u32) -> Result<(), NoMemory>
+    fn note(&mut self, plan: &PlanView<A>, b: u32, a: u32) -> Result<(), NoMemory>
         requires block { b < plan.now.pit.blocks }
         requires before { a < plan.now.pit.blocks }
         requires room { self.old.count + 1 < 2 ^ 64 }

@@ -5,20 +5,20 @@ ghost use Rattle.pit_plan.specs.Standing.{IsPlanOf};
 ghost use Rattle.pit_all.specs.Breaches.{over_at, overs_in, overs_of};
 
 use pit_num::NoMemory;
-use pit_plan::{Breach, Plan};
+use pit_plan::{Breach, PlanView};
 use std::alloc::Allocator;
 
 /// Each load that is above its limit in force, by rising period, and in it by rising resource. Takes the memory of these, so none where there is
 /// none.
 pub(crate) fn overs<A: Allocator + Copy + Drop>(
     alloc: A,
-    plan: &Plan<A>,
+    plan: &PlanView<A>,
 ) -> Result<Vec<Breach, A>, NoMemory>
     ensures { IfOk result (λ overs. (commits : List Commit) → IsPlanOf plan.now commits
         → overs.items ≡ overs_of plan.now.pit (held_period commits) (limit_of plan.now.pit commits)) }
 {
     let mut overs = Vec::new(alloc);
-    for t in 0..plan.instance().periods() {
+    for t in 0..plan.deposit().periods() {
         push_overs(&mut overs, plan, t)?;
     }
     Ok(overs)
@@ -27,14 +27,14 @@ pub(crate) fn overs<A: Allocator + Copy + Drop>(
 /// Appends the loads of a period.
 fn push_overs<A: Allocator + Copy + Drop>(
     overs: &mut Vec<Breach, A>,
-    plan: &Plan<A>,
+    plan: &PlanView<A>,
     t: u32,
 ) -> Result<(), NoMemory>
     requires { t < plan.now.pit.periods }
     ensures { OnOk result ((commits : List Commit) → IsPlanOf plan.now commits
         → overs.new.items ≡ overs.old.items ++ overs_in plan.now.pit (held_period commits) (limit_of plan.now.pit commits) t) }
 {
-    for r in 0..plan.instance().resources() {
+    for r in 0..plan.deposit().resources() {
         push_over(overs, plan, r, t)?;
     }
     Ok(())
@@ -43,7 +43,7 @@ fn push_overs<A: Allocator + Copy + Drop>(
 /// Appends the load where it is above its limit.
 fn push_over<A: Allocator + Copy + Drop>(
     overs: &mut Vec<Breach, A>,
-    plan: &Plan<A>,
+    plan: &PlanView<A>,
     r: u32,
     t: u32,
 ) -> Result<(), NoMemory>

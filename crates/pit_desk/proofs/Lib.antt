@@ -4,6 +4,7 @@ pub mod Revised
 pub mod Leasts
 pub mod Legal
 pub mod Room
+pub mod Applying
 pub mod OneMore
 pub mod OneReply
 pub mod SomeReply

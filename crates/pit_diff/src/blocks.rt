@@ -6,20 +6,20 @@ ghost use Rattle.pit_diff.specs.Changes.{change_at, changes_of};
 ghost use Rattle.pit_diff.specs.DiffText.{change_text, changes_text};
 
 use pit_num::{Sink, WriteFault, write_text};
-use pit_plan::Plan;
+use pit_plan::PlanView;
 use pit_step::{write_field, write_period};
 use std::alloc::Allocator;
 
 /// A line for each block whose period differs.
 pub(crate) fn write_changes<W: Sink, A: Allocator + Copy + Drop>(
     w: &mut W,
-    old: &Plan<A>,
-    new: &Plan<A>,
+    old: &PlanView<A>,
+    new: &PlanView<A>,
 ) -> Result<(), WriteFault>
     requires { new.now.pit ≡ old.now.pit }
     ensures { OnOk result (Appends (W.contents w.old) (W.contents w.new) (changes_text (changes_of old.now.pit.blocks (period_of old.now) (period_of new.now)))) }
 {
-    for b in 0..old.instance().blocks() {
+    for b in 0..old.deposit().blocks() {
         write_block(w, b, old, new)?;
     }
     Ok(())
@@ -29,8 +29,8 @@ pub(crate) fn write_changes<W: Sink, A: Allocator + Copy + Drop>(
 fn write_block<W: Sink, A: Allocator + Copy + Drop>(
     w: &mut W,
     b: u32,
-    old: &Plan<A>,
-    new: &Plan<A>,
+    old: &PlanView<A>,
+    new: &PlanView<A>,
 ) -> Result<(), WriteFault>
     requires before { b < old.now.pit.blocks }
     requires after { b < new.now.pit.blocks }

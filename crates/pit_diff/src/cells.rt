@@ -8,7 +8,7 @@ ghost use Rattle.pit_diff.specs.DiffText.{by_cell, limit_line, limit_change, loa
 ghost use Rattle.pit_diff.specs.Inside.Cells.{cell_change};
 
 use pit_num::{Sink, WriteFault, write_text};
-use pit_plan::Plan;
+use pit_plan::PlanView;
 use pit_step::{write_amount, write_field, write_limit};
 use std::alloc::Allocator;
 
@@ -23,14 +23,14 @@ pub(crate) enum Quantity {
 pub(crate) fn write_cells<W: Sink, A: Allocator + Copy + Drop>(
     w: &mut W,
     quantity: Quantity,
-    old: &Plan<A>,
-    new: &Plan<A>,
+    old: &PlanView<A>,
+    new: &PlanView<A>,
 ) -> Result<(), WriteFault>
     requires { new.now.pit ≡ old.now.pit }
     ensures { OnOk result ((before after : List Commit) → IsPlanOf old.now before → IsPlanOf new.now after
         → Appends (W.contents w.old) (W.contents w.new) (by_cell old.now.pit (cell_change quantity old.now.pit before after))) }
 {
-    for t in 0..old.instance().periods() {
+    for t in 0..old.deposit().periods() {
         write_cells_in(w, quantity, old, new, t)?;
     }
     Ok(())
@@ -40,8 +40,8 @@ pub(crate) fn write_cells<W: Sink, A: Allocator + Copy + Drop>(
 fn write_cells_in<W: Sink, A: Allocator + Copy + Drop>(
     w: &mut W,
     quantity: Quantity,
-    old: &Plan<A>,
-    new: &Plan<A>,
+    old: &PlanView<A>,
+    new: &PlanView<A>,
     t: u32,
 ) -> Result<(), WriteFault>
     requires same { new.now.pit ≡ old.now.pit }
@@ -49,7 +49,7 @@ fn write_cells_in<W: Sink, A: Allocator + Copy + Drop>(
     ensures { OnOk result ((before after : List Commit) → IsPlanOf old.now before → IsPlanOf new.now after
         → Appends (W.contents w.old) (W.contents w.new) (flat_map (λ r. cell_change quantity old.now.pit before after r t) (range_with_len 0 old.now.pit.resources))) }
 {
-    for r in 0..old.instance().resources() {
+    for r in 0..old.deposit().resources() {
         write_cell(w, quantity, old, new, r, t)?;
     }
     Ok(())
@@ -59,8 +59,8 @@ fn write_cells_in<W: Sink, A: Allocator + Copy + Drop>(
 fn write_cell<W: Sink, A: Allocator + Copy + Drop>(
     w: &mut W,
     quantity: Quantity,
-    old: &Plan<A>,
-    new: &Plan<A>,
+    old: &PlanView<A>,
+    new: &PlanView<A>,
     r: u32,
     t: u32,
 ) -> Result<(), WriteFault>

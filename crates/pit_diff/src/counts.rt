@@ -6,36 +6,40 @@ ghost use Rattle.pit_diff.specs.Changes.{moved};
 ghost use Rattle.pit_diff.specs.Inside.Table.{table_place, table_cell, IsPeriodOrNone, IsTableOf};
 
 use pit_num::NoMemory;
-use pit_plan::Plan;
+use pit_plan::PlanView;
 use std::alloc::Allocator;
 
 /// How many blocks of two plans went from each period to each. Takes the memory of a number for each pair of periods.
 pub(crate) fn counts_of<A: Allocator + Copy + Drop>(
     alloc: A,
-    old: &Plan<A>,
-    new: &Plan<A>,
+    old: &PlanView<A>,
+    new: &PlanView<A>,
 ) -> Result<Vec<u32, A>, NoMemory>
     requires { new.now.pit ≡ old.now.pit }
     ensures counts { IfOk result (λ counts. IsTableOf old.now.pit.periods counts.items (moved old.now.pit.blocks (period_of old.now) (period_of new.now))) }
     ensures len { IfOk result (λ counts. length counts.items ≡ (old.now.pit.periods + 1) * (old.now.pit.periods + 1)) }
 {
-    old.instance().shows_sound();
-    let side = old.instance().periods() as usize + 1;
+    old.deposit().shows_sound();
+    let side = old.deposit().periods() as usize + 1;
     let mut counts = vec![in alloc; 0; side * side]?;
     count_all(&mut counts, old, new);
     Ok(counts)
 }
 
 /// Counts each block.
-fn count_all<A: Allocator + Copy + Drop>(counts: &mut Vec<u32, A>, old: &Plan<A>, new: &Plan<A>)
+fn count_all<A: Allocator + Copy + Drop>(
+    counts: &mut Vec<u32, A>,
+    old: &PlanView<A>,
+    new: &PlanView<A>,
+)
     requires same { new.now.pit ≡ old.now.pit }
     requires len { length counts.old.items ≡ (old.now.pit.periods + 1) * (old.now.pit.periods + 1) }
     requires none { IsTableOf old.now.pit.periods counts.old.items (moved 0 (period_of old.now) (period_of new.now)) }
     ensures len { length counts.new.items ≡ length counts.old.items }
     ensures counts { IsTableOf old.now.pit.periods counts.new.items (moved old.now.pit.blocks (period_of old.now) (period_of new.now)) }
 {
-    let periods = old.instance().periods();
-    for b in 0..old.instance().blocks() {
+    let periods = old.deposit().periods();
+    for b in 0..old.deposit().blocks() {
         count_one(counts, cell(periods, old.period(b), new.period(b)));
     }
 }

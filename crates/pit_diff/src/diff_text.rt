@@ -12,15 +12,15 @@ use crate::cells::{Quantity, write_cells};
 use crate::counts::counts_of;
 use crate::moves::write_moves;
 use pit_num::{NoMemory, Sink, WriteFault, write_text};
-use pit_plan::Plan;
+use pit_plan::PlanView;
 use pit_step::{Status, empty_text, gathered, write_line, write_worth};
 use std::alloc::Allocator;
 
 /// What differs between two plans of one pit. Takes the memory of the text, and of a number for each pair of periods.
 pub(crate) fn text_of<A: Allocator + Copy + Drop>(
     alloc: A,
-    old: &Plan<A>,
-    new: &Plan<A>,
+    old: &PlanView<A>,
+    new: &PlanView<A>,
 ) -> Result<Vec<u8, A>, NoMemory>
     requires { new.now.pit ≡ old.now.pit }
     ensures { IfOk result (λ text. (before after : List Commit) → IsPlanOf old.now before → IsPlanOf new.now after
@@ -35,8 +35,8 @@ pub(crate) fn text_of<A: Allocator + Copy + Drop>(
 /// All lines, where the table has how many blocks went from each period to each.
 fn write_diff<W: Sink, A: Allocator + Copy + Drop>(
     w: &mut W,
-    old: &Plan<A>,
-    new: &Plan<A>,
+    old: &PlanView<A>,
+    new: &PlanView<A>,
     counts: &[u32],
 ) -> Result<(), WriteFault>
     requires same { new.now.pit ≡ old.now.pit }
@@ -45,9 +45,9 @@ fn write_diff<W: Sink, A: Allocator + Copy + Drop>(
     ensures { OnOk result ((before after : List Commit) → IsPlanOf old.now before → IsPlanOf new.now after
         → Appends (W.contents w.old) (W.contents w.new) (diff_text old.now.pit before after)) }
 {
-    old.instance().shows_sound();
+    old.deposit().shows_sound();
     write_changes(w, old, new)?;
-    write_moves(w, old.instance().periods(), counts)?;
+    write_moves(w, old.deposit().periods(), counts)?;
     write_cells(w, Quantity::Limit, old, new)?;
     write_cells(w, Quantity::Load, old, new)?;
     write_value_change(w, old.value(), new.value())

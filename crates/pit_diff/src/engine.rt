@@ -8,9 +8,9 @@ ghost use Rattle.pit_diff.specs.DiffText.{diff_answer};
 ghost use Rattle.pit_diff.specs.Diff.{new_step, schedules_run, diff_run};
 
 use crate::diff_text::{diff_status, text_of};
-use pit_model::Instance;
+use pit_model::Deposit;
 use pit_num::{Sink, Source};
-use pit_plan::Plan;
+use pit_plan::PlanView;
 use pit_state::read_state;
 use pit_step::{CliFault, Input, Status, read_pit, write_answer};
 use std::alloc::{Allocator, Global};
@@ -45,7 +45,7 @@ fn diff_of<A: Allocator + Copy + Drop, O: Source, N: Source, W: Sink>(
     old: &mut O,
     new: &mut N,
     out: &mut W,
-    pit: Instance<A>,
+    pit: Deposit<A>,
 ) -> Result<Status, CliFault>
     ensures { let old_read = reading_of (O.remaining old.old) (O.remaining old.new) (O.has_failed old.new) in
         let new_read = reading_of (N.remaining new.old) (N.remaining new.new) (N.has_failed new.new) in
@@ -63,8 +63,8 @@ fn read_old<A: Allocator + Copy + Drop, O: Source>(
     alloc: A,
     json: Global,
     old: &mut O,
-    pit: Instance<A>,
-) -> Result<(Plan<A>, Instance<A>), CliFault>
+    pit: Deposit<A>,
+) -> Result<(PlanView<A>, Deposit<A>), CliFault>
     ensures { let read = reading_of (O.remaining old.old) (O.remaining old.new) (O.has_failed old.new) in
         MatchResult result
         (λ both. (plan_step Input.Old read).Gives pit both.0 × (both.1 ≡ pit))
@@ -77,10 +77,12 @@ fn read_old<A: Allocator + Copy + Drop, O: Source>(
 }
 
 /// A plan, and its pit once more. Where that is refused, the plan is freed.
-fn with_pit<A: Allocator + Copy + Drop>(plan: Plan<A>) -> Result<(Plan<A>, Instance<A>), CliFault>
+fn with_pit<A: Allocator + Copy + Drop>(
+    plan: PlanView<A>,
+) -> Result<(PlanView<A>, Deposit<A>), CliFault>
     ensures { MatchResult result (λ both. (both.0 ≡ plan) × (both.1 ≡ plan.pit)) (λ fault. fault ≡ CliFault.NoMemory) }
 {
-    let shared = plan.instance().share();
+    let shared = plan.deposit().share();
     match shared {
         Ok(pit) => Ok((plan, pit)),
         Err(_) => {
@@ -94,10 +96,10 @@ fn with_pit<A: Allocator + Copy + Drop>(plan: Plan<A>) -> Result<(Plan<A>, Insta
 fn diff_from<A: Allocator + Copy + Drop, N: Source, W: Sink>(
     alloc: A,
     json: Global,
-    old: Plan<A>,
+    old: PlanView<A>,
     new: &mut N,
     out: &mut W,
-    pit: Instance<A>,
+    pit: Deposit<A>,
 ) -> Result<Status, CliFault>
     requires { old.pit ≡ pit }
     ensures { let new_read = reading_of (N.remaining new.old) (N.remaining new.new) (N.has_failed new.new) in
@@ -115,9 +117,9 @@ fn diff_from<A: Allocator + Copy + Drop, N: Source, W: Sink>(
 fn read_new<A: Allocator + Copy + Drop, N: Source>(
     alloc: A,
     json: Global,
-    old: Plan<A>,
+    old: PlanView<A>,
     new: &mut N,
-    pit: Instance<A>,
+    pit: Deposit<A>,
 ) -> Result<(Vec<u8, A>, Status), CliFault>
     requires { old.pit ≡ pit }
     ensures { let read = reading_of (N.remaining new.old) (N.remaining new.new) (N.has_failed new.new) in
@@ -136,8 +138,8 @@ fn read_new<A: Allocator + Copy + Drop, N: Source>(
 /// What is to be written of two plans, which are freed, and the status that goes with it.
 fn answer_of<A: Allocator + Copy + Drop>(
     alloc: A,
-    old: Plan<A>,
-    new: Plan<A>,
+    old: PlanView<A>,
+    new: PlanView<A>,
 ) -> Result<(Vec<u8, A>, Status), CliFault>
     requires { new.pit ≡ old.pit }
     ensures { MatchResult result

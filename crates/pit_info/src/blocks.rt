@@ -3,11 +3,11 @@ ghost use Rattle.std.specs.Prelude.{◌≡◌, ◌<◌, ◌≤◌, length, cond,
 ghost use Rattle.std.specs.List.{count_by};
 ghost use Rattle.pit_info.specs.Figures.{isnt_zero, has_profit as is_worth, profit_count, coef_count, coefs_at, pair_count, is_root as begins, root_count, highest_of, place_count};
 
-use pit_model::Instance;
+use pit_model::Deposit;
 use std::alloc::Allocator;
 
 /// How many profits aren't 0.
-pub(crate) fn profits<A: Allocator + Copy + Drop>(pit: &Instance<A>) -> u64
+pub(crate) fn profits<A: Allocator + Copy + Drop>(pit: &Deposit<A>) -> u64
     ensures { result ≡ profit_count pit.now }
 {
     let mut count = 0;
@@ -18,7 +18,7 @@ pub(crate) fn profits<A: Allocator + Copy + Drop>(pit: &Instance<A>) -> u64
 }
 
 /// Whether a block has a profit other than 0.
-fn has_profit<A: Allocator + Copy + Drop>(pit: &Instance<A>, b: u32) -> bool
+fn has_profit<A: Allocator + Copy + Drop>(pit: &Deposit<A>, b: u32) -> bool
     requires { b < pit.now.blocks }
     ensures { result ≡ is_worth pit.now b }
 {
@@ -26,7 +26,7 @@ fn has_profit<A: Allocator + Copy + Drop>(pit: &Instance<A>, b: u32) -> bool
 }
 
 /// How many coefficients aren't 0.
-pub(crate) fn coefficients<A: Allocator + Copy + Drop>(pit: &Instance<A>) -> u64
+pub(crate) fn coefficients<A: Allocator + Copy + Drop>(pit: &Deposit<A>) -> u64
     ensures { result ≡ coef_count pit.now }
 {
     let mut count = 0;
@@ -49,7 +49,7 @@ fn coefficients_among(coefs: &[(u32, i64)]) -> u64
 }
 
 /// How many pairs there are of a block and its predecessor.
-pub(crate) fn pairs<A: Allocator + Copy + Drop>(pit: &Instance<A>) -> u64
+pub(crate) fn pairs<A: Allocator + Copy + Drop>(pit: &Deposit<A>) -> u64
     ensures { result ≡ pair_count pit.now }
 {
     let mut count = 0;
@@ -60,7 +60,7 @@ pub(crate) fn pairs<A: Allocator + Copy + Drop>(pit: &Instance<A>) -> u64
 }
 
 /// How many blocks have no predecessor.
-pub(crate) fn roots<A: Allocator + Copy + Drop>(pit: &Instance<A>) -> u64
+pub(crate) fn roots<A: Allocator + Copy + Drop>(pit: &Deposit<A>) -> u64
     ensures { result ≡ root_count pit.now }
 {
     let mut count = 0;
@@ -71,7 +71,7 @@ pub(crate) fn roots<A: Allocator + Copy + Drop>(pit: &Instance<A>) -> u64
 }
 
 /// The highest block that has a predecessor.
-pub(crate) fn highest<A: Allocator + Copy + Drop>(pit: &Instance<A>) -> Option<u32>
+pub(crate) fn highest<A: Allocator + Copy + Drop>(pit: &Deposit<A>) -> Option<u32>
     ensures { result ≡ highest_of pit.now }
 {
     let mut highest = None;
@@ -89,7 +89,7 @@ fn later(highest: Option<u32>, b: u32, is_root: bool) -> Option<u32>
 }
 
 /// Whether a block has no predecessor.
-fn is_root<A: Allocator + Copy + Drop>(pit: &Instance<A>, b: u32) -> bool
+fn is_root<A: Allocator + Copy + Drop>(pit: &Deposit<A>, b: u32) -> bool
     requires { b < pit.now.blocks }
     ensures { result ≡ begins pit.now b }
 {
@@ -97,7 +97,7 @@ fn is_root<A: Allocator + Copy + Drop>(pit: &Instance<A>, b: u32) -> bool
 }
 
 /// How many blocks have a place.
-pub(crate) fn places<A: Allocator + Copy + Drop>(pit: &Instance<A>) -> u64
+pub(crate) fn places<A: Allocator + Copy + Drop>(pit: &Deposit<A>) -> u64
     ensures { result ≡ place_count pit.now }
 {
     let mut count = 0;

@@ -7,11 +7,11 @@ ghost use Rattle.pit_info.specs.Info.{IsHeaded, IsInfo, headed_step, ordered_ste
 use crate::benches::benches_if;
 use crate::info_text::write_info;
 use crate::unknown::unknown_lines;
-use pit_model::{Builder, Instance};
+use pit_model::{Builder, Deposit};
 use pit_num::{NoMemory, Sink, Source};
 use pit_step::{
-    CliFault, Input, Status, builder_of, built, bytes_of, empty_text, gathered, placed, read_order,
-    write_answer,
+    CliFault, Input, Status, builder_of, bytes_of, deposited, empty_text, gathered, placed,
+    read_order, write_answer,
 };
 use std::alloc::Allocator;
 
@@ -150,7 +150,7 @@ fn rendered<A: Allocator + Copy + Drop>(
 ) -> Result<Vec<u8, A>, CliFault>
     ensures { MatchResult result (λ text. IsInfo with_places given unknown.now text.items) (λ fault. fault ≡ CliFault.NoMemory) }
 {
-    let pit = match built(given) {
+    let pit = match deposited(given) {
         Ok(pit) => pit,
         Err(fault) => return Err(fault),
     };
@@ -165,7 +165,7 @@ fn rendered<A: Allocator + Copy + Drop>(
 /// What is to be written of a pit and of the lines of the unknown keys.
 fn text_of<A: Allocator + Copy + Drop>(
     alloc: A,
-    pit: &Instance<A>,
+    pit: &Deposit<A>,
     with_places: bool,
     unknown: &[u8],
 ) -> Result<Vec<u8, A>, NoMemory>

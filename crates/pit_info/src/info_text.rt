@@ -6,7 +6,7 @@ ghost use Rattle.pit_info.specs.InfoText.{count_text, size_text, amounts_text, o
 
 use crate::blocks::{coefficients, highest, pairs, places, profits, roots};
 use crate::limits::{is_limited, lowers, uppers};
-use pit_model::Instance;
+use pit_model::Deposit;
 use pit_num::{Sink, WriteFault, write_text};
 use pit_step::{write_amount, write_field, write_period};
 use std::alloc::Allocator;
@@ -14,7 +14,7 @@ use std::alloc::Allocator;
 /// The lines of a pit, of how many benches it has where that was asked for, of its first limit that can't be met, and those of the unknown keys.
 pub(crate) fn write_info<W: Sink, A: Allocator + Copy + Drop>(
     w: &mut W,
-    pit: &Instance<A>,
+    pit: &Deposit<A>,
     benches: Option<u64>,
     unmeetable: Option<(u32, u32)>,
     unknown: &[u8],
@@ -35,7 +35,7 @@ pub(crate) fn write_info<W: Sink, A: Allocator + Copy + Drop>(
 #[tactic(auto, unfolding(crate::specs::InfoText::size_text))]
 fn write_size<W: Sink, A: Allocator + Copy + Drop>(
     w: &mut W,
-    pit: &Instance<A>,
+    pit: &Deposit<A>,
 ) -> Result<(), WriteFault>
     ensures { OnOk result (Appends (W.contents w.old) (W.contents w.new) (size_text pit.now)) }
 {
@@ -50,7 +50,7 @@ fn write_size<W: Sink, A: Allocator + Copy + Drop>(
 #[tactic(auto, unfolding(crate::specs::InfoText::amounts_text))]
 fn write_amounts<W: Sink, A: Allocator + Copy + Drop>(
     w: &mut W,
-    pit: &Instance<A>,
+    pit: &Deposit<A>,
 ) -> Result<(), WriteFault>
     ensures { OnOk result (Appends (W.contents w.old) (W.contents w.new) (amounts_text pit.now)) }
 {
@@ -64,7 +64,7 @@ fn write_amounts<W: Sink, A: Allocator + Copy + Drop>(
 #[tactic(auto, unfolding(crate::specs::InfoText::order_text))]
 fn write_order<W: Sink, A: Allocator + Copy + Drop>(
     w: &mut W,
-    pit: &Instance<A>,
+    pit: &Deposit<A>,
 ) -> Result<(), WriteFault>
     ensures { OnOk result (Appends (W.contents w.old) (W.contents w.new) (order_text pit.now)) }
 {
@@ -77,7 +77,7 @@ fn write_order<W: Sink, A: Allocator + Copy + Drop>(
 /// The places and the benches, where these were asked for.
 fn write_places<W: Sink, A: Allocator + Copy + Drop>(
     w: &mut W,
-    pit: &Instance<A>,
+    pit: &Deposit<A>,
     benches: Option<u64>,
 ) -> Result<(), WriteFault>
     ensures { OnOk result (Appends (W.contents w.old) (W.contents w.new) (places_text pit.now benches)) }
@@ -92,7 +92,7 @@ fn write_places<W: Sink, A: Allocator + Copy + Drop>(
 /// A line for each resource without an upper limit.
 fn write_unlimited<W: Sink, A: Allocator + Copy + Drop>(
     w: &mut W,
-    pit: &Instance<A>,
+    pit: &Deposit<A>,
 ) -> Result<(), WriteFault>
     ensures { OnOk result (Appends (W.contents w.old) (W.contents w.new) (unlimited_text (unlimited_of pit.now))) }
 {

@@ -1,12 +1,12 @@
 use pit_desk::Entry;
-use pit_model::Instance;
+use pit_model::Deposit;
 use std::alloc::Allocator;
 use std::marker::Model;
 
 /// What edits are read on: a pit, the entries that the merge began with, and whether they are those of a history.
 #[derive(Drop)]
 pub(crate) struct Ground<'g, A: Allocator + Copy + Drop> {
-    pub(crate) pit: &'g Instance<A>,
+    pub(crate) pit: &'g Deposit<A>,
     pub(crate) ours: &'g [Entry<A>],
     pub(crate) is_resumed: bool,
 }

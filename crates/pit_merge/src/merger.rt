@@ -182,7 +182,7 @@ impl<A: Allocator + Copy + Drop> Merger<A> {
         ensures kept { IsDeskKept self.now.merging.desk }
     {
         Ground {
-            pit: self.merging.desk().plan().instance(),
+            pit: self.merging.desk().plan().instance().deposit(),
             ours: &self.merging.desk().history()[..self.ours],
             is_resumed: self.is_resumed,
         }

@@ -1,7 +1,8 @@
-ghost use Rattle.std.specs.Prelude.{◌≡◌, ◌<◌, ◌*◌, ◌^◌, pos, ◌≤ℤ◌, IfOk};
-ghost use Rattle.pit_model.specs.Pit.{IsSound, profit_of, factor_of, coefs_of, preds_of, lower_of, upper_of, cell_of, place_of, AreCoefs, ArePreds};
+ghost use Rattle.std.specs.Prelude.{◌≡◌, ◌<◌, ◌*◌, ◌^◌, pos, ◌≤ℤ◌, IfOk, MatchOption};
+ghost use Rattle.pit_num.specs.Least.{IsLeast};
+ghost use Rattle.pit_model.specs.Pit.{IsSound, profit_of, factor_of, coefs_of, preds_of, lower_of, upper_of, cell_of, place_of, IsUnmeetable, IsFirstUnmeetable, IsMeetable, AreCoefs, ArePreds};
 
-use crate::bounds::Bounds;
+use crate::bounds::{Bounds, is_below_zero};
 use crate::places::Places;
 use crate::predecessors::Predecessors;
 use crate::profits::Profits;
@@ -162,5 +163,30 @@ impl<A: Allocator + Copy + Drop> Deposit<A> {
         ensures { result ≡ place_of self.now b }
     {
         self.tables.places.place(b)
+    }
+
+    /// The first upper bound that is below zero, as its resource and its period: the least such period, and in it the least resource.
+    pub fn unmeetable(&self) -> Option<(u32, u32)>
+        ensures { MatchOption result (IsMeetable self.now) (IsFirstUnmeetable self.now) }
+    {
+        for t in 0..self.periods() {
+            if let Some(r) = self.unmeetable_in(t) {
+                return Some((r, t));
+            }
+        }
+        None
+    }
+
+    /// The least resource whose upper bound in a period is below zero.
+    fn unmeetable_in(&self, t: u32) -> Option<u32>
+        requires { t < self.now.periods }
+        ensures { IsLeast ◌<◌ (λ r. IsUnmeetable self.now (t, r)) result }
+    {
+        for r in 0..self.resources() {
+            if is_below_zero(self.upper(r, t)) {
+                return Some(r);
+            }
+        }
+        None
     }
 }

@@ -1,8 +1,6 @@
 ghost use Rattle.std.specs.Prelude.{◌≡◌, ◌<◌, ◌*◌, ◌^◌, pos, ◌≤ℤ◌, IfOk, MatchOption};
-ghost use Rattle.pit_num.specs.Least.{IsLeast};
-ghost use Rattle.pit_model.specs.Pit.{IsSound, profit_of, factor_of, coefs_of, preds_of, succs_of, lower_of, upper_of, cell_of, place_of, IsUnmeetable, IsFirstUnmeetable, IsMeetable, AreCoefs, ArePreds};
+ghost use Rattle.pit_model.specs.Pit.{IsSound, profit_of, factor_of, coefs_of, preds_of, succs_of, lower_of, upper_of, cell_of, place_of, IsFirstUnmeetable, IsMeetable, AreCoefs, ArePreds};
 
-use crate::bounds::is_below_zero;
 use crate::deposit::Deposit;
 use crate::successors::Successors;
 use pit_keyed::Keys;
@@ -183,24 +181,6 @@ impl<A: Allocator + Copy + Drop> Instance<A> {
     pub fn unmeetable(&self) -> Option<(u32, u32)>
         ensures { MatchOption result (IsMeetable self.now) (IsFirstUnmeetable self.now) }
     {
-        for t in 0..self.periods() {
-            if let Some(r) = self.unmeetable_in(t) {
-                return Some((r, t));
-            }
-        }
-        None
-    }
-
-    /// The least resource whose upper bound in a period is below zero.
-    fn unmeetable_in(&self, t: u32) -> Option<u32>
-        requires { t < self.now.periods }
-        ensures { IsLeast ◌<◌ (λ r. IsUnmeetable self.now (t, r)) result }
-    {
-        for r in 0..self.resources() {
-            if is_below_zero(self.upper(r, t)) {
-                return Some(r);
-            }
-        }
-        None
+        self.deposit.unmeetable()
     }
 }

@@ -5,7 +5,7 @@ ghost use Rattle.pit_step.specs.declared.read.TheConstants.{INPUT_BYTES_MAX};
 ghost use Rattle.pit_show.specs.Show.{IsShown, IsShowFault, show_step, show_run};
 
 use crate::shown::{shown_history, shown_solution};
-use pit_model::Instance;
+use pit_model::Deposit;
 use pit_num::{Sink, Source};
 use pit_state::is_history;
 use pit_step::{CliFault, Input, Status, bytes_of, read_pit, write_answer};
@@ -38,7 +38,7 @@ fn read_shown<A: Allocator + Copy + Drop, S: Source>(
     alloc: A,
     json: Global,
     schedule: &mut S,
-    pit: Instance<A>,
+    pit: Deposit<A>,
     at: Option<u32>,
 ) -> Result<Vec<u8, A>, CliFault>
     ensures { let read = reading_of (S.remaining schedule.old) (S.remaining schedule.new) (S.has_failed schedule.new) in
@@ -58,7 +58,7 @@ fn shown<A: Allocator + Copy + Drop>(
     alloc: A,
     json: Global,
     text: Vec<u8, A>,
-    pit: Instance<A>,
+    pit: Deposit<A>,
     at: Option<u32>,
 ) -> Result<Vec<u8, A>, CliFault>
     requires short { length text.items ≤ INPUT_BYTES_MAX }

@@ -8,7 +8,7 @@ ghost use Rattle.pit_plan.specs.Standing.{IsPlanOf};
 ghost use Rattle.pit_step.specs.LineTexts.{left_text as left_by};
 
 use pit_num::{NoMemory, Sink, WriteFault, write_text};
-use pit_plan::Plan;
+use pit_plan::PlanView;
 use pit_step::{CliFault, empty_text, gathered};
 use pit_text::write_solution;
 use std::alloc::Allocator;
@@ -17,7 +17,7 @@ use std::alloc::Allocator;
 pub(crate) fn left_text<A: Allocator + Copy + Drop>(
     alloc: A,
     comment: &[u8],
-    plan: Plan<A>,
+    plan: PlanView<A>,
 ) -> Result<Vec<u8, A>, CliFault>
     ensures { MatchResult result
         (λ text. (commits : List Commit) → IsPlanOf plan commits → text.items ≡ comment.now ++ left_by plan.pit commits)
@@ -35,7 +35,7 @@ pub(crate) fn left_text<A: Allocator + Copy + Drop>(
 fn text_of<A: Allocator + Copy + Drop>(
     alloc: A,
     comment: &[u8],
-    plan: &Plan<A>,
+    plan: &PlanView<A>,
 ) -> Result<Vec<u8, A>, NoMemory>
     ensures { IfOk result (λ text. (commits : List Commit) → IsPlanOf plan.now commits → text.items ≡ comment.now ++ left_by plan.now.pit commits) }
 {

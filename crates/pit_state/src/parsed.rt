@@ -4,7 +4,7 @@ ghost use Rattle.pit_lines.specs.Lines.{StandsForHistory};
 ghost use Rattle.pit_step.specs.Inputs.{IsSolutionOf, IsSolutionFault, IsScheduleOf, IsHistoryFault};
 
 use pit_desk::Entry;
-use pit_model::Instance;
+use pit_model::Deposit;
 use pit_step::{CliFault, Input, history_of, schedule_of};
 use std::alloc::{Allocator, Global};
 
@@ -26,7 +26,7 @@ pub fn pairs_of<A: Allocator + Copy + Drop>(
     alloc: A,
     file: Input,
     text: Vec<u8, A>,
-    pit: &Instance<A>,
+    pit: &Deposit<A>,
 ) -> Result<Vec<(u32, u32), A>, CliFault>
     ensures result { MatchResult result (λ schedule. IsSolutionOf pit.now text.items schedule.items) (IsSolutionFault file pit.now text.items) }
     ensures fits { IfOk result (λ schedule. IsScheduleOf pit.now schedule.items) }

@@ -7,9 +7,9 @@ ghost use Rattle.pit_state.specs.States.{is_history as history_by, IsPlanRead, I
 use crate::kind::is_history;
 use crate::parsed::{entries_of, pairs_of};
 use crate::plans::{history_plan, schedule_plan};
-use pit_model::Instance;
+use pit_model::Deposit;
 use pit_num::Source;
-use pit_plan::Plan;
+use pit_plan::PlanView;
 use pit_step::{CliFault, Input, bytes_of};
 use std::alloc::{Allocator, Global};
 
@@ -21,8 +21,8 @@ pub fn read_state<A: Allocator + Copy + Drop, S: Source>(
     json: Global,
     schedule: &mut S,
     file: Input,
-    pit: Instance<A>,
-) -> Result<Plan<A>, CliFault>
+    pit: Deposit<A>,
+) -> Result<PlanView<A>, CliFault>
     ensures { let read = reading_of (S.remaining schedule.old) (S.remaining schedule.new) (S.has_failed schedule.new) in
         IsResultOf (plan_step file read) pit result }
 {
@@ -41,8 +41,8 @@ fn state_of<A: Allocator + Copy + Drop>(
     json: Global,
     file: Input,
     text: Vec<u8, A>,
-    pit: Instance<A>,
-) -> Result<Plan<A>, CliFault>
+    pit: Deposit<A>,
+) -> Result<PlanView<A>, CliFault>
     requires short { length text.items ≤ INPUT_BYTES_MAX }
     ensures { MatchResult result (IsPlanRead pit text.items) (IsStateFault file pit text.items) }
 {
@@ -58,8 +58,8 @@ fn history_state<A: Allocator + Copy + Drop>(
     json: Global,
     file: Input,
     text: Vec<u8, A>,
-    pit: Instance<A>,
-) -> Result<Plan<A>, CliFault>
+    pit: Deposit<A>,
+) -> Result<PlanView<A>, CliFault>
     requires short { length text.items ≤ INPUT_BYTES_MAX }
     requires kind { history_by text.items ≡ true }
     ensures { MatchResult result (IsPlanRead pit text.items) (IsStateFault file pit text.items) }
@@ -78,8 +78,8 @@ fn solution_state<A: Allocator + Copy + Drop>(
     alloc: A,
     file: Input,
     text: Vec<u8, A>,
-    pit: Instance<A>,
-) -> Result<Plan<A>, CliFault>
+    pit: Deposit<A>,
+) -> Result<PlanView<A>, CliFault>
     requires kind { history_by text.items ≡ false }
     ensures { MatchResult result (IsPlanRead pit text.items) (IsStateFault file pit text.items) }
 {

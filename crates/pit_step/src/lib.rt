@@ -27,8 +27,9 @@ pub use fields::{write_amount, write_field, write_limit, write_period, write_wor
 pub use input::Input;
 pub use lines::{write_breach, write_breach_words, write_shorts};
 pub use parsed::{
-    builder_of, built, bytes_of, history_of, ordered, placed, read_builder, read_history,
-    read_order, read_ordered_pit, read_pit, read_schedule, schedule_of,
+    builder_of, built, bytes_of, deposited, history_of, ordered, placed, read_builder,
+    read_history, read_order, read_ordered_deposit, read_ordered_pit, read_pit, read_schedule,
+    schedule_of,
 };
 pub use plans::plan_of;
 pub use read::{INPUT_BYTES_MAX, ReadError, read_all};

@@ -4,17 +4,17 @@ ghost use Rattle.pit_plan.specs.Schedule.{commit_of_schedule};
 ghost use Rattle.pit_plan.specs.Standing.{IsPlanOf};
 ghost use Rattle.pit_step.specs.Inputs.{IsScheduleOf};
 
-use pit_model::Instance;
+use pit_model::Deposit;
 use pit_num::NoMemory;
-use pit_plan::{Plan, writes_of};
+use pit_plan::{PlanView, writes_of};
 use std::alloc::Allocator;
 
 /// The plan of a schedule, with its one commit. The pit is freed where memory runs out.
 pub fn plan_of<A: Allocator + Copy + Drop>(
     alloc: A,
-    pit: Instance<A>,
+    pit: Deposit<A>,
     schedule: &[(u32, u32)],
-) -> Result<Plan<A>, NoMemory>
+) -> Result<PlanView<A>, NoMemory>
     requires { IsScheduleOf pit schedule.now }
     ensures { IfOk result (λ plan. (plan.pit ≡ pit) × IsPlanOf plan (commit_of_schedule schedule.now ∷ [])) }
 {
@@ -22,7 +22,7 @@ pub fn plan_of<A: Allocator + Copy + Drop>(
         drop(pit);
         return Err(NoMemory);
     };
-    match Plan::empty(alloc, pit) {
+    match PlanView::empty(alloc, pit) {
         Ok(plan) => applied(plan, &writes),
         Err((pit, no_memory)) => {
             drop(pit);
@@ -33,9 +33,9 @@ pub fn plan_of<A: Allocator + Copy + Drop>(
 
 /// A plan with no commit yet, and then with one of writes alone.
 fn applied<A: Allocator + Copy + Drop>(
-    mut plan: Plan<A>,
+    mut plan: PlanView<A>,
     writes: &[(u32, Option<u32>)],
-) -> Result<Plan<A>, NoMemory>
+) -> Result<PlanView<A>, NoMemory>
     requires none { IsPlanOf plan [] }
     requires fits { Fits plan.pit.blocks plan.pit.periods writes.now }
     ensures value { IfOk result (λ answer. (answer.pit ≡ plan.pit) × IsPlanOf answer (record { writes = writes.now; revises = [] } ∷ [])) }

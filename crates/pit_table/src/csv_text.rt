@@ -13,13 +13,13 @@ ghost use Rattle.pit_table.specs.Inside.OfCommits.{IsOfCommits};
 
 use crate::mined::Mined;
 use pit_num::{Sink, WriteFault, write_micro, write_text, write_value, write_whole};
-use pit_plan::Plan;
+use pit_plan::PlanView;
 use std::alloc::Allocator;
 
 /// The names of the columns, and a row for each period.
 pub(crate) fn write_table<W: Sink, A: Allocator + Copy + Drop>(
     w: &mut W,
-    plan: &Plan<A>,
+    plan: &PlanView<A>,
     mined: &[Mined],
 ) -> Result<(), WriteFault>
     requires left { IsOfCommits plan.now }
@@ -27,7 +27,7 @@ pub(crate) fn write_table<W: Sink, A: Allocator + Copy + Drop>(
     ensures { OnOk result ((commits : List Commit) → IsPlanOf plan.now commits
         → Appends (W.contents w.old) (W.contents w.new) (table_text plan.now.pit (held_period commits) (limit_of plan.now.pit commits))) }
 {
-    write_names(w, plan.instance().resources())?;
+    write_names(w, plan.deposit().resources())?;
     write_rows(w, plan, mined)
 }
 
@@ -71,7 +71,7 @@ fn write_name<W: Sink>(w: &mut W, word: &[u8], r: u32) -> Result<(), WriteFault>
 /// A row for each period.
 fn write_rows<W: Sink, A: Allocator + Copy + Drop>(
     w: &mut W,
-    plan: &Plan<A>,
+    plan: &PlanView<A>,
     mined: &[Mined],
 ) -> Result<(), WriteFault>
     requires left { IsOfCommits plan.now }
@@ -80,9 +80,9 @@ fn write_rows<W: Sink, A: Allocator + Copy + Drop>(
         → Appends (W.contents w.old) (W.contents w.new)
         (flat_map (λ t. row_text (row_cells (row_of plan.now.pit (held_period commits) (limit_of plan.now.pit commits) t))) (range_with_len 0 plan.now.pit.periods))) }
 {
-    plan.instance().shows_sound();
+    plan.deposit().shows_sound();
     let mut cumulative: i128 = 0;
-    for t in 0..plan.instance().periods() {
+    for t in 0..plan.deposit().periods() {
         cumulative = plus(cumulative, mined[t as usize].value);
         write_row(w, plan, t, mined[t as usize], cumulative)?;
     }
@@ -100,7 +100,7 @@ fn plus(sum: i128, term: i128) -> i128
 /// The row of a period, with what is mined in it and what is earned up to it.
 fn write_row<W: Sink, A: Allocator + Copy + Drop>(
     w: &mut W,
-    plan: &Plan<A>,
+    plan: &PlanView<A>,
     t: u32,
     mined: Mined,
     cumulative: i128,
@@ -139,7 +139,7 @@ fn write_worth_cell<W: Sink>(w: &mut W, value: i128) -> Result<(), WriteFault>
 /// The cells of each resource in a period.
 fn write_loadings<W: Sink, A: Allocator + Copy + Drop>(
     w: &mut W,
-    plan: &Plan<A>,
+    plan: &PlanView<A>,
     t: u32,
 ) -> Result<(), WriteFault>
     requires left { IsOfCommits plan.now }
@@ -148,7 +148,7 @@ fn write_loadings<W: Sink, A: Allocator + Copy + Drop>(
         → Appends (W.contents w.old) (W.contents w.new)
         (behind_commas (flat_map (λ r. loading_cells (loading_of plan.now.pit (held_period commits) (limit_of plan.now.pit commits) t r)) (range_with_len 0 plan.now.pit.resources)))) }
 {
-    for r in 0..plan.instance().resources() {
+    for r in 0..plan.deposit().resources() {
         write_loading_of(w, plan, r, t)?;
     }
     Ok(())
@@ -157,7 +157,7 @@ fn write_loadings<W: Sink, A: Allocator + Copy + Drop>(
 /// The cells of a resource in a period.
 fn write_loading_of<W: Sink, A: Allocator + Copy + Drop>(
     w: &mut W,
-    plan: &Plan<A>,
+    plan: &PlanView<A>,
     r: u32,
     t: u32,
 ) -> Result<(), WriteFault>
@@ -168,8 +168,8 @@ fn write_loading_of<W: Sink, A: Allocator + Copy + Drop>(
         → Appends (W.contents w.old) (W.contents w.new)
         (behind_commas (loading_cells (loading_of plan.now.pit (held_period commits) (limit_of plan.now.pit commits) t r)))) }
 {
-    plan.instance().shows_sound();
-    let lower = plan.instance().lower(r, t);
+    plan.deposit().shows_sound();
+    let lower = plan.deposit().lower(r, t);
     let upper = plan.limit(r, t);
     write_loading(w, plan.load(r, t), lower, upper)
 }

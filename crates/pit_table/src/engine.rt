@@ -11,9 +11,9 @@ ghost use Rattle.pit_table.specs.Inside.OfCommits.{IsOfCommits};
 
 use crate::csv_text::write_table;
 use crate::mined::by_period;
-use pit_model::Instance;
+use pit_model::Deposit;
 use pit_num::{Sink, Source};
-use pit_plan::Plan;
+use pit_plan::PlanView;
 use pit_state::read_state;
 use pit_step::{CliFault, Input, Status, empty_text, gathered, read_pit, write_answer};
 use std::alloc::{Allocator, Global};
@@ -47,7 +47,7 @@ fn read_table<A: Allocator + Copy + Drop, S: Source>(
     alloc: A,
     json: Global,
     schedule: &mut S,
-    pit: Instance<A>,
+    pit: Deposit<A>,
 ) -> Result<Vec<u8, A>, CliFault>
     ensures { let read = reading_of (S.remaining schedule.old) (S.remaining schedule.new) (S.has_failed schedule.new) in
         MatchResult result
@@ -61,7 +61,7 @@ fn read_table<A: Allocator + Copy + Drop, S: Source>(
 }
 
 /// The text of the table of a plan.
-fn table_of<A: Allocator + Copy + Drop>(alloc: A, plan: &Plan<A>) -> Result<Vec<u8, A>, CliFault>
+fn table_of<A: Allocator + Copy + Drop>(alloc: A, plan: &PlanView<A>) -> Result<Vec<u8, A>, CliFault>
     requires { IsOfCommits plan.now }
     ensures { MatchResult result
         (λ text. (commits : List Commit) → IsPlanOf plan.now commits → (text.items, Fine) ≡ table_answer plan.now.pit commits)

@@ -5,9 +5,9 @@ ghost use Rattle.pit_plan.specs.Schedule.{earned_in};
 ghost use Rattle.pit_plan.specs.Standing.{period_of};
 ghost use Rattle.pit_table.specs.Inside.Mined.{AreMined};
 
-use pit_model::Instance;
+use pit_model::Deposit;
 use pit_num::NoMemory;
-use pit_plan::Plan;
+use pit_plan::PlanView;
 use std::alloc::Allocator;
 
 /// How many blocks are in a period, and what they earn there, in units of 10^-18.
@@ -20,7 +20,7 @@ pub(crate) struct Mined {
 /// What a plan mines in each period. Takes the memory of one item for each period.
 pub(crate) fn by_period<A: Allocator + Copy + Drop>(
     alloc: A,
-    plan: &Plan<A>,
+    plan: &PlanView<A>,
 ) -> Result<Vec<Mined, A>, NoMemory>
     ensures { IfOk result (λ mined. AreMined plan.now.pit (period_of plan.now) plan.now.pit.blocks mined.items) }
 {
@@ -28,29 +28,29 @@ pub(crate) fn by_period<A: Allocator + Copy + Drop>(
         blocks: 0,
         value: 0,
     };
-    let mut mined = vec![in alloc; nothing; plan.instance().periods() as usize]?;
-    for b in 0..plan.instance().blocks() {
+    let mut mined = vec![in alloc; nothing; plan.deposit().periods() as usize]?;
+    for b in 0..plan.deposit().blocks() {
         add_block(&mut mined, plan, b);
     }
     Ok(mined)
 }
 
 /// Adds a block to the period that it is in, if there is one.
-fn add_block<A: Allocator + Copy + Drop>(mined: &mut Vec<Mined, A>, plan: &Plan<A>, b: u32)
+fn add_block<A: Allocator + Copy + Drop>(mined: &mut Vec<Mined, A>, plan: &PlanView<A>, b: u32)
     requires known { b < plan.now.pit.blocks }
     requires before { AreMined plan.now.pit (period_of plan.now) b mined.old.items }
     ensures { AreMined plan.now.pit (period_of plan.now) (b + 1) mined.new.items }
 {
-    plan.instance().shows_sound();
+    plan.deposit().shows_sound();
     let Some(t) = plan.period(b) else {
         return;
     };
-    let earned = earned(plan.instance(), b, t);
+    let earned = earned(plan.deposit(), b, t);
     mined[t as usize] = with_block(mined[t as usize], earned);
 }
 
 /// What a block earns in a period.
-fn earned<A: Allocator + Copy + Drop>(pit: &Instance<A>, b: u32, t: u32) -> i128
+fn earned<A: Allocator + Copy + Drop>(pit: &Deposit<A>, b: u32, t: u32) -> i128
     requires known { b < pit.now.blocks }
     requires period { t < pit.now.periods }
     ensures { result ≡ earned_in pit.now b (Some t) }

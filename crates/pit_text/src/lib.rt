@@ -22,6 +22,6 @@ pub use laws::{limits_are_tightest, no_fault_wants_memory, one_result};
 pub use model::{Key, Section, SectionFact, key_of, read_model, section_of, upper_bound};
 pub use number::is_ascii;
 pub use precedence::read_precedence;
-pub use solution::read_solution;
+pub use solution::{read_solution, read_solution_of};
 pub use solution_text::write_solution;
 pub use table::look_up;

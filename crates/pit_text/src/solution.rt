@@ -12,7 +12,7 @@ use super::cutting::{Fields, Lines};
 use super::error::{Cause, Fault, TextError};
 use super::model::Key;
 use super::number::{decimal, whole};
-use pit_model::{BuildError, Instance};
+use pit_model::{BuildError, Deposit, Instance};
 use pit_num::NoMemory;
 use std::alloc::Allocator;
 
@@ -29,7 +29,23 @@ pub fn read_solution<A: Allocator + Copy + Drop>(
         ⊎ NamesFault cause_of (FailsFirst judge (cut_of text.now) fault.line) fault.cause) }
     ensures fits { IfOk result (λ solution. IsSchedule instance.now.blocks instance.now.periods solution.items) }
 {
-    let (slots, end) = read_slots(alloc, text, instance.blocks(), instance.periods())?;
+    read_solution_of(alloc, text, instance.deposit())
+}
+
+/// The same of a pit without successors.
+pub fn read_solution_of<A: Allocator + Copy + Drop>(
+    alloc: A,
+    text: &[u8],
+    pit: &Deposit<A>,
+) -> Result<Vec<(u32, u32), A>, TextError>
+    ensures result { let judge = solution_line pit.now.blocks pit.now.periods in MatchResult result
+        (λ solution. (facts : List (Option (ℕ × ℕ))) × StandsFor judge (cut_of text.now) facts
+        × (solution.items ≡ schedule_of pit.now.blocks (period_in facts)))
+        (λ fault. ((fault.cause ≡ Cause.NoMemory) × SolutionStops pit.now.blocks pit.now.periods (cut_of text.now) (end_line text.now) fault.line)
+        ⊎ FailsFirst judge (cut_of text.now) fault.line fault.cause) }
+    ensures fits { IfOk result (λ solution. IsSchedule pit.now.blocks pit.now.periods solution.items) }
+{
+    let (slots, end) = read_slots(alloc, text, pit.blocks(), pit.periods())?;
     match schedule_of(alloc, &slots) {
         Ok(solution) => Ok(solution),
         Err(_) => Err(TextError {

@@ -17,4 +17,4 @@ unfolding overs_of
 returns g c = λ commits stands.
     c.loop-t.invariant commits stands
     ∙ ap (λ (n : ℕ). flat_map (overs_in c.args.plan.now.pit (held_period commits) (limit_of c.args.plan.now.pit commits)) (range_with_len 0 n))
-    (let same = ap (λ (p : Pit). p.periods) c.instance.ensures in omega (arith, same, c.loop-t-test.false, c.loop-t.auto.t-end, c.periods-t-end.ensures))
+    (let same = ap (λ (p : Pit). p.periods) c.deposit.ensures in omega (arith, same, c.loop-t-test.false, c.loop-t.auto.t-end, c.periods-t-end.ensures))

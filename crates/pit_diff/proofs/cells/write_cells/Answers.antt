@@ -21,4 +21,4 @@ returns g c = λ before after stands also.
     let pit = c.args.old.now.pit in
     let row : ℕ → List ℕ = λ (t : ℕ). flat_map (λ (r : ℕ). cell_change c.args.quantity pit before after r t) (range_with_len 0 pit.resources) in
     subst (λ (n : ℕ). Appends (g.W.Sink.contents c.args.w.now) (g.W.Sink.contents c.loop-t.w) (flat_map row (range_with_len 0 n)))
-    (let same = ap (λ (p : Pit). p.periods) c.instance.ensures in omega (arith, same, c.loop-t-test.false, c.loop-t.auto.t-end, c.periods-t-end.ensures)) (c.loop-t.invariant before after stands also)
+    (let same = ap (λ (p : Pit). p.periods) c.deposit.ensures in omega (arith, same, c.loop-t-test.false, c.loop-t.auto.t-end, c.periods-t-end.ensures)) (c.loop-t.invariant before after stands also)

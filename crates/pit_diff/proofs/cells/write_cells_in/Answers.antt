@@ -17,4 +17,4 @@ pub returns : goal.returns
 returns g c = λ before after stands also.
     let piece : ℕ → List ℕ = λ (r : ℕ). cell_change c.args.quantity c.args.old.now.pit before after r c.args.t in
     subst (λ (n : ℕ). Appends (g.W.Sink.contents c.args.w.now) (g.W.Sink.contents c.loop-r.w) (flat_map piece (range_with_len 0 n)))
-    (let same = ap (λ (p : Pit). p.resources) c.instance.ensures in omega (arith, same, c.loop-r-test.false, c.loop-r.auto.r-end, c.resources-r-end.ensures)) (c.loop-r.invariant before after stands also)
+    (let same = ap (λ (p : Pit). p.resources) c.deposit.ensures in omega (arith, same, c.loop-r-test.false, c.loop-r.auto.r-end, c.resources-r-end.ensures)) (c.loop-r.invariant before after stands also)

@@ -9,8 +9,8 @@ count_one-requires-clause-room g c =
     let old = c.args.old.now in
     let new = c.args.new.now in
     let same = ap (λ (p : Pit). p.periods) c.requires.same in
-    let given = c.periods-periods.ensures ∙ ap (λ (p : Pit). p.periods) c.instance.ensures in
-    let blocks = ap (λ (p : Pit). p.blocks) c.instance-2.ensures in
+    let given = c.periods-periods.ensures ∙ ap (λ (p : Pit). p.periods) c.deposit.ensures in
+    let blocks = ap (λ (p : Pit). p.blocks) c.deposit-2.ensures in
     let cell = cell-is c.cell.result c.periods-periods.result old.pit.periods c.period.result c.period-in-loop-b.result (period_of old c.loop-b.b) (period_of new c.loop-b.b) c.cell.ensures.is given c.period.ensures.period c.period-in-loop-b.ensures.period in
     let few =
     table_number-few (period_of old) (period_of new) old.pit.periods c.loop-b.counts.items c.loop-b.b c.cell.result (is-period old.pit.periods old.pit.periods c.period.result (period_of old c.loop-b.b) c.period.ensures.in_range refl c.period.ensures.period)
@@ -22,7 +22,7 @@ loop-b-preserved g c =
     let old = c.args.old.now in
     let new = c.args.new.now in
     let same = ap (λ (p : Pit). p.periods) c.requires.same in
-    let given = c.periods-periods.ensures ∙ ap (λ (p : Pit). p.periods) c.instance.ensures in
+    let given = c.periods-periods.ensures ∙ ap (λ (p : Pit). p.periods) c.deposit.ensures in
     let cell = cell-is c.cell.result c.periods-periods.result old.pit.periods c.period.result c.period-in-loop-b.result (period_of old c.loop-b.b) (period_of new c.loop-b.b) c.cell.ensures.is given c.period.ensures.period c.period-in-loop-b.ensures.period in
     let within : c.cell.result < length c.loop-b.counts.items = search rules in (
       search rules,

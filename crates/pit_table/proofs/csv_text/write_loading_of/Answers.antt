@@ -15,7 +15,7 @@ pub write_loading-requires : goal.write_loading-requires
 write_loading-requires g c =
     let small : IfSome c.limit-upper.result (λ z. FitsSigned w64 z) = search rules in
     rw (to_z-of_z w128 c.load.result (search rules))
-    (room-fits c.args.plan.now.pit (held_period c.requires.left.commits) c.args.r c.args.t c.load.result c.limit-upper.result (subst IsSound c.instance.ensures c.shows_sound.ensures)
+    (room-fits c.args.plan.now.pit (held_period c.requires.left.commits) c.args.r c.args.t c.load.result c.limit-upper.result (subst IsSound c.deposit.ensures c.shows_sound.ensures)
     (c.load.ensures c.requires.left.commits c.requires.left.leaves) small)
 
 pub returns : goal.returns
@@ -29,6 +29,6 @@ returns g c =
     (λ after commits stands.
     subst (λ (loading : Loading). Appends start end (behind_commas (loading_cells loading)))
     (loading-same pit (held_period commits) (limit_of pit commits) t r _ c.lower-lower.result c.limit-upper.result (to_z-of_z w128 c.load.result (search rules) ∙ c.load.ensures commits stands)
-    (c.lower-lower.ensures ∙ ap (λ (p : Pit). lower_of p r t) c.instance-2.ensures) (c.limit-upper.ensures ∙ stands.limit r t c.requires.resource c.requires.period))
+    (c.lower-lower.ensures ∙ ap (λ (p : Pit). lower_of p r t) c.deposit-2.ensures) (c.limit-upper.ensures ∙ stands.limit r t c.requires.resource c.requires.period))
     after)
     c.write_loading.ensures

@@ -22,7 +22,7 @@ loop-r-preserved g c = λ commits stands.
 
 pub returns : goal.returns
 returns g c = λ commits stands.
-    let same = ap (λ (p : Pit). p.resources) c.instance.ensures in
+    let same = ap (λ (p : Pit). p.resources) c.deposit.ensures in
     subst
     (λ (n : ℕ). Appends (g.W.Sink.contents c.args.w.now) (g.W.Sink.contents c.loop-r.w) (behind_commas (flat_map (λ r. loading_cells (loading_of c.args.plan.now.pit (held_period commits) (limit_of c.args.plan.now.pit commits) c.args.t r)) (range_with_len 0 n))))
     (omega (arith, same, c.loop-r-test.false, c.loop-r.auto.r-end, c.resources-r-end.ensures)) (c.loop-r.invariant commits stands)

@@ -26,10 +26,10 @@ plus-cumulative-requires g c =
     let pit = c.args.plan.now.pit in
     let mined = c.args.mined.now in
     let t = c.loop-t.t in
-    let same = ap (λ (p : Pit). p.periods) c.instance-2.ensures in
+    let same = ap (λ (p : Pit). p.periods) c.deposit-2.ensures in
     let below : t < pit.periods = omega (arith, same, c.loop-t-test.true, c.periods-t-end.ensures) in
     rw (c.loop-t.invariant.0, to_z-of_z w128 (mined_at mined t).value (search rules))
-    (earned-fits pit (period_of c.args.plan.now) mined c.requires.mined t (subst IsSound c.instance.ensures c.shows_sound.ensures) below)
+    (earned-fits pit (period_of c.args.plan.now) mined c.requires.mined t (subst IsSound c.deposit.ensures c.shows_sound.ensures) below)
 
 pub loop-t-preserved : goal.loop-t-preserved
 loop-t-preserved g c =
@@ -39,7 +39,7 @@ loop-t-preserved g c =
     let start = g.W.Sink.contents c.args.w.now in
     let before = g.W.Sink.contents c.loop-t.w in
     let end = g.W.Sink.contents c.write_row.new.w in
-    let same = ap (λ (p : Pit). p.periods) c.instance-2.ensures in
+    let same = ap (λ (p : Pit). p.periods) c.deposit-2.ensures in
     let below : t < pit.periods = omega (arith, same, c.loop-t-test.true, c.periods-t-end.ensures) in
     let term : to_z w128 (of_z w128 (mined_at mined t).value) ≡ (mined_at mined t).value = to_z-of_z w128 (mined_at mined t).value (search rules) in
     let more = total-more (λ u. (mined_at mined u).value) t in
@@ -60,7 +60,7 @@ loop-t-preserved g c =
 pub returns : goal.returns
 returns g c = λ commits stands.
     let pit = c.args.plan.now.pit in
-    let same = ap (λ (p : Pit). p.periods) c.instance-2.ensures in
+    let same = ap (λ (p : Pit). p.periods) c.deposit-2.ensures in
     subst
     (λ (n : ℕ). Appends (g.W.Sink.contents c.args.w.now) (g.W.Sink.contents c.loop-t.w) (flat_map (λ t. row_text (row_cells (row_of pit (held_period commits) (limit_of pit commits) t))) (range_with_len 0 n)))
     (omega (arith, same, c.loop-t-test.false, c.loop-t.auto.t-end, c.periods-t-end.ensures)) (c.loop-t.invariant.1 commits stands)

@@ -20,5 +20,5 @@ returns g c =
     (λ after commits stands.
     subst (λ (xs : List ℕ). Appends start end xs) (table-pieces pit (held_period commits) (limit_of pit commits))
     (appends_more start first end (row_text (name_cells pit.resources)) (flat_map (λ t. row_text (row_cells (row_of pit (held_period commits) (limit_of pit commits) t))) (range_with_len 0 pit.periods))
-    (subst (λ (n : ℕ). Appends start first (row_text (name_cells n))) (c.resources.ensures ∙ ap (λ (p : Pit). p.resources) c.instance.ensures) c.in_ok-write_names.ensures) (after commits stands)))
+    (subst (λ (n : ℕ). Appends start first (row_text (name_cells n))) (c.resources.ensures ∙ ap (λ (p : Pit). p.resources) c.deposit.ensures) c.in_ok-write_names.ensures) (after commits stands)))
     c.write_rows.ensures

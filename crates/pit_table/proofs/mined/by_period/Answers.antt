@@ -14,5 +14,5 @@ loop-b-init g c =
 
 pub returns : goal.returns
 returns g c =
-    let same = ap (λ (p : Pit). p.blocks) c.instance-2.ensures in
+    let same = ap (λ (p : Pit). p.blocks) c.deposit-2.ensures in
     subst (λ (n : ℕ). AreMined c.args.plan.now.pit (period_of c.args.plan.now) n c.loop-b.mined.items) (omega (arith, same, c.loop-b-test.false, c.loop-b.auto.b-end, c.blocks-b-end.ensures.count)) c.loop-b.invariant

@@ -11,8 +11,8 @@ use Rattle.pit_all.proofs.outs.Outs.note_block.Goals as goal
 
 pub note-requires-clause-room : goal.note-requires-clause-room
 note-requires-clause-room g c =
-    let few = few-preds c.instance.result.now.blocks c.args.b c.preds-a-items.result.now c.preds-a-items.ensures.sound in
-    let same = ap (λ (p : Pit). p.blocks) c.instance.ensures in
+    let few = few-preds c.deposit.result.now.blocks c.args.b c.preds-a-items.result.now c.preds-a-items.ensures.sound in
+    let same = ap (λ (p : Pit). p.blocks) c.deposit.ensures in
     omega (arith, few, same, c.loop-a.invariant.0, c.loop-a-test.true, c.requires.room)
 
 pub loop-a-preserved : goal.loop-a-preserved
@@ -25,12 +25,12 @@ loop-a-preserved g c = (
 
 pub returns-clause-count : goal.returns-clause-count
 returns-clause-count g c =
-    let few = few-preds c.instance.result.now.blocks c.args.b c.preds-a-items.result.now c.preds-a-items.ensures.sound in
-    let same = ap (λ (p : Pit). p.blocks) c.instance.ensures in
+    let few = few-preds c.deposit.result.now.blocks c.args.b c.preds-a-items.result.now c.preds-a-items.ensures.sound in
+    let same = ap (λ (p : Pit). p.blocks) c.deposit.ensures in
     omega (arith, few, same, c.loop-a.invariant.0, c.loop-a.auto.a-index-end)
 
 pub returns-clause-notes : goal.returns-clause-notes
 returns-clause-notes g c = λ commits stands.
     subst (λ (preds : List ℕ). Notes c.args.self.now (flat_map (out_at (held_period commits) c.args.b) preds) c.loop-a.self)
-    (take_all c.loop-a.a-index c.preds-a-items.result.now (omega (arith, c.loop-a-test.false)) ∙ c.preds-a-items.ensures.value ∙ ap (λ (p : Pit). preds_of p c.args.b) c.instance.ensures)
+    (take_all c.loop-a.a-index c.preds-a-items.result.now (omega (arith, c.loop-a-test.false)) ∙ c.preds-a-items.ensures.value ∙ ap (λ (p : Pit). preds_of p c.args.b) c.deposit.ensures)
     (c.loop-a.invariant.1 commits stands)

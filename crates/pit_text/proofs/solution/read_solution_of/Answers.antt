@@ -6,7 +6,7 @@ use Rattle.pit_text.specs.Solution.{schedule_of, period_in, solution_line}
 use Rattle.pit_text.specs.Inside.Solution.{AreSlots}
 use Rattle.pit_text.proofs.Standing.{schedule_of-slots, slots-some}
 use Rattle.pit_text.proofs.Solutions.{period-range, schedule_of-is_schedule}
-use Rattle.pit_text.proofs.solution.read_solution.Goals as goal
+use Rattle.pit_text.proofs.solution.read_solution_of.Goals as goal
 
 -- the lines, for the pit's own numbers
 stands_of : (text : List ℕ) (b blocks p periods : ℕ) (facts : List (Option (ℕ × ℕ))) → b ≡ blocks → p ≡ periods → StandsFor (solution_line b p) (cut_of text) facts → StandsFor (solution_line blocks periods) (cut_of text) facts
@@ -25,7 +25,7 @@ by_slots b blocks slots seen facts solution same_blocks are same made =
 pub returns-in-Ok-clause-result : goal.returns-in-Ok-clause-result
 returns-in-Ok-clause-result g c =
     let read = c.in_ok-slots.ensures in
-    let pit = c.args.instance.now in (
+    let pit = c.args.pit.now in (
       read.0,
       stands_of c.args.text.now _ pit.blocks _ pit.periods read.0 c.blocks-2.ensures.count c.periods.ensures read.1,
       by_slots _ pit.blocks c.in_ok-slots.slots.items c.deref.result.now read.0 c.in-Ok.solution.items c.blocks-2.ensures.count read.2 c.deref.ensures.value c.in-Ok.ensures.solution,
@@ -34,7 +34,7 @@ returns-in-Ok-clause-result g c =
 pub returns-in-Ok-clause-fits : goal.returns-in-Ok-clause-fits
 returns-in-Ok-clause-fits g c =
     let read = c.in_ok-slots.ensures in
-    let pit = c.args.instance.now in
+    let pit = c.args.pit.now in
     let stands = stands_of c.args.text.now _ pit.blocks _ pit.periods read.0 c.blocks-2.ensures.count c.periods.ensures read.1 in
     let is = by_slots _ pit.blocks c.in_ok-slots.slots.items c.deref.result.now read.0 c.in-Ok.solution.items c.blocks-2.ensures.count read.2 c.deref.ensures.value c.in-Ok.ensures.solution in
     subst (λ (ps : List (ℕ × ℕ)). IsSchedule pit.blocks pit.periods ps) (sym is)
@@ -43,7 +43,7 @@ returns-in-Ok-clause-fits g c =
 pub returns-clause-result : goal.returns-clause-result
 returns-clause-result g c =
     let read = c.in_ok-slots.ensures in
-    let pit = c.args.instance.now in
+    let pit = c.args.pit.now in
     let scheduled = c.in-Err.ensures.memory in
     let some = subst (λ (os : List (Option ℕ)). IsSome (slice_index_or os scheduled.0 None)) c.deref.ensures.value scheduled.1 in
     inl (

@@ -3,7 +3,7 @@ use Rattle.std.proofs.lemmas.Bool.{cases_Bool}
 use Rattle.pit_num.specs.Least.{IsLeast}
 use Rattle.pit_num.proofs.CallerLemmas.{rows-more, least-row}
 use Rattle.pit_model.specs.Pit.{IsUnmeetable, is_below_zero, upper_of}
-use Rattle.pit_model.proofs.instance.Instance.unmeetable.Goals as goal
+use Rattle.pit_model.proofs.deposit.Deposit.unmeetable.Goals as goal
 
 pub returns-in-Some : goal.returns-in-Some
 returns-in-Some g c =
