@@ -44,7 +44,7 @@ returns-clause-done g c =
     (c.deref.ensures.value ∙ c.in-Ok-reported.ensures
     ∙ ap (λ (p : Prepared). new_line p.is_new ++ merge_report c.merging-merging.result.now.desk.plan.pit (commits_of c.merging-merging.result.now.desk.history) c.merging-merging.result.now.lines) c.input.view_is
     ∙ ap (λ (m : Merging). new_line c.args.input.is_new ++ merge_report m.desk.plan.pit (commits_of m.desk.history) m.lines) is)
-    (λ there. c.deref-2.ensures.value ∙ c.in-Ok-lines_if.ensures (c.is_some.ensures ∙ was_there _ c.args.history.now c.write_outputs.new.history there)
+    (λ there. c.deref-2.ensures.value ∙ c.in-Ok-lines_if.ensures.text (c.is_some.ensures ∙ was_there _ c.args.history.now c.write_outputs.new.history there)
     ∙ ap (λ (es : List Answered). history_text es) (c.history.ensures.history ∙ ap (λ (d : State). d.history) desk_is))
     (ap (λ (s : Status). Ok s) (c.status_of.ensures ∙ ap (λ (b : Bool). merge_status b) (c.is_whole.ensures ∙ ap (λ (m : Merging). m.is_whole) is)))
     c.write_outputs.ensures.written)
