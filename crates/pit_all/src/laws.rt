@@ -10,6 +10,7 @@ ghost use Rattle.pit_step.specs.Devices.{Reading, Writing};
 ghost use Rattle.pit_all.specs.Breaches.{breaches_of, first_of};
 ghost use Rattle.pit_all.specs.AllText.{all_answer};
 ghost use Rattle.pit_all.specs.CheckAll.{check_all_run};
+ghost use Rattle.pit_all.specs.declared.outs.TheConstants.{PAIRS_SHOWN};
 
 use pit_lines::laws::{one_history, one_result};
 use pit_step::CliFault;
@@ -30,3 +31,8 @@ pub fn one_outcome()
     one_history();
     one_result();
 }
+
+/// A law of pairs out of order, in numbers: the first 1,000 are shown.
+pub fn pair_limit()
+    ensures { PAIRS_SHOWN ≡ 1000 }
+{}

@@ -13,6 +13,6 @@ mod outs;
 mod overs;
 
 pub use engine::check_all;
-pub use laws::{all_breaches, one_outcome};
+pub use laws::{all_breaches, one_outcome, pair_limit};
 pub use out_of_order::OutOfOrder;
 pub use outs::{Outs, PAIRS_SHOWN};

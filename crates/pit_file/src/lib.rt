@@ -27,7 +27,7 @@ pub use history_file::HistoryFile;
 pub use host_names::HostNames;
 pub use host_paths::{identity_at, identity_behind, identity_of, open_stream};
 pub use identity::{FileIdentity, is_among};
-pub use laws::kept_or_not;
+pub use laws::{kept_or_not, opening_limit};
 pub use out::{HistoryOut, HistoryOutput, Stream};
 pub use paths::{Kind, Paths, Place, found};
 pub use stage::{Look, Stage};

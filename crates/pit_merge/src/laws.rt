@@ -7,6 +7,7 @@ ghost use Rattle.pit_step.specs.Steps.{HasOneOutcome, want_aside};
 ghost use Rattle.pit_step.specs.Devices.{Reading, Writing};
 ghost use Rattle.pit_step.specs.declared.status.Status.{Status as StatusState};
 ghost use Rattle.pit_output.specs.Outputs.{Keeping};
+ghost use Rattle.pit_merge.specs.declared.engine.TheConstants.{EDITS_MAX};
 ghost use Rattle.pit_base.specs.Again.{IsShownOf};
 ghost use Rattle.pit_edit.specs.Changes.{Edit as EditState, changes_of};
 ghost use Rattle.pit_merge.specs.declared.options.MergeOptions.{MergeOptions as OptionsState};
@@ -82,3 +83,8 @@ pub fn shown_edits()
     shown_base();
     unchanged_edits();
 }
+
+/// A law of merges, in numbers: at most 64 edits.
+pub fn edit_limit()
+    ensures { EDITS_MAX ≡ 64 }
+{}

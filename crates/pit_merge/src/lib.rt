@@ -18,7 +18,7 @@ mod report;
 
 pub use engine::{EDITS_MAX, merge};
 pub use input::MergeInput;
-pub use laws::{one_merged_history, one_outcome, shown_edits};
+pub use laws::{edit_limit, one_merged_history, one_outcome, shown_edits};
 pub use options::MergeOptions;
 pub use pit_edit::{
     CONFLICTS_SHOWN, edit_writes, laid_over_in_order, late_edits, reported_conflicts,

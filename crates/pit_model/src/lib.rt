@@ -21,7 +21,7 @@ mod successors;
 pub use block_set::BlockSet;
 pub use bounds::bounds_are_tightest;
 pub use builder::Builder;
-pub use counts::{BLOCKS_MAX, RESOURCES_MAX};
+pub use counts::{BLOCKS_MAX, RESOURCES_MAX, pit_limits};
 pub use deposit::Deposit;
 pub use error::BuildError;
 pub use instance::Instance;

@@ -19,7 +19,7 @@ mod source;
 pub use bits::{has_bit, with_bit};
 pub use device::Failed;
 pub use discount::{Discount, factor_is_greatest};
-pub use limits::{MICRO_LIMIT, PERIODS_MAX, RATE_MAX};
+pub use limits::{MICRO_LIMIT, PERIODS_MAX, RATE_MAX, number_limits};
 pub use memory::NoMemory;
 pub use parse::{
     DIGITS_MAX, EXPONENT_DIGITS_MAX, NumError, micro_before, micro_from_bytes, parse_micro,

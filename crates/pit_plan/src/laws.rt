@@ -4,6 +4,7 @@ ghost use Rattle.pit_model.specs.Pit.{Pit, upper_of};
 ghost use Rattle.pit_plan.specs.Schedule.{Commit, write_of, revision_of, held_period, last_number, limit_of};
 ghost use Rattle.pit_plan.specs.Breaches.{IsFirstBreach};
 ghost use Rattle.pit_plan.specs.declared.breach.Breach.{Breach};
+ghost use Rattle.pit_plan.specs.declared.plan.TheConstants.{COMMITS_MAX};
 
 /// A law of commits: what none leaves, and what one more at the end changes of each block, and of each limit in force.
 pub fn commits_follow()
@@ -21,4 +22,9 @@ pub fn one_breach()
     ensures some { (pit : Pit) (schedule : ℕ → Option ℕ) (limit : ℕ → ℕ → Option ℤ) → (breach : Option Breach) × IsFirstBreach pit schedule limit breach }
     ensures same { (pit : Pit) (schedule : ℕ → Option ℕ) (limit : ℕ → ℕ → Option ℤ) (breach other : Option Breach)
         → IsFirstBreach pit schedule limit breach → IsFirstBreach pit schedule limit other → breach ≡ other }
+{}
+
+/// A law of plans, in numbers: at most 4,294,967,295 commits.
+pub fn commit_limit()
+    ensures { COMMITS_MAX ≡ 4294967295 }
 {}

@@ -21,7 +21,7 @@ mod tally;
 mod writes;
 
 pub use breach::Breach;
-pub use laws::{commits_follow, one_breach};
+pub use laws::{commit_limit, commits_follow, one_breach};
 pub use plan::{COMMITS_MAX, Plan};
 pub use plan_view::PlanView;
 pub use schedule::keeps_order;

@@ -32,7 +32,7 @@ pub use parsed::{
     schedule_of,
 };
 pub use plans::plan_of;
-pub use read::{INPUT_BYTES_MAX, ReadError, read_all};
+pub use read::{INPUT_BYTES_MAX, ReadError, input_limit, read_all};
 pub use refusal_words::{write_numbered, write_refusal};
 pub use status::Status;
 pub use text::{Text, empty_text, gathered};

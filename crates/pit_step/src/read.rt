@@ -1,4 +1,4 @@
-ghost use Rattle.std.specs.Prelude.{ℕ, ◌<◌, ◌≤◌, ◌↔◌, List, IsTrue, IfOk, IfErr, IsErrOf, length};
+ghost use Rattle.std.specs.Prelude.{◌≡◌, ℕ, ◌<◌, ◌≤◌, ◌↔◌, List, IsTrue, IfOk, IfErr, IsErrOf, length};
 ghost use Rattle.std.specs.Io.KnownBytes.{Consumes, IsAtEnd};
 
 use pit_num::Source;
@@ -17,6 +17,11 @@ pub enum ReadError {
 
 /// The greatest number of bytes of one input.
 pub const INPUT_BYTES_MAX: usize = 4_294_967_296;
+
+/// A law of inputs, in numbers: at most 4 GiB.
+pub fn input_limit()
+    ensures { INPUT_BYTES_MAX ≡ 4294967296 }
+{}
 
 /// How many bytes are asked of a device at once.
 const CHUNK: usize = 65_536;
