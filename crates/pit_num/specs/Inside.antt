@@ -1,3 +1,4 @@
 -- Definitions that no public contract cites.
 pub mod Factor
 pub mod Decimal
+pub mod Answers

@@ -1,7 +1,7 @@
 ghost use Rattle.std.specs.Prelude.{◌≡◌, ℕ, ◌<◌, ◌≤◌, Bool, List, Option, IsTrue, IsFalse, OnErr, MatchResult, IfOk, length, take};
 ghost use Rattle.std.specs.Io.KnownBytes.{Keeps, Appends};
 
-use super::device::Failed;
+use super::device::{Failed, INTERRUPTED_MAX, answer_to};
 use std::io::Write;
 
 /// A device that takes bytes.
@@ -22,7 +22,8 @@ pub trait Sink {
         ensures stays { IsTrue (has_failed self.old) → IsTrue (has_failed self.new) };
 }
 
-/// A writer as a device. It fails at the writer's first error, of any kind, and is never written to again.
+/// A writer as a device. A write that a signal interrupts is made again. It fails at the writer's first other error, or where that takes nothing, and is
+/// never written to again.
 #[derive(Drop)]
 pub struct Out<W: Write + Drop> {
     writer: W,
@@ -61,12 +62,27 @@ impl<W: Write + Drop> Sink for Out<W> {
         if text.is_empty() {
             return Ok(0);
         }
-        match self.writer.write(text) {
-            Ok(n) if 0 < n => Ok(n),
-            _ => {
+        match write_once(&mut self.writer, text) {
+            Ok(n) => Ok(n),
+            Err(failed) => {
                 self.has_failed = true;
-                Err(Failed)
+                Err(failed)
             }
         }
     }
+}
+
+/// One write, which has to take some of a text; another one, where a signal interrupts it.
+fn write_once<W: Write>(writer: &mut W, text: &[u8]) -> Result<usize, Failed>
+    ensures count { IfOk result (λ n. n ≤ length text.now) }
+    ensures some { IfOk result (λ n. 0 < n) }
+    ensures taken { IfOk result (λ n. Appends (W.contents writer.old) (W.contents writer.new) (take n text.now)) }
+    ensures kept { OnErr result (Keeps (W.contents writer.old) (W.contents writer.new)) }
+{
+    for _ in 0..INTERRUPTED_MAX {
+        if let Some(answer) = answer_to(writer.write(text), 1) {
+            return answer;
+        }
+    }
+    Err(Failed)
 }

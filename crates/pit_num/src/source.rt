@@ -1,7 +1,7 @@
 ghost use Rattle.std.specs.Prelude.{◌≡◌, ℕ, ◌<◌, ◌≤◌, Bool, List, Option, IsTrue, IsFalse, OnErr, MatchResult, IfOk, length, take};
 ghost use Rattle.std.specs.Io.KnownBytes.{Keeps, Consumes, IsAtEnd};
 
-use super::device::Failed;
+use super::device::{Failed, INTERRUPTED_MAX, answer_to};
 use std::io::Read;
 
 /// A device that gives bytes.
@@ -22,7 +22,7 @@ pub trait Source {
         ensures stays { IsTrue (has_failed self.old) → IsTrue (has_failed self.new) };
 }
 
-/// A reader as a device. It fails at the reader's first error, of any kind, and is never read again.
+/// A reader as a device. A read that a signal interrupts is made again. It fails at the reader's first other error, and is never read again.
 #[derive(Drop)]
 pub struct In<R: Read + Drop> {
     reader: R,
@@ -58,12 +58,27 @@ impl<R: Read + Drop> Source for In<R> {
         if self.has_failed {
             return Err(Failed);
         }
-        match self.reader.read(buffer) {
+        match read_once(&mut self.reader, buffer) {
             Ok(n) => Ok(n),
-            Err(_) => {
+            Err(failed) => {
                 self.has_failed = true;
-                Err(Failed)
+                Err(failed)
             }
         }
     }
+}
+
+/// One read; another one, where a signal interrupts it.
+fn read_once<R: Read>(reader: &mut R, buffer: &mut [u8]) -> Result<usize, Failed>
+    ensures count { IfOk result (λ n. n ≤ length buffer.new) }
+    ensures given { IfOk result (λ n. Consumes (R.remaining reader.old) (R.remaining reader.new) (take n buffer.new)) }
+    ensures end { IfOk result (λ n. n ≡ 0 → 0 < length buffer.new → IsAtEnd (R.remaining reader.new)) }
+    ensures kept { OnErr result (Keeps (R.remaining reader.old) (R.remaining reader.new)) }
+{
+    for _ in 0..INTERRUPTED_MAX {
+        if let Some(answer) = answer_to(reader.read(buffer), 0) {
+            return answer;
+        }
+    }
+    Err(Failed)
 }
