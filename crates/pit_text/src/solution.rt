@@ -42,7 +42,7 @@ pub fn read_solution_of<A: Allocator + Copy + Drop>(
         (λ solution. (facts : List (Option (ℕ × ℕ))) × StandsFor judge (cut_of text.now) facts
         × (solution.items ≡ schedule_of pit.now.blocks (period_in facts)))
         (λ fault. ((fault.cause ≡ Cause.NoMemory) × SolutionStops pit.now.blocks pit.now.periods (cut_of text.now) (end_line text.now) fault.line)
-        ⊎ FailsFirst judge (cut_of text.now) fault.line fault.cause) }
+        ⊎ NamesFault cause_of (FailsFirst judge (cut_of text.now) fault.line) fault.cause) }
     ensures fits { IfOk result (λ solution. IsSchedule pit.now.blocks pit.now.periods solution.items) }
 {
     let (slots, end) = read_slots(alloc, text, pit.blocks(), pit.periods())?;
