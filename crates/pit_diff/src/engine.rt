@@ -127,7 +127,7 @@ fn read_new<A: Allocator + Copy + Drop, N: Source>(
         → MatchResult result (λ answer. (new_step read).Gives (pit, before) (answer.0.items, answer.1)) ((new_step read).Fails (pit, before)) }
 {
     match read_state(alloc, json, new, Input::New, pit) {
-        Ok(plan) => answer_of(alloc, old, plan),
+        Ok(plan) => answer_of(alloc, &old, &plan),
         Err(fault) => {
             drop(old);
             Err(fault)
@@ -135,25 +135,19 @@ fn read_new<A: Allocator + Copy + Drop, N: Source>(
     }
 }
 
-/// What is to be written of two plans, which are freed, and the status that goes with it.
+/// What is to be written of two plans, and the status that goes with it.
 fn answer_of<A: Allocator + Copy + Drop>(
     alloc: A,
-    old: PlanView<A>,
-    new: PlanView<A>,
+    old: &PlanView<A>,
+    new: &PlanView<A>,
 ) -> Result<(Vec<u8, A>, Status), CliFault>
-    requires { new.pit ≡ old.pit }
+    requires { new.now.pit ≡ old.now.pit }
     ensures { MatchResult result
-        (λ answer. (before after : List Commit) → IsPlanOf old before → IsPlanOf new after → (answer.0.items, answer.1) ≡ diff_answer old.pit before after)
+        (λ answer. (before after : List Commit) → IsPlanOf old.now before → IsPlanOf new.now after
+        → (answer.0.items, answer.1) ≡ diff_answer old.now.pit before after)
         (λ fault. fault ≡ CliFault.NoMemory) }
 {
-    let text = text_of(alloc, &old, &new);
-    drop(old);
-    drop(new);
-    match text {
-        Ok(text) => {
-            let status = diff_status(&text);
-            Ok((text, status))
-        }
-        Err(_) => Err(CliFault::NoMemory),
-    }
+    let text = text_of(alloc, old, new)?;
+    let status = diff_status(&text);
+    Ok((text, status))
 }

@@ -1,4 +1,4 @@
-ghost use Rattle.std.specs.Prelude.{◌≡◌, Some, IfOk, MatchResult, is_some};
+ghost use Rattle.std.specs.Prelude.{◌≡◌, Some, MatchResult, is_some};
 ghost use Rattle.pit_step.specs.Steps.{IsResultOf};
 ghost use Rattle.pit_step.specs.Devices.{reading_of, writing_of, known_if};
 ghost use Rattle.pit_step.specs.Inputs.{IsModelFault};
@@ -8,7 +8,7 @@ use crate::benches::benches_if;
 use crate::info_text::write_info;
 use crate::unknown::unknown_lines;
 use pit_model::{Builder, Deposit};
-use pit_num::{NoMemory, Sink, Source};
+use pit_num::{Sink, Source};
 use pit_step::{
     CliFault, Input, Status, builder_of, bytes_of, deposited, empty_text, gathered, placed,
     read_order, write_answer,
@@ -150,16 +150,8 @@ fn rendered<A: Allocator + Copy + Drop>(
 ) -> Result<Vec<u8, A>, CliFault>
     ensures { MatchResult result (λ text. IsInfo with_places given unknown.now text.items) (λ fault. fault ≡ CliFault.NoMemory) }
 {
-    let pit = match deposited(given) {
-        Ok(pit) => pit,
-        Err(fault) => return Err(fault),
-    };
-    let text = text_of(alloc, &pit, with_places, unknown);
-    drop(pit);
-    match text {
-        Ok(text) => Ok(text),
-        Err(_) => Err(CliFault::NoMemory),
-    }
+    let pit = deposited(given)?;
+    text_of(alloc, &pit, with_places, unknown)
 }
 
 /// What is to be written of a pit and of the lines of the unknown keys.
@@ -168,11 +160,11 @@ fn text_of<A: Allocator + Copy + Drop>(
     pit: &Deposit<A>,
     with_places: bool,
     unknown: &[u8],
-) -> Result<Vec<u8, A>, NoMemory>
-    ensures { IfOk result (λ text. IsInfo with_places pit.now unknown.now text.items) }
+) -> Result<Vec<u8, A>, CliFault>
+    ensures { MatchResult result (λ text. IsInfo with_places pit.now unknown.now text.items) (λ fault. fault ≡ CliFault.NoMemory) }
 {
     let benches = benches_if(alloc, pit, with_places)?;
     let mut text = empty_text(alloc);
     let written = write_info(&mut text, pit, benches, pit.unmeetable(), unknown);
-    gathered(text, written)
+    Ok(gathered(text, written)?)
 }

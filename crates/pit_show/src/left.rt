@@ -13,33 +13,17 @@ use pit_step::{CliFault, empty_text, gathered};
 use pit_text::write_solution;
 use std::alloc::Allocator;
 
-/// A comment, and then the solution that a plan leaves, which is freed.
+/// A comment, and then the solution that a plan leaves.
 pub(crate) fn left_text<A: Allocator + Copy + Drop>(
     alloc: A,
     comment: &[u8],
-    plan: PlanView<A>,
+    plan: &PlanView<A>,
 ) -> Result<Vec<u8, A>, CliFault>
     ensures { MatchResult result
-        (λ text. (commits : List Commit) → IsPlanOf plan commits → text.items ≡ comment.now ++ left_by plan.pit commits)
+        (λ text. (commits : List Commit) → IsPlanOf plan.now commits → text.items ≡ comment.now ++ left_by plan.now.pit commits)
         (λ fault. fault ≡ CliFault.NoMemory) }
 {
-    let text = text_of(alloc, comment, &plan);
-    drop(plan);
-    match text {
-        Ok(text) => Ok(text),
-        Err(_) => Err(CliFault::NoMemory),
-    }
-}
-
-/// The same of a plan that is kept.
-fn text_of<A: Allocator + Copy + Drop>(
-    alloc: A,
-    comment: &[u8],
-    plan: &PlanView<A>,
-) -> Result<Vec<u8, A>, NoMemory>
-    ensures { IfOk result (λ text. (commits : List Commit) → IsPlanOf plan.now commits → text.items ≡ comment.now ++ left_by plan.now.pit commits) }
-{
-    mined(alloc, comment, plan.periods())
+    Ok(mined(alloc, comment, plan.periods())?)
 }
 
 /// A comment, and then the blocks that have a period.
