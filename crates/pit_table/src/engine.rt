@@ -61,7 +61,10 @@ fn read_table<A: Allocator + Copy + Drop, S: Source>(
 }
 
 /// The text of the table of a plan.
-fn table_of<A: Allocator + Copy + Drop>(alloc: A, plan: &PlanView<A>) -> Result<Vec<u8, A>, CliFault>
+fn table_of<A: Allocator + Copy + Drop>(
+    alloc: A,
+    plan: &PlanView<A>,
+) -> Result<Vec<u8, A>, CliFault>
     requires { IsOfCommits plan.now }
     ensures { MatchResult result
         (λ text. (commits : List Commit) → IsPlanOf plan.now commits → (text.items, Fine) ≡ table_answer plan.now.pit commits)
