@@ -4,7 +4,7 @@
 //   FAULT_KILLS=1    in place of that the program is killed before it
 //   LOCK_ERROR=N     each locking is refused by this error
 //   HELD=NAME        before its first locking the program makes NAME.waits, and goes on once NAME.goes is there
-//   CALLS=FILE       each call that succeeded for a file `kept..` is a line of FILE: its name, the file's and the file's new one
+//   CALLS=FILE       each call that succeeded for a file `kept..`, or for the folder, is a line of FILE: its name, the file's and the file's new one
 #define _GNU_SOURCE
 #include <dlfcn.h>
 #include <errno.h>
@@ -35,11 +35,15 @@ static int open_next(const char *path, int flags, mode_t mode) {
     if (!next) *(void **)&next = dlsym(RTLD_NEXT, "open");
     return next(path, flags, mode);
 }
+static int is_folder(const char *path) {
+    char here[4096];
+    return getcwd(here, sizeof here) && strcmp(path, here) == 0;
+}
 // Writes the call down where it succeeded, and leaves `errno` as it was.
 static void note(int has_failed, const char *call, const char *path, const char *to) {
     int error = errno, file;
     const char *calls = getenv("CALLS");
-    if (has_failed || !calls || !is_kept(path)) return;
+    if (has_failed || !calls || !(is_kept(path) || is_folder(path))) return;
     file = open_next(calls, O_WRONLY | O_CREAT | O_APPEND, 0666);
     dprintf(file, "%s %s%s%s\n", call, last_of(path), to ? " " : "", to ? last_of(to) : "");
     close(file);
