@@ -1,11 +1,11 @@
 //! Laws of the definitions, each as the contract of a function that does nothing.
-ghost use Rattle.std.specs.Prelude.{◌≡◌, ◌↔◌, ℕ, ◌<◌, [], List, Option, IfSome, IsSome, length};
+ghost use Rattle.std.specs.Prelude.{◌≡◌, ◌↔◌, ℕ, ◌<◌, [], ◌∷◌, List, Option, IfSome, IsSome, length};
 ghost use Rattle.std.specs.Io.KnownBytes.{Keeps};
 ghost use Rattle.pit_model.specs.Pit.{Pit};
 ghost use Rattle.pit_plan.specs.Schedule.{Commit};
 ghost use Rattle.pit_step.specs.declared.status.Status.TheVariants.{Fine, Failed};
 ghost use Rattle.pit_step.specs.Steps.{HasOneOutcome, want_aside};
-ghost use Rattle.pit_step.specs.Devices.{Reading, Writing};
+ghost use Rattle.pit_step.specs.Devices.{Reading, Writing, HasToldOutcome};
 ghost use Rattle.pit_diff.specs.Changes.{changes_of, moves_of};
 ghost use Rattle.pit_diff.specs.Laid.{LeadOver, LeaveTheSame, all_moved};
 ghost use Rattle.pit_diff.specs.DiffText.{diff_text, diff_answer};
@@ -39,8 +39,7 @@ pub fn one_outcome()
         → IsSome model.before → IsSome old.before → IsSome new.before
         → HasOneOutcome CliFault.NoMemory (want_aside CliFault.NoMemory (diff_run model old new out)) }
     ensures written { (model old new : Reading) (out : Writing)
-        → IsSome model.before → IsSome old.before → IsSome new.before → (Keeps out.before out.after → ⊥)
-        → HasOneOutcome CliFault.NoMemory (diff_run model old new out) }
+        → HasToldOutcome (model ∷ old ∷ new ∷ []) (Keeps out.before out.after → ⊥) (diff_run model old new out) }
 {
     one_history();
     one_result();

@@ -1,16 +1,13 @@
 //! Laws of the definitions, each as the contract of a function that does nothing.
-ghost use Rattle.std.specs.Prelude.{◌≡◌, ◌+◌, not, List, flat_map, filter, All, IsSome, Option};
+ghost use Rattle.std.specs.Prelude.{◌≡◌, ◌+◌, not, List, [], ◌∷◌, flat_map, filter, All, IsSome, Option};
 ghost use Rattle.std.specs.List.{count_by, range_with_len};
 ghost use Rattle.pit_model.specs.Pit.{Pit};
 ghost use Rattle.pit_text.specs.Cutting.{Cut};
-ghost use Rattle.pit_step.specs.Steps.{HasOneOutcome};
-ghost use Rattle.pit_step.specs.Devices.{Reading, Writing};
+ghost use Rattle.pit_step.specs.Devices.{Reading, Writing, HasToldOutcome};
 ghost use Rattle.pit_info.specs.Figures.{has_preds, root_count};
 ghost use Rattle.pit_info.specs.Info.{IsToldIf, info_run};
 ghost use Rattle.pit_info.specs.LongestRuns.{IsLongestRun};
 ghost use Rattle.pit_info.specs.Unknown.{has_known_key, unknown_runs};
-
-use pit_step::CliFault;
 
 /// A law of precedences: the blocks without a predecessor and those that have one are all blocks.
 pub fn roots_and_others()
@@ -27,6 +24,5 @@ pub fn unknown_runs_are_longest()
 /// A law of runs: where devices tell their bytes, these say how a run ended, with which status or with which fault.
 pub fn one_outcome()
     ensures { (model precedence : Reading) (blocks : Option Reading) (out : Writing)
-        → IsSome model.before → IsSome precedence.before → IsToldIf blocks → IsSome out.before
-        → HasOneOutcome CliFault.NoMemory (info_run model precedence blocks out) }
+        → HasToldOutcome (model ∷ precedence ∷ []) (IsToldIf blocks × IsSome out.before) (info_run model precedence blocks out) }
 {}

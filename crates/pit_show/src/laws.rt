@@ -8,7 +8,7 @@ ghost use Rattle.pit_lines.specs.Ranges.{IsInRange};
 ghost use Rattle.pit_lines.specs.Texts.{history_text};
 ghost use Rattle.pit_step.specs.LineTexts.{left_text};
 ghost use Rattle.pit_step.specs.Steps.{HasOneOutcome, want_aside};
-ghost use Rattle.pit_step.specs.Devices.{Reading, Writing};
+ghost use Rattle.pit_step.specs.Devices.{Reading, Writing, HasToldOutcome};
 ghost use Rattle.pit_state.specs.States.{EachFits, IsStateOf};
 ghost use Rattle.pit_show.specs.Fronts.{IsFront};
 ghost use Rattle.pit_show.specs.ShowText.{history_comment};
@@ -51,8 +51,8 @@ pub fn shown_history()
 pub fn one_outcome()
     ensures seen { (at : Option ℕ) (model schedule : Reading) (out : Writing) → IsSome model.before → IsSome schedule.before
         → HasOneOutcome CliFault.NoMemory (want_aside CliFault.NoMemory (show_run at model schedule out)) }
-    ensures written { (at : Option ℕ) (model schedule : Reading) (out : Writing) → IsSome model.before → IsSome schedule.before
-        → (Keeps out.before out.after → ⊥) → HasOneOutcome CliFault.NoMemory (show_run at model schedule out) }
+    ensures written { (at : Option ℕ) (model schedule : Reading) (out : Writing)
+        → HasToldOutcome (model ∷ schedule ∷ []) (Keeps out.before out.after → ⊥) (show_run at model schedule out) }
 {
     one_history();
     one_result();

@@ -1,5 +1,5 @@
 -- What devices show of a call, and the steps that read and write.
-use Rattle.std.specs.Prelude.{◌≡◌, ℕ, ◌<◌, ◌≤◌, Bool, true, false, List, [], ◌∷◌, length, Option, Some, None, ◌⊎◌}
+use Rattle.std.specs.Prelude.{◌≡◌, ℕ, ◌<◌, ◌≤◌, Bool, true, false, List, [], ◌∷◌, length, Option, Some, None, IsSome, ◌⊎◌}
 use Rattle.std.specs.Io.KnownBytes.{Appends, Consumes, IsAtEnd, Keeps}
 use Rattle.pit_num.specs.Printed.{AppendsFront}
 use Rattle.pit_text.specs.declared.error.TextError.{TextError}
@@ -8,7 +8,7 @@ use Rattle.pit_step.specs.declared.input.Input.{Input}
 use Rattle.pit_step.specs.declared.fault.CliFault.{CliFault}
 use Rattle.pit_step.specs.declared.fault.CliFault.TheVariants.{Text, TooLong, CannotRead, CannotWrite, NoMemory}
 use Rattle.pit_step.specs.declared.status.Status.{Status}
-use Rattle.pit_step.specs.Steps.{Step}
+use Rattle.pit_step.specs.Steps.{Step, HasOneOutcome}
 
 -- what is known of a source before and after a call: the bytes that it has left, where it tells them, and whether it has failed then
 pub record Reading : Type 0 where
@@ -90,3 +90,10 @@ write_step out text_of value_of = record {
 -- a text is written, and the status is the one beside it
 abbrev pub answer_step : Writing → Step CliFault (List ℕ × Status) Status
 answer_step out = write_step out (λ answer. answer.0) (λ answer. answer.1)
+
+-- ---- a run
+
+-- where each of these sources tells its bytes, and this is shown too, the run has one outcome
+abbrev pub HasToldOutcome : {B : Type 0} → List Reading → Type 0 → Step CliFault (Unit {0}) B → Type 0
+HasToldOutcome [] IsShown run = IsShown → HasOneOutcome NoMemory run
+HasToldOutcome (source ∷ sources) IsShown run = IsSome source.before → HasToldOutcome sources IsShown run

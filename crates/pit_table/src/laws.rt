@@ -4,13 +4,11 @@ ghost use Rattle.std.specs.List.{range_with_len};
 ghost use Rattle.pit_model.specs.Pit.{Pit};
 ghost use Rattle.pit_plan.specs.Sums.{total};
 ghost use Rattle.pit_plan.specs.Schedule.{value_of};
-ghost use Rattle.pit_step.specs.Steps.{HasOneOutcome};
-ghost use Rattle.pit_step.specs.Devices.{Reading, Writing};
+ghost use Rattle.pit_step.specs.Devices.{Reading, Writing, HasToldOutcome};
 ghost use Rattle.pit_table.specs.Rows.{Row, blocks_in, value_in, rows_of};
 ghost use Rattle.pit_table.specs.Table.{table_run};
 
 use pit_lines::laws::{one_history, one_result};
-use pit_step::CliFault;
 
 /// A law of rows, where each block that has a period has one of the pit's: the values of all periods add up to the value of the schedule, which is
 /// the running total in the last row. The numbers of their blocks add up to the number of blocks that are mined.
@@ -26,8 +24,7 @@ pub fn rows_add_up()
 
 /// A law of runs: where devices tell their bytes, these say how a run ended, with its status or with which fault.
 pub fn one_outcome()
-    ensures { (model schedule : Reading) (out : Writing)
-        → IsSome model.before → IsSome schedule.before → IsSome out.before → HasOneOutcome CliFault.NoMemory (table_run model schedule out) }
+    ensures { (model schedule : Reading) (out : Writing) → HasToldOutcome (model ∷ schedule ∷ []) (IsSome out.before) (table_run model schedule out) }
 {
     one_history();
     one_result();
