@@ -8,6 +8,7 @@ pub mod Stepping
 pub mod Walking
 pub mod Carrying
 pub mod Meeting
+pub mod Unmoved
 pub mod Trying
 pub mod Retries
 pub mod Once

@@ -1,6 +1,6 @@
 -- What steps note.
-use Rattle.std.proofs.lemmas.List.Elements.{All-append, All-nil, All-cons, Contains-append_right}
-use Rattle.std.proofs.Common.{inl, inr, ◌≡◌, ℕ, subst, Bool, List, [], ◌∷◌, ◌++◌, get_or, Option, refl, sym, ap, ◌∙◌, arith, append-nil, append_assoc}
+use Rattle.std.proofs.lemmas.List.Elements.{All-append, All-nil, All-cons, Contains-append_right, Contains-get_or}
+use Rattle.std.proofs.Common.{inl, inr, ◌≡◌, ℕ, ◌<◌, length, subst, Bool, List, [], ◌∷◌, ◌++◌, get_or, Option, refl, sym, ap, ◌∙◌, arith, append-nil, append_assoc}
 use Rattle.pit_model.specs.Pit.{Pit}
 use Rattle.pit_plan.specs.Schedule.{Commit}
 use Rattle.pit_script.specs.declared.step.Step.{Step}
@@ -34,6 +34,10 @@ read-first pit s ss b reads = record { reader = s; among = (0, omega arith, refl
 
 pub read-later : (pit : Pit) (s : Step) (ss : List Step) (b : ℕ) → IsRead pit ss b → IsRead pit (s ∷ ss) b
 read-later pit s ss b read = record { reader = read.reader; among = Contains-append_right (s ∷ []) ss read.reader read.among; reads = read.reads }
+
+-- what the step at i may read
+pub one-read : (pit : Pit) (ss : List Step) (i : ℕ) (d : Step) (b : ℕ) → i < length ss → IsReadBy pit b (get_or ss i d) → IsRead pit ss b
+one-read pit ss i d b less reads = record { reader = get_or ss i d; among = Contains-get_or ss i d less; reads = reads }
 
 -- what a line reads over what is known, its block leads to
 pub next-reached : (pit : Pit) (how : Way) (at : Known) (c t b : ℕ) → IsNextOf (leads_to pit how) c (members_of pit how at c t) b → Reaches (leads_to pit how) c b

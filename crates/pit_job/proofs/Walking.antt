@@ -14,7 +14,7 @@ use Rattle.pit_share.specs.Planners.{TransactionState}
 use Rattle.pit_script.specs.declared.step.Step.TheVariants as step
 use Rattle.pit_script.specs.declared.step.Way.{Way}
 use Rattle.pit_script.specs.declared.step.Way.TheVariants as way
-use Rattle.pit_job.specs.Cones.{all_led, in_round, IsNextOf}
+use Rattle.pit_job.specs.Cones.{all_led, in_round, IsNextOf, Reaches}
 use Rattle.pit_job.specs.Effect.{Agrees, Known, changes, carried, read_in, seen, with_bench, is_carried, leads_to, members_of}
 use Rattle.pit_job.specs.Outcomes.{HasNoWrite, IsReadOver}
 use Rattle.pit_job.specs.Inside.Doing.{own_of, NotesOnly, DoesStep, StopsAt, StepStopsAt}
@@ -23,7 +23,7 @@ use Rattle.pit_job.specs.declared.doing.StepStop.{StepStop}
 use Rattle.pit_job.specs.declared.doing.StepStop.TheVariants as stop
 use Rattle.pit_job.proofs.Agreeing.{seen-agrees}
 use Rattle.pit_job.proofs.Cones.{both, cone-has, any-some}
-use Rattle.pit_job.proofs.Noting.{notes-none, notes-map, notes-trans}
+use Rattle.pit_job.proofs.Noting.{notes-none, notes-map, notes-trans, next-reached}
 use Rattle.pit_job.proofs.Meeting.{left-stops, looked-stops, stopped-map, stopped-more}
 use Rattle.pit_job.proofs.Seeing.{sees-same}
 use Rattle.pit_job.proofs.Stepping.{Agrees-refl, Agrees-trans, same-refl, same-trans, drop-here}
@@ -233,6 +233,13 @@ going-stops pit how start t old mid new w going own reads = record {
       )) old.work.reads mid.work.reads going.noted;
   meets = tt;
 }
+
+-- what a block leads to that was found, the start leads to
+pub gone-reached : (pit : Pit) (how : Way) (start t : ℕ) (old mid : TransactionState) (w : WalkState) (i m : ℕ) (bs : List ℕ) → IsGone pit how start t old mid w i → slice_get w.found i ≡ Some m
+    → bs ≡ leads_to pit how m → (c : ℕ) → Contains bs c → Reaches (leads_to pit how) start c
+gone-reached pit how start t old mid w i m bs gone is led c leads =
+    let member = found-members pit how start t old mid mid w gone.going refl (Agrees-refl (read_in mid.work.reads)) m (found-within pit how start t old mid w i m gone is).1 in
+    next-reached pit how (λ x. known_of mid.work x) start t c (inr (m, member, subst (λ (xs : List ℕ). Contains xs c) led leads))
 
 -- it was stopped at what a member leads to
 pub walk-stops : (pit : Pit) (how : Way) (start t : ℕ) (old mid new : TransactionState) (w : WalkState) (i m : ℕ) (bs : List ℕ) (why : StepStop) → IsGone pit how start t old mid w i

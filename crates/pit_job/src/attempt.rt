@@ -1,11 +1,11 @@
 //! One try of a job.
-ghost use Rattle.std.specs.Prelude.{◌≡◌, List};
+ghost use Rattle.std.specs.Prelude.{◌≡◌, List, []};
 ghost use Rattle.pit_desk.specs.History.{Answered};
 ghost use Rattle.pit_desk.specs.declared.entry.Act.TheVariants.{Commit as commit_act, Withdraw as withdraw_act};
 ghost use Rattle.pit_job.specs.Inside.Doing.{IsFresh};
 ghost use Rattle.pit_job.specs.Outcomes.{Grows};
 ghost use Rattle.pit_job.specs.Inside.Runs.{IsJobNumber, job_numbered};
-ghost use Rattle.pit_job.specs.Inside.Outcomes.{Tries, EndsBy, stop_of as stop_by, tried_at as tried_until, tried_of as tried_by};
+ghost use Rattle.pit_job.specs.Inside.Outcomes.{Tries, EndsBy, EndsUnmoved, stop_of as stop_by, tried_at as tried_until, tried_of as tried_by};
 
 use crate::carry::Walk;
 use crate::doing::{StepStop, do_steps};
@@ -68,8 +68,9 @@ fn done<
     requires pit { script.now.pit ≡ S.instance }
     requires job { IsJobNumber script.now.jobs n }
     requires fresh { IsFresh n t }
-    ensures { (es : List Answered) × Grows t.entry.planner es result.0
+    ensures tries { (es : List Answered) × Grows t.entry.planner es result.0
         × Tries S.instance S.max_entries (job_numbered script.now.jobs n) n t.entry.planner.seen result.0.seen es result.1 }
+    ensures unmoved { EndsUnmoved S.instance (job_numbered script.now.jobs n).steps t.entry.work.start t.entry.planner.seen result.0.seen result.1 }
 {
     let mut t = t;
     let (steps, end) = script.job(n - 1);
@@ -97,7 +98,8 @@ fn withdraw<'a, S: Session, R: Wait + Drop, A: Allocator + Copy + Drop, W: Wait>
     rt: &W,
     t: Transaction<'a, S, R, A>,
 ) -> (Planner<'a, S, R, A>, Tried)
-    ensures { (es : List Answered) × Grows t.entry.planner es result.0 × EndsBy S.instance S.max_entries withdraw_act t.entry.work result.0.seen es result.1 }
+    ensures ends { (es : List Answered) × Grows t.entry.planner es result.0 × EndsBy S.instance S.max_entries withdraw_act t.entry.work result.0.seen es result.1 }
+    ensures unmoved { EndsUnmoved S.instance [] t.entry.work.start t.entry.planner.seen result.0.seen result.1 }
 {
     match t.abort(rt) {
         Ok(planner) => (planner, Tried::Answered(EntryReply::Withdrawn)),
@@ -112,7 +114,8 @@ fn commit<'a, S: Session, R: Wait + Drop, A: Allocator + Copy + Drop, W: Wait, G
     n: u32,
     gate: &G,
 ) -> (Planner<'a, S, R, A>, Tried)
-    ensures { (es : List Answered) × Grows t.entry.planner es result.0 × EndsBy S.instance S.max_entries commit_act t.entry.work result.0.seen es result.1 }
+    ensures ends { (es : List Answered) × Grows t.entry.planner es result.0 × EndsBy S.instance S.max_entries commit_act t.entry.work result.0.seen es result.1 }
+    ensures unmoved { EndsUnmoved S.instance [] t.entry.work.start t.entry.planner.seen result.0.seen result.1 }
 {
     gate.before_commit(number, n);
     let answer = t.commit(rt);

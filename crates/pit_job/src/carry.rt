@@ -5,7 +5,8 @@ ghost use Rattle.std.specs.List.Sorted.{IsSorted, IsPermutation};
 ghost use Rattle.std.specs.Ordering.{nat_cmp};
 ghost use Rattle.pit_share.specs.Planners.{SeesOn};
 ghost use Rattle.pit_job.specs.Effect.{is_carried as is_carried_of, leads_to, members_of, read_in, seen};
-ghost use Rattle.pit_job.specs.Inside.Doing.{DoesStep, StopsAt, own_of};
+ghost use Rattle.pit_job.specs.Cones.{Reaches};
+ghost use Rattle.pit_job.specs.Inside.Doing.{DoesStep, MeetsNone, StopsAt, own_of};
 ghost use Rattle.pit_job.specs.Inside.Walking.{IsVisited, VisitsEach, IsGone, IsReadNow};
 
 use crate::doing::{StepStop, look, put_each};
@@ -136,6 +137,7 @@ pub(crate) fn carry<
     ensures ok { OnOk result (DoesStep S.instance t.old (Step.Carry way b period) true t.new) }
     ensures members { OnOk result (walk.new.found ≡ members_of S.instance way (λ c. seen (read_in t.new.work.reads) (own_of t.old.work) c) b period) }
     ensures err { IfErr result (λ stop. StopsAt (IsReadNow S.instance way b period t.new) t.old stop t.new) }
+    ensures unmoved { MeetsNone (Reaches (leads_to S.instance way) b) t.old result t.new }
     ensures sees { SeesOn t.old.planner t.new.planner }
 {
     walked(t, walk, benches.pit(), way, b, period)?;
@@ -157,6 +159,7 @@ fn walked<'a, S: Session, R: Wait + Drop, A: Allocator + Copy + Drop, B: Allocat
     requires block { b < S.instance.blocks }
     ensures ok { OnOk result ((i : ℕ) × (length walk.new.found ≤ i) × IsGone S.instance way b period t.old t.new walk.new i) }
     ensures err { IfErr result (λ stop. StopsAt (IsReadNow S.instance way b period t.new) t.old stop t.new) }
+    ensures unmoved { MeetsNone (Reaches (leads_to S.instance way) b) t.old result t.new }
     ensures sees { SeesOn t.old.planner t.new.planner }
 {
     let blocks = pit.blocks();
@@ -194,6 +197,7 @@ fn visit_each<'a, S: Session, R: Wait + Drop, A: Allocator + Copy + Drop>(
     requires blocks { All (λ b. b < S.instance.blocks) blocks.now }
     ensures ok { OnOk result (VisitsEach way period t.old walk.old blocks.now t.new walk.new) }
     ensures err { IfErr result (λ stop. StopsAt (Contains blocks.now) t.old stop t.new) }
+    ensures unmoved { MeetsNone (Contains blocks.now) t.old result t.new }
     ensures sees { SeesOn t.old.planner t.new.planner }
 {
     for b in blocks {
@@ -218,6 +222,7 @@ fn visit<'a, S: Session, R: Wait + Drop, A: Allocator + Copy + Drop>(
     requires fresh { list_any (nat_eq b) walk.old.visited ≡ false }
     ensures ok { OnOk result (IsVisited way period t.old walk.old b t.new walk.new) }
     ensures err { IfErr result (λ stop. StopsAt (λ c. c ≡ b) t.old stop t.new) }
+    ensures unmoved { MeetsNone (λ c. c ≡ b) t.old result t.new }
     ensures sees { SeesOn t.old.planner t.new.planner }
 {
     walk.enter(b)?;

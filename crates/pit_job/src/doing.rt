@@ -2,10 +2,11 @@
 ghost use Rattle.std.specs.Prelude.{◌≡◌, ◌<◌, true, map, IfOk, IfErr, OnOk, OnErr, Ok, Err, All};
 ghost use Rattle.pit_script.specs.Ranges.{IsStepIn};
 ghost use Rattle.pit_share.specs.Planners.{SeesOn};
-ghost use Rattle.pit_job.specs.Outcomes.{IsRead};
-ghost use Rattle.pit_job.specs.Effect.{same_period as same_period_of};
+ghost use Rattle.pit_job.specs.Outcomes.{IsRead, IsReadBy};
+ghost use Rattle.pit_job.specs.Cones.{Reaches};
+ghost use Rattle.pit_job.specs.Effect.{leads_to, same_period as same_period_of};
 ghost use Rattle.pit_job.specs.Shifts.{shifted as shifted_of};
-ghost use Rattle.pit_job.specs.Inside.Doing.{LooksUp, Puts, DoesStep, DoesSteps, StopsAt, StepStopsAt, IsUnseen, Meets};
+ghost use Rattle.pit_job.specs.Inside.Doing.{LooksUp, Puts, DoesStep, DoesSteps, StopsAt, StepStopsAt, IsUnseen, Meets, MeetsNone};
 ghost use Rattle.pit_job.specs.Inside.Walking.{PutsEach};
 
 use crate::carry::{Walk, carry};
@@ -42,6 +43,7 @@ pub(crate) fn do_steps<
     requires in_range { All (IsStepIn S.instance) steps.now }
     ensures ok { IfOk result (λ goes. DoesSteps S.instance t.old steps.now goes t.new) }
     ensures err { IfErr result (Meets (IsRead S.instance steps.now) t.old.work.start t.new.planner.seen) }
+    ensures unmoved { MeetsNone (IsRead S.instance steps.now) t.old result t.new }
     ensures sees { SeesOn t.old.planner t.new.planner }
 {
     for step in steps {
@@ -63,6 +65,7 @@ fn do_step<'a, S: Session, R: Wait + Drop, A: Allocator + Copy + Drop, B: Alloca
     requires in_range { IsStepIn S.instance step.now }
     ensures ok { IfOk result (λ goes. DoesStep S.instance t.old step.now goes t.new) }
     ensures err { IfErr result (λ stop. StepStopsAt S.instance t.old step.now stop t.new) }
+    ensures unmoved { MeetsNone (λ c. IsReadBy S.instance c step.now) t.old result t.new }
     ensures sees { SeesOn t.old.planner t.new.planner }
 {
     match *step {
@@ -88,6 +91,7 @@ fn read<'a, S: Session, R: Wait + Drop, A: Allocator + Copy + Drop>(
     requires { b < S.instance.blocks }
     ensures ok { IfOk result (λ goes. DoesStep S.instance t.old (Step.Read b) goes t.new) }
     ensures err { IfErr result (λ stop. StepStopsAt S.instance t.old (Step.Read b) stop t.new) }
+    ensures unmoved { MeetsNone (λ c. c ≡ b) t.old result t.new }
     ensures sees { SeesOn t.old.planner t.new.planner }
 {
     let _period = look(t, b)?;
@@ -103,6 +107,7 @@ fn expect<'a, S: Session, R: Wait + Drop, A: Allocator + Copy + Drop>(
     requires { b < S.instance.blocks }
     ensures ok { IfOk result (λ goes. DoesStep S.instance t.old (Step.Expect b period) goes t.new) }
     ensures err { IfErr result (λ stop. StepStopsAt S.instance t.old (Step.Expect b period) stop t.new) }
+    ensures unmoved { MeetsNone (λ c. c ≡ b) t.old result t.new }
     ensures sees { SeesOn t.old.planner t.new.planner }
 {
     let held = look(t, b)?;
@@ -128,6 +133,7 @@ fn carry_along<
     requires block { b < S.instance.blocks }
     ensures ok { IfOk result (λ goes. DoesStep S.instance t.old (Step.Carry way b period) goes t.new) }
     ensures err { IfErr result (λ stop. StepStopsAt S.instance t.old (Step.Carry way b period) stop t.new) }
+    ensures unmoved { MeetsNone (Reaches (leads_to S.instance way) b) t.old result t.new }
     ensures sees { SeesOn t.old.planner t.new.planner }
 {
     carry(t, walk, benches, way, b, period)?;
@@ -153,6 +159,7 @@ fn revise<'a, S: Session, R: Wait + Drop, A: Allocator + Copy + Drop>(
     ensures ok { IfOk result (λ goes. DoesStep S.instance t.old (Step.Revise resource period upper) goes t.new) }
     ensures memory { IfErr result (λ stop. stop ≡ StepStop.NoMemory) }
     ensures stays { OnErr result (t.new ≡ t.old) }
+    ensures planner { t.new.planner ≡ t.old.planner }
     ensures sees { SeesOn t.old.planner t.new.planner }
 {
     answered(t.revise(resource, period, upper))
@@ -169,6 +176,7 @@ fn bench<'a, S: Session, R: Wait + Drop, A: Allocator + Copy + Drop, B: Allocato
     ensures ok { IfOk result (λ goes. DoesStep S.instance t.old (Step.Bench height period) goes t.new) }
     ensures memory { IfErr result (λ stop. stop ≡ StepStop.NoMemory) }
     ensures stays { OnErr result (t.new ≡ t.old) }
+    ensures planner { t.new.planner ≡ t.old.planner }
     ensures sees { SeesOn t.old.planner t.new.planner }
 {
     let blocks = blocks_of(*t.reads().allocator(), benches.bench(height))?;
@@ -201,6 +209,7 @@ pub(crate) fn put_each<'a, S: Session, R: Wait + Drop, A: Allocator + Copy + Dro
     ensures ok { OnOk result (PutsEach t.old blocks.now period t.new) }
     ensures memory { IfErr result (λ stop. stop ≡ StepStop.NoMemory) }
     ensures stays { OnErr result (t.new ≡ t.old) }
+    ensures planner { t.new.planner ≡ t.old.planner }
     ensures sees { SeesOn t.old.planner t.new.planner }
 {
     match t.put_each(blocks, period) {
@@ -220,6 +229,7 @@ fn shift<'a, S: Session, R: Wait + Drop, A: Allocator + Copy + Drop, B: Allocato
     requires block { b < S.instance.blocks }
     ensures ok { IfOk result (λ goes. DoesStep S.instance t.old (Step.Shift b is_back by) goes t.new) }
     ensures err { IfErr result (λ stop. StepStopsAt S.instance t.old (Step.Shift b is_back by) stop t.new) }
+    ensures unmoved { MeetsNone (λ c. c ≡ b) t.old result t.new }
     ensures sees { SeesOn t.old.planner t.new.planner }
 {
     let Some(now) = look(t, b)? else {
@@ -252,6 +262,7 @@ pub(crate) fn look<'a, S: Session, R: Wait + Drop, A: Allocator + Copy + Drop>(
     ensures ok { IfOk result (λ period. LooksUp t.old b period t.new) }
     ensures err { IfErr result (λ stop. StopsAt (λ c. c ≡ b) t.old stop t.new) }
     ensures unseen { IfErr result (λ stop. IsUnseen t.old b stop t.new) }
+    ensures unmoved { MeetsNone (λ c. c ≡ b) t.old result t.new }
     ensures sees { SeesOn t.old.planner t.new.planner }
 {
     match t.read(b) {
@@ -271,6 +282,7 @@ fn write<'a, S: Session, R: Wait + Drop, A: Allocator + Copy + Drop>(
     ensures ok { IfOk result (λ goes. Puts t.old b period goes t.new) }
     ensures memory { IfErr result (λ stop. stop ≡ StepStop.NoMemory) }
     ensures stays { OnErr result (t.new ≡ t.old) }
+    ensures planner { t.new.planner ≡ t.old.planner }
     ensures sees { SeesOn t.old.planner t.new.planner }
 {
     match period {

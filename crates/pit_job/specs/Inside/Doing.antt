@@ -1,5 +1,5 @@
 -- What a step of a job does to a transaction.
-use Rattle.std.specs.Prelude.{◌≡◌, ℕ, ◌≤◌, Bool, true, false, List, [], ◌++◌, length, Option, Some, ⊤, All}
+use Rattle.std.specs.Prelude.{◌≡◌, ◌⊎◌, ℕ, ◌≤◌, Bool, true, false, List, [], ◌++◌, length, Option, Some, Result, Ok, Err, ⊤, All}
 use Rattle.pit_model.specs.Pit.{Pit}
 use Rattle.pit_plan.specs.Schedule.{Commit, last_number}
 use Rattle.pit_tx.specs.Sets.{Sets, known_of}
@@ -67,6 +67,25 @@ pub record StopsAt (IsOne : ℕ → Type 0) (old : TransactionState) (why : Step
   pub own : own_of new.work ≡ own_of old.work
   pub noted : NotesOnly (λ c. IsOne c × HasNoWrite (own_of old.work) c) old.work.reads new.work.reads
   pub meets : Meets (λ c. IsOne c × HasNoWrite (own_of old.work) c) old.work.start new.planner.seen why
+
+-- Nothing more was seen since; or it was last looked at one of these blocks, and of all commits that were then seen, none past the start names it.
+abbrev pub SeesUnmoved : (ℕ → Type 0) → ℕ → List Answered → List Answered → Type 0
+SeesUnmoved IsOne start old new = (new ≡ old) ⊎ ((block : ℕ) × IsOne block × (last_number (commits_of new) block ≤ start))
+
+-- so it is of a transaction's planner
+abbrev pub LooksOn : (ℕ → Type 0) → TransactionState → TransactionState → Type 0
+LooksOn IsOne old new = SeesUnmoved IsOne old.work.start old.planner.seen new.planner.seen
+
+-- so it is where it was stopped otherwise than as moved
+abbrev pub StopsUnmoved : (ℕ → Type 0) → TransactionState → StepStop → TransactionState → Type 0
+StopsUnmoved IsOne old (stop.Moved block version) new = ⊤
+StopsUnmoved IsOne old stop.NoMemory new = LooksOn IsOne old new
+StopsUnmoved IsOne old stop.NoEntry new = LooksOn IsOne old new
+
+-- and where it went on
+abbrev pub MeetsNone : {X : Type 0} → (ℕ → Type 0) → TransactionState → Result X StepStop → TransactionState → Type 0
+MeetsNone IsOne old (Ok x) new = LooksOn IsOne old new
+MeetsNone IsOne old (Err why) new = StopsUnmoved IsOne old why new
 
 -- a step that was stopped: the blocks are those that it reads over what is noted then
 abbrev pub StepStopsAt : Pit → TransactionState → Step → StepStop → TransactionState → Type 0

@@ -24,6 +24,7 @@ use Rattle.pit_job.specs.declared.outcome.Tried.TheVariants as tried
 use Rattle.pit_job.specs.declared.outcome.Outcome.{Outcome}
 use Rattle.pit_job.specs.declared.outcome.Outcome.TheVariants as outcome
 use Rattle.pit_job.specs.Outcomes.{is_moved_reply, IsItem, StandsIn, IsMovedBlock, IsMovedTry, IsRead}
+use Rattle.pit_job.specs.Inside.Doing.{SeesUnmoved}
 
 abbrev pub outcome_of : EntryReply → ℕ → Outcome
 outcome_of (reply.Committed number) tries = outcome.Committed number tries
@@ -47,6 +48,15 @@ abbrev pub IsStop : Pit → ℕ → List Step → List Answered → JobStop → 
 IsStop pit max_entries steps seen stop.Full = max_entries ≤ length seen
 IsStop pit max_entries steps seen stop.NoMemory = ⊤
 IsStop pit max_entries steps seen stop.NoEntry = (block : ℕ) × IsRead pit steps block
+
+-- A try of these steps, which began after so many commits, got no reply, and not since the history is full: its planner has seen nothing more since, or
+-- it last looked at a block that a step may read, and that had not moved.
+abbrev pub EndsUnmoved : Pit → List Step → ℕ → List Answered → List Answered → Tried → Type 0
+EndsUnmoved pit steps start old new (tried.Moved block version) = ⊤
+EndsUnmoved pit steps start old new (tried.Answered answer) = ⊤
+EndsUnmoved pit steps start old new (tried.Stopped stop.Full) = ⊤
+EndsUnmoved pit steps start old new (tried.Stopped stop.NoMemory) = SeesUnmoved (IsRead pit steps) start old new
+EndsUnmoved pit steps start old new (tried.Stopped stop.NoEntry) = SeesUnmoved (IsRead pit steps) start old new
 
 -- what one try adds to the log
 abbrev pub Tries : Pit → ℕ → Job → ℕ → List Answered → List Answered → List Answered → Tried → Type 0

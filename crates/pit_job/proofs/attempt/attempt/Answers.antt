@@ -9,7 +9,7 @@ done-requires-clause-fresh g c = λ κs lives. fresh-of g.S.Session.instance c.a
 pub returns-in-Ok : goal.returns-in-Ok
 returns-in-Ok g c =
     begun-tries g.S.Session.instance g.S.Session.max_entries (job_numbered c.args.script.now.jobs c.args.n) c.args.n c.args.planner c.in-Ok.t.planner c.done.result.0 c.done.result.1
-    c.in-Ok.ensures.begun.planner c.done.ensures
+    c.in-Ok.ensures.begun.planner c.done.ensures.tries
 
 pub returns-in-Err : goal.returns-in-Err
 returns-in-Err g c =
