@@ -10,7 +10,7 @@ use Rattle.pit_step.specs.declared.fault.CliFault.TheVariants.{NoMemory}
 use Rattle.pit_step.specs.Steps.{IsResultOf}
 use Rattle.pit_command.specs.declared.origin.Origin.{Origin}
 use Rattle.pit_command.specs.declared.origin.Origin.TheVariants.{New, Continued}
-use Rattle.pit_command.specs.declared.words.MergeWords.{MergeWords}
+use Rattle.pit_command.specs.declared.merge_words.MergeWords.{MergeWords}
 use Rattle.pit.specs.declared.source_files.OpenFile.{OpenFile}
 use Rattle.pit.specs.Files.{Told, numbered, path_if, file_if}
 use Rattle.pit.specs.Histories.{kept_path, AreApart}

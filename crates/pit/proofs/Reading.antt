@@ -10,7 +10,7 @@ use Rattle.pit_step.specs.declared.fault.CliFault.TheVariants.{NoMemory}
 use Rattle.pit_step.specs.Steps.{each, IsResultOf}
 use Rattle.pit_opening.specs.Beginnings.{Begun, is_carried_on as carries_on}
 use Rattle.pit_cli.specs.Texts.{Texts}
-use Rattle.pit_command.specs.declared.words.PlanWords.{PlanWords}
+use Rattle.pit_command.specs.declared.plan_words.PlanWords.{PlanWords}
 use Rattle.pit.specs.declared.source_files.OpenFile.{OpenFile}
 use Rattle.pit.specs.Files.{Told}
 use Rattle.pit.specs.Histories.{kept_path, is_continued, AreApart}

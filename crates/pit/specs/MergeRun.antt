@@ -10,7 +10,7 @@ use Rattle.pit_merge.specs.Prepared.{prepare_run}
 use Rattle.pit_merge.specs.Merge.{merge_run}
 use Rattle.pit_keyed.specs.declared.keys.Keys.{Keys}
 use Rattle.pit_merge.specs.declared.options.MergeOptions.{MergeOptions}
-use Rattle.pit_command.specs.declared.words.MergeWords.{MergeWords}
+use Rattle.pit_command.specs.declared.merge_words.MergeWords.{MergeWords}
 use Rattle.pit.specs.Files.{Told}
 use Rattle.pit.specs.Histories.{history_is_there}
 use Rattle.pit.specs.OpenFiles.{files_step}

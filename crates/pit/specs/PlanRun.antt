@@ -15,7 +15,7 @@ use Rattle.pit_cli.specs.Output.{plan_run}
 use Rattle.pit_keyed.specs.declared.keys.Keys.{Keys}
 use Rattle.pit_cli.specs.declared.plan_options.PlanOptions.{PlanOptions}
 use Rattle.pit_command.specs.declared.origin.Origin.{Origin}
-use Rattle.pit_command.specs.declared.words.PlanWords.{PlanWords}
+use Rattle.pit_command.specs.declared.plan_words.PlanWords.{PlanWords}
 use Rattle.pit.specs.Files.{Told}
 use Rattle.pit.specs.Histories.{is_continued, kept_path, history_is_there, history_refusal, IsNewOutput, IsUnready}
 use Rattle.pit.specs.OpenFiles.{files_step, held_at}

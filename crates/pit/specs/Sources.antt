@@ -5,8 +5,8 @@ use Rattle.pit_step.specs.declared.input.Input.{Input}
 use Rattle.pit_step.specs.declared.input.Input.TheVariants.{Model, Precedence, Blocks, Start, History, Script, Edit}
 use Rattle.pit_command.specs.declared.origin.Origin.{Origin}
 use Rattle.pit_command.specs.declared.origin.Origin.TheVariants.{New, Continued}
-use Rattle.pit_command.specs.declared.words.PlanWords.{PlanWords}
-use Rattle.pit_command.specs.declared.words.MergeWords.{MergeWords}
+use Rattle.pit_command.specs.declared.plan_words.PlanWords.{PlanWords}
+use Rattle.pit_command.specs.declared.merge_words.MergeWords.{MergeWords}
 use Rattle.pit.specs.declared.sources.Parts.{Parts}
 use Rattle.pit.specs.declared.sources.Parts.TheVariants.{Scripts, Edits}
 use Rattle.pit.specs.declared.sources.Sources.{Sources}

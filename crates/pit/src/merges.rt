@@ -1,10 +1,9 @@
 //! The run of `merge` on the files that the words name. A history that is carried on is held from before the first input is opened; another is once what is
 //! begun with is parsed.
-ghost use Rattle.std.specs.Prelude.{◌≡◌, ◌≤◌, true, false, length, is_some};
+ghost use Rattle.std.specs.Prelude.{◌≡◌, true, false, is_some};
 ghost use Rattle.pit_step.specs.Steps.{IsResultOf};
 ghost use Rattle.pit_step.specs.Devices.{writing_of, known_if};
 ghost use Rattle.pit_output.specs.Outputs.{keeping_of};
-ghost use Rattle.pit_command.specs.Words.{edits_max};
 ghost use Rattle.pit.specs.Histories.{is_continued};
 ghost use Rattle.pit.specs.MergeRun.{merge_by, merge_options, held_merge};
 
@@ -26,7 +25,6 @@ pub fn run_merge<D: Disk, W: Sink, L: Sink>(
     out: &mut W,
     report: &mut L,
 ) -> Result<Status, CliFault>
-    requires few { length words.now.edits.now ≤ edits_max }
     ensures { let written = writing_of (W.contents out.old) (W.contents out.new) (W.has_failed out.new) in
         let lines = writing_of (L.contents report.old) (L.contents report.new) (L.has_failed report.new) in
         IsResultOf (merge_by (is_continued words.now.origin) (D.told disk.now) words.now (merge_options keys words.now) written lines ((out.new ≡ out.old) × (report.new ≡ report.old))) tt result }
@@ -50,7 +48,6 @@ fn begin<D: Disk, W: Sink, L: Sink>(
     out: &mut W,
     report: &mut L,
 ) -> Result<Status, CliFault>
-    requires few { length words.now.edits.now ≤ edits_max }
     ensures { let written = writing_of (W.contents out.old) (W.contents out.new) (W.has_failed out.new) in
         let lines = writing_of (L.contents report.old) (L.contents report.new) (L.has_failed report.new) in
         IsResultOf (merge_by false (D.told disk.now) words.now options written lines ((out.new ≡ out.old) × (report.new ≡ report.old))) tt result }
@@ -96,7 +93,6 @@ fn carry_on<D: Disk, W: Sink, L: Sink>(
     out: &mut W,
     report: &mut L,
 ) -> Result<Status, CliFault>
-    requires few { length words.now.edits.now ≤ edits_max }
     ensures { let written = writing_of (W.contents out.old) (W.contents out.new) (W.has_failed out.new) in
         let lines = writing_of (L.contents report.old) (L.contents report.new) (L.has_failed report.new) in
         IsResultOf (merge_by true (D.told disk.now) words.now options written lines ((out.new ≡ out.old) × (report.new ≡ report.old))) tt result }
@@ -120,7 +116,6 @@ fn merge_held<D: Disk, W: Sink, L: Sink>(
     report: &mut L,
     history: &mut Option<D::History>,
 ) -> Result<Status, CliFault>
-    requires few { length words.now.edits.now ≤ edits_max }
     ensures done { let written = writing_of (W.contents out.old) (W.contents out.new) (W.has_failed out.new) in
         let lines = writing_of (L.contents report.old) (L.contents report.new) (L.has_failed report.new) in
         let kept = known_if (λ old new. keeping_of (D.History.state old) (D.History.state new)) history.old history.new in

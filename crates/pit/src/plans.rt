@@ -29,7 +29,6 @@ pub fn run_plan<D: Disk, R: Threads + Wait + Sync, W: Sink, L: Sink>(
     out: &mut W,
     report: &mut L,
 ) -> Result<Status, CliFault>
-    requires few { words.now.retries ≤ RETRIES_MAX }
     ensures { let written = writing_of (W.contents out.old) (W.contents out.new) (W.has_failed out.new) in
         let lines = writing_of (L.contents report.old) (L.contents report.new) (L.has_failed report.new) in
         IsResultOf (plan_by (is_continued words.now.origin) (D.told disk.now) words.now (plan_options keys words.now) written lines ((out.new ≡ out.old) × (report.new ≡ report.old))) tt result }

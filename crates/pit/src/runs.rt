@@ -2,7 +2,6 @@
 ghost use Rattle.std.specs.Prelude.{◌≡◌};
 ghost use Rattle.pit_step.specs.Steps.{IsResultOf};
 ghost use Rattle.pit_step.specs.Devices.{writing_of};
-ghost use Rattle.pit_command.specs.Asked.{IsInRange};
 ghost use Rattle.pit_command.specs.declared.commands.Command.TheVariants.{Value as value_command, Check as check_command, Table as table_command, Diff as diff_command, Info as info_command, Show as show_command, Replay as replay_command, Log as log_command};
 ghost use Rattle.pit.specs.Runs.{IsRunOf, view_run, checked_input};
 
@@ -33,7 +32,6 @@ pub fn run<D: Disk, R: Threads + Wait + Sync, W: Sink, L: Sink>(
     out: &mut W,
     report: &mut L,
 ) -> Result<Status, CliFault>
-    requires few { IsInRange command.now }
     ensures { let written = writing_of (W.contents out.old) (W.contents out.new) (W.has_failed out.new) in
         let lines = writing_of (L.contents report.old) (L.contents report.new) (L.has_failed report.new) in
         IsRunOf keys command.now (D.told disk.now) (out.new ≡ out.old) (report.new ≡ report.old) written lines result }

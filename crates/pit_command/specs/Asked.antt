@@ -1,5 +1,5 @@
 -- What the words of the command line ask for.
-use Rattle.std.specs.Prelude.{◌≡◌, ◌≤◌, ◌⊎◌, ⊤, length, ℕ, true, false, List, [], ◌∷◌, None, Some, option_map, codes}
+use Rattle.std.specs.Prelude.{◌≡◌, ◌⊎◌, ℕ, true, false, List, [], ◌∷◌, None, Some, option_map, codes}
 use Rattle.std.specs.List.{list_any}
 use Rattle.std.specs.Str.{bytes_eq}
 use Rattle.clap.specs.Matches.{found_of, subcommand_name_of}
@@ -12,7 +12,7 @@ use Rattle.pit_step.specs.declared.input.Input.{Input}
 use Rattle.pit_command.specs.declared.commands.Command.{Command}
 use Rattle.pit_command.specs.declared.commands.Command.TheVariants.{Value, Check, Table, Diff, Info, Show, Plan, Replay, Log, Merge}
 use Rattle.pit_command.specs.Inputs.{subcommands, value_inputs, check_inputs, table_inputs, diff_inputs, pit_inputs, show_inputs, replay_inputs, log_inputs}
-use Rattle.pit_command.specs.Words.{IsLacking, AreValueWords, AreCheckWords, AreTableWords, AreDiffWords, AreInfoWords, AreShowWords, ArePlanWords, AreReplayWords, AreLogWords, AreMergeWords, IsPlanFault, IsMergeFault, edits_max, retries_max}
+use Rattle.pit_command.specs.Words.{IsLacking, AreValueWords, AreCheckWords, AreTableWords, AreDiffWords, AreInfoWords, AreShowWords, ArePlanWords, AreReplayWords, AreLogWords, AreMergeWords, IsPlanFault, IsMergeFault}
 
 -- the subcommand of this name, with these words, asks for a command
 abbrev pub Asks : List ℕ → ArgMatches → Command → Type 0
@@ -63,9 +63,3 @@ pub record IsAsked (matches : ArgMatches) (command : Command) : Type 0 where
 abbrev pub IsRefusal : ArgMatches → ErrorKind → Type 0
 IsRefusal matches kind =
     ((subcommand_name_of matches ≡ None) × (kind ≡ MissingSubcommand)) ⊎ ((name : List ℕ) × (given : ArgMatches) × AreBehind matches name given × IsFaulty name given kind)
-
--- no more edits are named, and no more retries wanted, than there may be
-abbrev pub IsInRange : Command → Type 0
-IsInRange (Plan words) = words.retries ≤ retries_max
-IsInRange (Merge words) = length words.edits.now ≤ edits_max
-IsInRange command = ⊤

@@ -1,3 +1,4 @@
+pub mod Limits
 pub mod Asked
 pub mod Command
 pub mod Inputs

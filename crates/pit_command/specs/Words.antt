@@ -1,5 +1,5 @@
 -- What the words give each subcommand.
-use Rattle.std.specs.Prelude.{◌≡◌, ◌⊎◌, ◌≤◌, ℕ, nat_le, nat_lt, Bool, true, false, ◌&&◌, ◌||◌, if◌then◌else◌, List, [], ◌∷◌, length, map, Any, Option, None, Some, is_some, Ok, Err, option_map, codes}
+use Rattle.std.specs.Prelude.{◌≡◌, ◌⊎◌, ℕ, nat_le, nat_lt, Bool, true, false, ◌&&◌, ◌||◌, if◌then◌else◌, List, [], ◌∷◌, length, map, Any, Option, None, Some, is_some, Ok, Err, option_map, codes}
 use Rattle.std.specs.Str.Parse.{ParsesUnsigned}
 use Rattle.clap.specs.Matches.{found_of, one_text}
 use Rattle.clap.specs.declared.error.kind.ErrorKind.{ErrorKind}
@@ -15,10 +15,11 @@ use Rattle.pit_command.specs.declared.words.TableWords.{TableWords}
 use Rattle.pit_command.specs.declared.words.DiffWords.{DiffWords}
 use Rattle.pit_command.specs.declared.words.InfoWords.{InfoWords}
 use Rattle.pit_command.specs.declared.words.ShowWords.{ShowWords}
-use Rattle.pit_command.specs.declared.words.PlanWords.{PlanWords}
+use Rattle.pit_command.specs.declared.plan_words.PlanWords.{PlanWords}
 use Rattle.pit_command.specs.declared.words.ReplayWords.{ReplayWords}
 use Rattle.pit_command.specs.declared.words.LogWords.{LogWords}
-use Rattle.pit_command.specs.declared.words.MergeWords.{MergeWords}
+use Rattle.pit_command.specs.declared.merge_words.MergeWords.{MergeWords}
+use Rattle.pit_command.specs.Limits.{retries_max, edits_max}
 use Rattle.pit_command.specs.Inputs.{path_of, history_path, scripts_of, edits_of, plan_inputs, merge_inputs}
 
 -- ---- flags and numbers
@@ -38,10 +39,6 @@ ReadsAs bits text (Some n) = ParsesUnsigned {E = Unit {0}} bits 10 text (Ok n)
 pub record IsNumber (given : ArgMatches) (name : List ℕ) (bits : ℕ) (number : Option ℕ) : Type 0 where
   pub absent : one_text (found_of given) name ≡ None → number ≡ None
   pub present : (text : List ℕ) → one_text (found_of given) name ≡ Some text → ReadsAs bits text number
-
--- how often a job may be repeated at most
-abbrev pub retries_max : ℕ
-retries_max = 1000
 
 -- the number that the words give, but no more than there may be; 3 where they give none
 abbrev pub retries_in : Option ℕ → ℕ
@@ -68,10 +65,6 @@ abbrev pub IsOrigin : ArgMatches → Origin → Type 0
 IsOrigin given (begun_anew words) =
     (continue_path given ≡ None) × (option_map (λ path. path.now) words.start ≡ path_of given Start) × (option_map (λ path. path.now) words.history ≡ history_path given)
 IsOrigin given (Continued path) = (Some path.now ≡ continue_path given) × (path_of given Start ≡ None) × (history_path given ≡ None)
-
--- how many edits one merge may have
-abbrev pub edits_max : ℕ
-edits_max = 64
 
 -- the words name more
 abbrev pub has_many : ArgMatches → Bool
@@ -127,7 +120,6 @@ pub record ArePlanWords (given : ArgMatches) (words : PlanWords) : Type 0 where
   pub blocks : option_map (λ path. path.now) words.blocks ≡ path_of given Blocks
   pub scripts : map (λ path. path.now) words.scripts.now ≡ scripts_of given
   pub retries : IsRetries given words.retries
-  pub few : words.retries ≤ retries_max
   pub in_turn : IsFlag given (codes "in-turn") words.is_in_turn
   pub strict : IsFlag given (codes "strict") words.is_strict
 
@@ -147,7 +139,6 @@ pub record AreMergeWords (given : ArgMatches) (words : MergeWords) : Type 0 wher
   pub model : Some words.model.now ≡ path_of given Model
   pub precedence : Some words.precedence.now ≡ path_of given Precedence
   pub edits : map (λ path. path.now) words.edits.now ≡ edits_of given
-  pub few : length words.edits.now ≤ edits_max
   pub from : IsNumber given (codes "from") 32 words.from
   pub partial : IsFlag given (codes "partial") words.is_partial
 

@@ -1,7 +1,8 @@
 //! The arguments of the command line, by the inputs and the output whose paths they are.
 ghost use Rattle.std.specs.Prelude.{◌≡◌, ◌≤◌, ◌∷◌, [], length, map, option_map, codes, false, IfOk, IfErr, OnOk, OnErr};
 ghost use Rattle.pit_command.specs.Inputs.{argument_of, path_of, paths_of, edits_of, history_path};
-ghost use Rattle.pit_command.specs.Words.{edits_max, has_many, AreNoEdits, IsLacking, retries_max, retries_in, IsRetries, IsNumber, IsFlag};
+ghost use Rattle.pit_command.specs.Limits.{edits_max, retries_max};
+ghost use Rattle.pit_command.specs.Words.{has_many, AreNoEdits, IsLacking, retries_in, IsRetries, IsNumber, IsFlag};
 
 use clap::ArgMatches;
 use clap::error::ErrorKind;

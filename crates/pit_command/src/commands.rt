@@ -1,11 +1,13 @@
 //! What the words of the command line ask for.
-ghost use Rattle.std.specs.Prelude.{IfOk, MatchResult};
-ghost use Rattle.pit_command.specs.Asked.{Asks, IsFaulty, IsAsked, IsInRange, IsRefusal};
+ghost use Rattle.std.specs.Prelude.{MatchResult};
+ghost use Rattle.pit_command.specs.Asked.{Asks, IsFaulty, IsAsked, IsRefusal};
 
+use crate::merge_words::MergeWords;
+use crate::plan_words::PlanWords;
 use crate::words::{
-    CheckWords, DiffWords, InfoWords, LogWords, MergeWords, PlanWords, ReplayWords, ShowWords,
-    TableWords, ValueWords, check_words, diff_words, info_words, log_words, merge_words,
-    plan_words, replay_words, show_words, table_words, value_words,
+    CheckWords, DiffWords, InfoWords, LogWords, ReplayWords, ShowWords, TableWords, ValueWords,
+    check_words, diff_words, info_words, log_words, merge_words, plan_words, replay_words,
+    show_words, table_words, value_words,
 };
 use clap::ArgMatches;
 use clap::error::ErrorKind;
@@ -68,8 +70,7 @@ pub(crate) const MERGE: &str = "merge";
 /// What the words ask for, or why they are refused: no subcommand is named, some exclude one another, there are too many edits, or one that is
 /// required isn't there, which the parser has seen to before.
 pub fn asked<'m, 'a>(matches: &'m ArgMatches<'a>) -> Result<Command<'m>, ErrorKind>
-    ensures asks { MatchResult result (IsAsked matches.now) (IsRefusal matches.now) }
-    ensures range { IfOk result IsInRange }
+    ensures { MatchResult result (IsAsked matches.now) (IsRefusal matches.now) }
 {
     match matches.subcommand() {
         Some((name, given)) => command_of(name, given),
@@ -79,8 +80,7 @@ pub fn asked<'m, 'a>(matches: &'m ArgMatches<'a>) -> Result<Command<'m>, ErrorKi
 
 /// The same of the words behind the name of a subcommand.
 fn command_of<'m, 'a>(name: &str, given: &'m ArgMatches<'a>) -> Result<Command<'m>, ErrorKind>
-    ensures asks { MatchResult result (Asks name.now given.now) (IsFaulty name.now given.now) }
-    ensures range { IfOk result IsInRange }
+    ensures { MatchResult result (Asks name.now given.now) (IsFaulty name.now given.now) }
 {
     match name {
         VALUE => Ok(Command::Value(value_words(given)?)),

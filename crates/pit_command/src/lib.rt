@@ -7,16 +7,19 @@
 mod argument;
 mod command;
 mod commands;
+mod merge_words;
 mod notes;
 mod origin;
+mod plan_words;
 mod rules;
 mod subcommand;
 mod words;
 
 pub use command::{matched, refusal};
 pub use commands::{Command, asked};
+pub use merge_words::MergeWords;
 pub use origin::{NewWords, Origin};
+pub use plan_words::PlanWords;
 pub use words::{
-    CheckWords, DiffWords, InfoWords, LogWords, MergeWords, PlanWords, ReplayWords, ShowWords,
-    TableWords, ValueWords,
+    CheckWords, DiffWords, InfoWords, LogWords, ReplayWords, ShowWords, TableWords, ValueWords,
 };

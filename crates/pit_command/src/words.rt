@@ -7,7 +7,9 @@ use crate::argument::{
     asks_all, asks_writes, at_of, edits_of, from_of, is_in_turn, is_partial, is_strict, path_of,
     paths_of, retries_of,
 };
-use crate::origin::{Origin, origin_of};
+use crate::merge_words::MergeWords;
+use crate::origin::origin_of;
+use crate::plan_words::PlanWords;
 use clap::ArgMatches;
 use clap::error::ErrorKind;
 use pit_step::Input;
@@ -76,27 +78,6 @@ pub struct ShowWords<'a> {
     pub at: Option<u32>,
 }
 
-/// What `plan` is given.
-#[derive(Clone, Copy)]
-pub struct PlanWords<'a> {
-    /// The path of the model.
-    pub model: &'a str,
-    /// The path of its precedences.
-    pub precedence: &'a str,
-    /// The path of the blocks' places.
-    pub blocks: Option<&'a str>,
-    /// What is begun with, and where the history is written.
-    pub origin: Origin<'a>,
-    /// The paths of the scripts.
-    pub scripts: &'a [&'a str],
-    /// How often a job is repeated, at most `RETRIES_MAX` times.
-    pub retries: u32,
-    /// Whether one thread does the scripts of all planners, one after another.
-    pub is_in_turn: bool,
-    /// Whether a plan of which a job was refused has failed.
-    pub is_strict: bool,
-}
-
 /// What `replay` is given.
 #[derive(Clone, Copy)]
 pub struct ReplayWords<'a> {
@@ -119,23 +100,6 @@ pub struct LogWords<'a> {
     pub history: &'a str,
     /// Whether it prints what each commit wrote and revised.
     pub with_writes: bool,
-}
-
-/// What `merge` is given.
-#[derive(Clone, Copy)]
-pub struct MergeWords<'a> {
-    /// The path of the model.
-    pub model: &'a str,
-    /// The path of its precedences.
-    pub precedence: &'a str,
-    /// What is begun with, and where the history is written.
-    pub origin: Origin<'a>,
-    /// The paths of the edits, at most `EDITS_MAX`.
-    pub edits: &'a [&'a str],
-    /// Of how many commits an edit was made that doesn't say it.
-    pub from: Option<u32>,
-    /// Whether what somebody else has changed is left out of an edit.
-    pub is_partial: bool,
 }
 
 /// The paths of two inputs that are required.

@@ -36,7 +36,7 @@ merge-answer-requires g c =
     let left = g.D.File.Read.remaining in
     let count = as-many-edits (g.D.Disk.told c.args.disk.now) c.args.words.now false c.in-Ok.files c.in-Ok.ensures in
     record {
-      few = omega (arith, ap length c.deref_mut.ensures.value, length-map c.files.inside.edits.items (λ source. left source.reader), ap (λ (f : MergeFiles). length f.edits) c.files.view_is, count, c.requires.few);
+      few = omega (arith, ap length c.deref_mut.ensures.value, length-map c.files.inside.edits.items (λ source. left source.reader), ap (λ (f : MergeFiles). length f.edits) c.files.view_is, count, c.args.words.now.few);
     }
 
 pub returns : goal.returns
