@@ -5,7 +5,7 @@ ghost use Rattle.pit_model.specs.Fitting.{Fits, RevisionsFit, revisions_of};
 ghost use Rattle.pit_num.specs.Least.{ComesBefore, IsLeast};
 ghost use Rattle.pit_model.specs.Pit.{cell_of};
 ghost use Rattle.pit_plan.specs.Schedule.{by_block};
-ghost use Rattle.pit_plan.specs.Breaches.{IsFirstBreach, IsGood, IsOrdered, IsOutOfOrder, IsUnderLimits};
+ghost use Rattle.pit_plan.specs.Breaches.{IsFirstBreach, IsGood, IsOutOfOrder};
 ghost use Rattle.pit_plan.specs.Inside.Totals.{IsTally};
 ghost use Rattle.pit_plan.specs.Limits.{cell_limit, at_cell};
 ghost use Rattle.pit_plan.specs.Inside.Limits.{by_cell};
@@ -52,27 +52,7 @@ pub(crate) fn first_breach_after<A: Allocator + Copy + Drop>(
     if let Some((block, before)) = out {
         return Ok(Some(Breach::Precedence { block, before }));
     }
-    first_over_where_ordered(alloc, pit.deposit(), tally, limits, writes, revises)
-}
-
-/// The first breach after the writes and the revisions, where they leave no pair out of order.
-fn first_over_where_ordered<A: Allocator + Copy + Drop>(
-    alloc: A,
-    pit: &Deposit<A>,
-    tally: &Tally<A>,
-    limits: &[Option<i64>],
-    writes: &[(u32, Option<u32>)],
-    revises: &[(u32, u32, Option<i64>)],
-) -> Result<Option<Breach>, NoMemory>
-    requires tally { IsTally pit.now tally.now }
-    requires limits { length limits.now ≡ pit.now.periods * pit.now.resources }
-    requires writes { Fits pit.now.blocks pit.now.periods writes.now }
-    requires revises { RevisionsFit pit.now.resources pit.now.periods (revisions_of revises.now) }
-    ensures { IfOk result (λ breach. IsUnderLimits pit.now (by_block tally.now.periods) (at_cell pit.now (cell_limit limits.now))
-        → IsOrdered pit.now (overlaid_item (by_block tally.now.periods) writes.now)
-        → IsFirstBreach pit.now (overlaid_item (by_block tally.now.periods) writes.now)
-        (at_cell pit.now (overlaid_item (cell_limit limits.now) (by_cell pit.now (revisions_of revises.now)))) breach) }
-{
+    let pit = pit.deposit();
     let revised = Overlay {
         kept: limits,
         pairs: revised(alloc, pit, revises)?,
