@@ -12,10 +12,12 @@ use Rattle.pit_text.specs.Blocks.{block_line}
 use Rattle.pit_text.specs.Solution.{SolutionStops}
 use Rattle.pit_text.proofs.CallerLemmas.{no_fault_wants, stop_alone}
 use Rattle.pit_step.specs.declared.input.Input.{Input}
+use Rattle.pit_step.specs.declared.input.Input.TheVariants.{Precedence}
 use Rattle.pit_step.specs.declared.fault.CliFault.{CliFault}
 use Rattle.pit_step.specs.declared.fault.CliFault.TheVariants.{NoMemory}
+use Rattle.pit_step.specs.Steps.{IsResultOf}
 use Rattle.pit_step.specs.Devices.{Reading, input_step}
-use Rattle.pit_step.specs.Inputs.{IsModel, IsBadModel, IsModelStop, IsOrder, IsBadOrder, IsOrderStop, IsBadPlaces, IsPlacesStop, IsSolutionOf, IsBadSolution, IsSolutionStop}
+use Rattle.pit_step.specs.Inputs.{IsModel, IsBadModel, IsModelStop, IsOrder, IsOrderFault, IsBadOrder, IsOrderStop, model_step, order_step, ordered_pit_step, IsBadPlaces, IsPlacesStop, IsSolutionOf, IsBadSolution, IsSolutionStop}
 
 -- ---- behind the whole text
 
@@ -69,3 +71,11 @@ module _ {A B C : Type 0} (file : Input) (source : Reading) (Stands : A → List
       → MatchResult result (λ x. (input_step file source Made IsFault).Gives given (value_of x)) ((input_step file source Made IsFault).Fails given)
   made value_of value P result make stop read answered =
       MatchResult-weaker result answered (made_gives value_of value P make read) (λ fault is. wants value fault stop read is)
+
+-- the pit that a model and precedences stand for is made, or there is no memory for it
+pub ordered-made : (model precedence : Reading) (given pit : Pit) (result : Result Pit CliFault) → (model_step model).Gives tt given → (order_step precedence).Gives given pit
+    → MatchResult result (λ (p : Pit). p ≡ pit) (λ fault. fault ≡ NoMemory) → IsResultOf (ordered_pit_step model precedence) tt result
+ordered-made model precedence given pit result first behind answered =
+    let order = made Precedence precedence IsOrder IsOrder IsOrderFault given (λ (p : Pit). p) pit (λ (p : Pit). p ≡ pit) result
+    (λ bytes p stands is. subst (λ (q : Pit). IsOrder given bytes q) (sym is) stands) (λ bytes stands. order-stop given bytes pit stands) behind answered in
+    MatchResult-weaker result order (λ p gives. (given, first, gives)) (λ fault fails. inr (given, first, fails))
