@@ -4,6 +4,7 @@ pub mod Reads
 pub mod Endings
 pub mod Logs
 pub mod GoingOn
+pub mod Locked
 pub mod Closing
 pub mod Opening
 pub mod Inside

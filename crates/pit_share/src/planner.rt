@@ -8,7 +8,7 @@ use crate::account::Account;
 use crate::floor::Floor;
 use crate::log::PlannerLog;
 use crate::transaction::Transaction;
-use pit_board::Session;
+use pit_board::{Prefix, Session};
 use pit_num::NoMemory;
 use std::alloc::Allocator;
 use std::marker::Model;
@@ -46,6 +46,13 @@ impl<'a, S: Session, R: Wait + Drop, A: Allocator + Copy + Drop> Planner<'a, S, 
     {
         self.account.prefix().shows_lawful();
         self.account.number()
+    }
+
+    /// The entries that it has seen.
+    pub fn prefix(&self) -> &Prefix<S>
+        ensures { result.now ≡ self.now.seen }
+    {
+        self.account.prefix()
     }
 
     /// Begins a transaction for a job, after all commits that the planner sees. Looks at the board for them; where it isn't let in, the transaction

@@ -8,7 +8,7 @@ use crate::account::Account;
 use crate::error::OpenError;
 use crate::planner::Planner;
 use crate::workspace::Workspace;
-use pit_board::{Publisher, Session};
+use pit_board::{Prefix, Publisher, Session};
 use pit_model::Instance;
 use std::alloc::Allocator;
 use std::marker::Model;
@@ -39,6 +39,13 @@ impl<S: Session, A: Allocator + Copy + Drop> Seat<S, A> {
     {
         let Seat { account } = self;
         Planner::new(workspace.floor(), account)
+    }
+
+    /// The entries that its planner will have seen: the opening history.
+    pub fn prefix(&self) -> &Prefix<S>
+        ensures { result.now ≡ S.opening }
+    {
+        self.account.prefix()
     }
 
     fn new(account: Box<Account<S, A>, A>) -> Seat<S, A>

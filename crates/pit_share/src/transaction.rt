@@ -19,7 +19,7 @@ use crate::account::Account;
 use crate::error::ReadStop;
 use crate::floor::Floor;
 use crate::planner::Planner;
-use pit_board::Session;
+use pit_board::{Prefix, Session};
 use pit_desk::{Reply, Stop};
 use pit_num::NoMemory;
 use pit_tx::{LimitMap, PeriodMap, Work, WorkError};
@@ -70,6 +70,13 @@ impl<'a, S: Session, R: Wait + Drop, A: Allocator + Copy + Drop> Transaction<'a,
     {
         self.account.prefix().shows_lawful();
         self.work.start()
+    }
+
+    /// The entries that its planner has seen.
+    pub fn prefix(&self) -> &Prefix<S>
+        ensures { result.now ≡ self.now.planner.seen }
+    {
+        self.account.prefix()
     }
 
     /// The read set: each block with what it held at the start.

@@ -1,6 +1,8 @@
 //! Workspaces.
-ghost use Rattle.std.specs.Prelude.{◌≡◌, ◌↔◌, IsTrue, IfOk, IfErr};
+ghost use Rattle.std.specs.Prelude.{◌≡◌, ◌++◌, ◌↔◌, IsTrue, IfOk, IfErr};
 ghost use Rattle.pit_share.specs.Closing.{IsClosed, IsCloseError};
+ghost use Rattle.pit_share.specs.Locked.{IsLockedValue};
+ghost use Rattle.pit_share.specs.Inside.Closing.{AreBeside};
 ghost use Rattle.pit_share.specs.Opening.{IsPlannerCount, AreSeats, IsOpenError};
 ghost use Rattle.pit_share.specs.declared.new_session.TheConstants.{PLANNERS_MAX};
 
@@ -10,8 +12,9 @@ use crate::floor::Floor;
 use crate::log::PlannerLog;
 use crate::new_session::{NewSession, PLANNERS_MAX};
 use crate::seat::{Seat, seats_of};
-use pit_board::{Publisher, Session};
-use pit_desk::Desk;
+use pit_board::{Prefix, Publisher, Session};
+use pit_desk::{Desk, Entry};
+use pit_num::NoMemory;
 use std::alloc::Allocator;
 use std::sync::{Mutex, Wait};
 
@@ -79,17 +82,82 @@ impl<S: Session, R: Wait + Drop, A: Allocator + Copy + Drop> Workspace<S, R, A> 
         ensures logs { IfErr result (λ refused. refused.1 ≡ logs) }
         ensures err { IfErr result (λ refused. IsCloseError S.instance S.opening S.max_entries S.planners logs.items refused.2) }
     {
-        let Workspace { floor } = self;
-        let floor = floor.into_inner();
-        if let Some(error) = floor.close_error(logs.as_slice()) {
-            let floor = Mutex::new(floor);
-            return Err((Workspace { floor }, logs, error));
+        match self.into_floor(logs.as_slice()) {
+            Ok(floor) => Ok(floor.into_closed(logs)),
+            Err((workspace, error)) => Err((workspace, logs, error)),
         }
-        Ok(floor.into_closed(logs))
+    }
+
+    /// Closes the workspace as `close` does, and says whether a prefix is all of its history.
+    pub fn close_beside(
+        self,
+        logs: Vec<PlannerLog<S, A>, A>,
+        known: &Prefix<S>,
+    ) -> Result<(Closed<A>, bool), (Workspace<S, R, A>, Vec<PlannerLog<S, A>, A>, CloseError)>
+        ensures ok { IfOk result (λ made. IsClosed S.instance S.opening S.max_entries S.planners logs.items made.0) }
+        ensures known { IfOk result (λ made. IsTrue made.1 ↔ (known.now ≡ made.0.history)) }
+        ensures logs { IfErr result (λ refused. refused.1 ≡ logs) }
+        ensures err { IfErr result (λ refused. IsCloseError S.instance S.opening S.max_entries S.planners logs.items refused.2) }
+    {
+        let floor = match self.into_floor(logs.as_slice()) {
+            Ok(floor) => floor,
+            Err((workspace, error)) => return Err((workspace, logs, error)),
+        };
+        let is_all = floor.is_all(known);
+        Ok((floor.into_closed(logs), is_all))
+    }
+
+    /// Copies of the entries that the history has behind a prefix of it, and the prefix that is all of it. Takes the memory of the copies. Waits for
+    /// the lock, and, though nothing leads to it, for a history that has what the prefix has.
+    pub fn behind<W: Wait>(
+        &self,
+        rt: &W,
+        from: &Prefix<S>,
+    ) -> Result<(Vec<Entry<A>, A>, Prefix<S>), NoMemory>
+        ensures { IfOk result (λ found. found.1 ≡ from.now ++ found.0.items) }
+    {
+        for _ in rt.forever() {
+            if let Some(found) = self.floor.lock(rt).behind(from)? {
+                return Ok(found);
+            }
+        }
+        unreachable!()
+    }
+
+    /// The number of commits of the schedule behind the lock, and its value in units of 10^-18, where its history has what a planner has seen. Waits
+    /// for the lock, and, though nothing leads to it, for a history that has that.
+    pub fn value<W: Wait>(&self, rt: &W, seen: &Prefix<S>) -> (u32, i128)
+        ensures { IsLockedValue S.instance seen.now result.0 result.1 }
+    {
+        for _ in rt.forever() {
+            if let Some(value) = self.floor.lock(rt).value_behind(seen) {
+                return value;
+            }
+        }
+        unreachable!()
     }
 
     pub(crate) fn floor(&self) -> &Mutex<Floor<S, R, A>> {
         &self.floor
+    }
+
+    /// What stands behind the lock, where nothing speaks against closing it by these logs.
+    fn into_floor(
+        self,
+        logs: &[PlannerLog<S, A>],
+    ) -> Result<Floor<S, R, A>, (Workspace<S, R, A>, CloseError)>
+        ensures beside { IfOk result (λ floor. AreBeside S.opening floor.history S.planners logs.now) }
+        ensures err { IfErr result (λ refused. IsCloseError S.instance S.opening S.max_entries S.planners logs.now refused.1) }
+    {
+        let Workspace { floor } = self;
+        let floor = floor.into_inner();
+        match floor.close_error(logs) {
+            None => Ok(floor),
+            Some(error) => {
+                let floor = Mutex::new(floor);
+                Err((Workspace { floor }, error))
+            }
+        }
     }
 }
 
