@@ -1,4 +1,5 @@
 pub mod CallerLemmas
+pub mod Gathering
 pub mod Known
 pub mod Outputs
 pub mod Refusals

@@ -4,3 +4,7 @@ pub mod OutputState
 pub mod Found
 pub mod Inputs
 pub mod Outputs
+pub mod Synced
+pub mod Kept
+pub mod InputLines
+pub mod Inside

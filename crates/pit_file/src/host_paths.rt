@@ -65,16 +65,36 @@ pub(crate) fn kind_of(found: io::Result<Metadata>) -> Result<Kind, Failed> {
 
 /// A path has to end with a name: neither `/` nor `.` or `..` can be one.
 fn resolved_in_folder(rt: &HostRuntime, path: &str) -> io::Result<String> {
-    let Some(name) = Path::new(path).file_name() else {
+    let Some((folder, name)) = folder_and_name(path) else {
         return Err(ErrorKind::InvalidInput.into());
     };
-    let Some(folder) = path.strip_suffix(name) else {
-        return Err(ErrorKind::InvalidInput.into());
-    };
-    let folder = if folder.is_empty() { "." } else { folder };
     let mut resolved = fs::canonicalize(rt, folder)?;
     resolved.push(name)?;
     Ok(resolved.into_string())
+}
+
+/// The folder of a path and the name in it.
+fn folder_and_name(path: &str) -> Option<(&str, &str)> {
+    let name = Path::new(path).file_name()?;
+    let folder = path.strip_suffix(name)?;
+    if folder.is_empty() {
+        return Some((".", name));
+    }
+    Some((folder, name))
+}
+
+/// Waits until what stands in the folder of a path is on the disk.
+pub(crate) fn sync_folder_of(rt: &HostRuntime, path: &str) -> Result<(), Failed> {
+    let Some((folder, _)) = folder_and_name(path) else {
+        return Err(Failed);
+    };
+    let Ok(folder) = File::open(rt, folder) else {
+        return Err(Failed);
+    };
+    match folder.sync_all() {
+        Ok(()) => Ok(()),
+        Err(_) => Err(Failed),
+    }
 }
 
 /// A stream at a path: what is there is opened to be written, and keeps what it holds.
