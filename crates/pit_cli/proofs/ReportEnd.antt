@@ -22,7 +22,8 @@ use Rattle.pit_step.specs.declared.status.Status.{Status}
 use Rattle.pit_step.specs.declared.status.Status.TheVariants.{Fine, Failed}
 use Rattle.pit_step.specs.declared.fault.CliFault.{CliFault}
 use Rattle.pit_step.specs.declared.fault.CliFault.TheVariants.{Stopped}
-use Rattle.pit_cli.specs.Output.{is_whole, all_whole, was_granted, all_granted, status_of_shorts, status_by, ended_of, report_text}
+use Rattle.pit_output.specs.Outputs.{status_of_shorts}
+use Rattle.pit_cli.specs.Output.{is_whole, all_whole, was_granted, all_granted, status_by, ended_of, report_text}
 
 abbrev Ending : Type 0
 Ending = Result Status CliFault

@@ -10,12 +10,9 @@ use Rattle.pit_text.proofs.CallerLemmas.{stop_alone}
 use Rattle.pit_script.proofs.CallerLemmas.{no_script_fault_wants, no_line_stands}
 use Rattle.pit_step.specs.declared.fault.CliFault.{CliFault}
 use Rattle.pit_step.specs.declared.fault.CliFault.TheVariants.{NoMemory}
-use Rattle.pit_step.specs.Inputs.{IsPlaced, IsPlacesStop, IsPlacesFault}
+use Rattle.pit_step.specs.Inputs.{IsPlaced, IsPlacesFault}
+use Rattle.pit_step.proofs.CallerLemmas.{places-stop}
 use Rattle.pit_cli.specs.Texts.{ArePlacesOf, IsPlacedFault, IsScriptOf, IsScriptStop}
-
-places-stop : (given : Pit) (bytes : List ℕ) (pit : Pit) → IsPlaced given bytes pit → IsPlacesStop given bytes
-unfolding IsPlacesStop
-places-stop given bytes pit is = inr (is.facts, is.stands)
 
 -- a pit is built of what the places stand for
 pub placed-built : (given pit : Pit) (places : Option (List ℕ)) (bytes : List ℕ) (result : Result Pit CliFault) → places ≡ Some bytes → IsPlaced given bytes pit

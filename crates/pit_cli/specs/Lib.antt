@@ -54,3 +54,10 @@ pub use Rattle.pit_merge.specs.Prepared
 pub use Rattle.pit_merge.specs.Edits
 pub use Rattle.pit_merge.specs.Merge
 pub use Rattle.pit_merge.specs.MergedHistory
+pub use Rattle.pit_live.specs.LiveStarts
+pub use Rattle.pit_live.specs.LiveFiles
+pub use Rattle.pit_live.specs.Notices
+pub use Rattle.pit_live.specs.Sittings
+pub use Rattle.pit_live.specs.Sat
+pub use Rattle.pit_live.specs.Live
+pub use Rattle.pit_live.specs.LiveHistory

@@ -1,5 +1,5 @@
 -- What `plan` writes of a run, and how it ends.
-use Rattle.std.specs.Prelude.{ℕ, Bool, true, false, if◌then◌else◌, List, [], ◌∷◌, ◌++◌, ◌&&◌, not, Option, IsSome, Result, Ok, Err, All, codes}
+use Rattle.std.specs.Prelude.{ℕ, Bool, true, false, if◌then◌else◌, List, ◌++◌, ◌&&◌, not, Option, IsSome, Result, Ok, Err, All, codes}
 use Rattle.std.specs.List.{list_all}
 use Rattle.pit_model.specs.Pit.{Pit}
 use Rattle.pit_plan.specs.Schedule.{Commit, held_period, value_of}
@@ -15,13 +15,13 @@ use Rattle.pit_cli.specs.ReportText.{runs_text}
 use Rattle.pit_step.specs.LineTexts.{value_text, shorts_text, left_text}
 use Rattle.pit_step.specs.Steps.{Step, in_turn, pass_step, may_step, run_step}
 use Rattle.pit_step.specs.Devices.{Writing, write_step}
-use Rattle.pit_output.specs.Outputs.{new_line, Keeping, Outputs, outputs_run, IsUnwritten}
+use Rattle.pit_output.specs.Outputs.{new_line, status_of_shorts, Keeping, Outputs, outputs_run, IsUnwritten}
 use Rattle.pit_lines.specs.Ranges.{IsInRange}
 use Rattle.pit_lines.specs.Texts.{history_text}
 use Rattle.pit_step.specs.declared.fault.CliFault.{CliFault}
 use Rattle.pit_step.specs.declared.fault.CliFault.TheVariants.{NoMemory, Stopped}
 use Rattle.pit_step.specs.declared.status.Status.{Status}
-use Rattle.pit_step.specs.declared.status.Status.TheVariants.{Fine, Failed}
+use Rattle.pit_step.specs.declared.status.Status.TheVariants.{Failed}
 use Rattle.pit_opening.specs.Beginnings.{Begun, is_carried_on, is_unbegun}
 use Rattle.pit_cli.specs.declared.plan_options.PlanOptions.{PlanOptions}
 use Rattle.pit_cli.specs.Texts.{Texts}
@@ -44,10 +44,6 @@ was_granted other = true
 
 abbrev pub all_granted : List RunState → Bool
 all_granted runs = list_all (λ run. list_all was_granted run.jobs) runs
-
-abbrev pub status_of_shorts : List Short → Status
-status_of_shorts [] = Fine
-status_of_shorts (short ∷ more) = Failed
 
 -- a load falls short, or, where that counts, a job was refused
 abbrev pub status_by : Bool → Bool → List Short → Status

@@ -25,6 +25,7 @@ pub use pit_diff::diff;
 pub use pit_file::{HistoryOut, Stream};
 pub use pit_info::info;
 pub use pit_keyed::Keys;
+pub use pit_live::{LiveFile, LiveInput, SessionEnd, Sitting, live, one_live_history};
 pub use pit_log::log;
 pub use pit_merge::{
     CONFLICTS_SHOWN, EDITS_MAX, MergeInput, MergeOptions, edit_writes, laid_over_in_order,

@@ -13,7 +13,7 @@ ghost use Rattle.pit_cli.specs.Output.{is_whole, all_whole, was_granted, all_gra
 use crate::report_text::write_runs;
 use pit_job::{Outcome, RunEnd};
 use pit_num::{NoMemory, Sink, WriteFault, write_text};
-use pit_output::write_new_line;
+use pit_output::{status_of_shorts, write_new_line};
 use pit_plan::Short;
 use pit_run::{PlannerRun, Report};
 use pit_step::{CliFault, Status, empty_text, gathered, write_value_lines};
@@ -105,10 +105,7 @@ fn status_of(shorts: &[Short], is_strict: bool, are_granted: bool) -> Status
     if is_strict && !are_granted {
         return Status::Failed;
     }
-    match shorts {
-        [] => Status::Fine,
-        _ => Status::Failed,
-    }
+    status_of_shorts(shorts)
 }
 
 /// Whether no job of any planner was refused.

@@ -1,5 +1,5 @@
--- For the crates above: a fault of what a plan begins with is of the inputs, or memory runs out.
-use Rattle.std.proofs.Common.{◌≡◌, ◌⊎◌, inl, inr, ℕ, Bool, true, false, List, refl, sym, subst}
+-- For the crates above: a fault of what a plan begins with is of the inputs, or memory runs out; and what reading it shows.
+use Rattle.std.proofs.Common.{◌≡◌, ◌⊎◌, inl, inr, ℕ, Bool, true, false, List, Option, Some, None, refl, sym, subst}
 use Rattle.pit_model.specs.Pit.{Pit}
 use Rattle.pit_text.specs.declared.error.TextError.{TextError}
 use Rattle.pit_desk.specs.declared.error.DeskError.{DeskError}
@@ -9,10 +9,10 @@ use Rattle.pit_step.specs.declared.input.Input.{Input}
 use Rattle.pit_step.specs.declared.input.Input.TheVariants.{Start, History}
 use Rattle.pit_step.specs.declared.fault.CliFault.{CliFault}
 use Rattle.pit_step.specs.declared.fault.CliFault.TheVariants as cli
-use Rattle.pit_step.specs.Devices.{IsTextFault}
+use Rattle.pit_step.specs.Devices.{IsTextFault, Reading, reading_of, known_if}
 use Rattle.pit_step.specs.Inputs.{IsHistoryFault}
-use Rattle.pit_step.proofs.CallerLemmas.{IsOfInputs}
-use Rattle.pit_opening.specs.Beginnings.{Begun, nothing, scheduled, carried_on, unbegun, IsStartFault, IsOpeningFault}
+use Rattle.pit_step.proofs.CallerLemmas.{IsOfInputs, keeps_itself}
+use Rattle.pit_opening.specs.Beginnings.{Begun, nothing, scheduled, carried_on, unbegun, begin_step, IsStartFault, IsOpeningFault}
 use Rattle.pit_opening.specs.Openings.{Opened, started, resumed, IsDeskFault, desk_fault_of}
 
 -- it is of the inputs, or memory runs out
@@ -52,3 +52,16 @@ refusal_early pit (resumed file entries) (cli.TooLong f) p = inl refl
 refusal_early pit (resumed file entries) (cli.Illegal f place) p = inl refl
 refusal_early pit (resumed file entries) cli.NoMemory p = inr refl
 refusal_early pit (resumed file entries) other p = absurd p
+
+-- ---- how it is read
+
+-- what is given to its step does not matter
+pub begun-on : (carries : Bool) (read : Option Reading) (pit : Pit) (begun : Begun) → (begin_step {A = Unit {0}} carries read).Gives tt begun → (begin_step {A = Pit} carries read).Gives pit begun
+begun-on carries None pit begun is = is
+begun-on carries (Some source) pit begun is = is
+
+-- it is not looked at
+pub begin-left : {S : Type 0} (remaining : S → Option (List ℕ)) (has_failed : S → Bool) (carries : Bool) (start : Option S)
+    → (begin_step {A = Pit} carries (known_if (λ (old new : S). reading_of (remaining old) (remaining new) (has_failed new)) start start)).IsUntouched
+begin-left remaining has_failed carries None = tt
+begin-left remaining has_failed carries (Some source) = keeps_itself (remaining source)

@@ -3,6 +3,7 @@ use Rattle.std.specs.Prelude.{◌≡◌, ℕ, Bool, true, false, List, [], Optio
 use Rattle.pit_model.specs.Pit.{Pit}
 use Rattle.pit_desk.specs.History.{Answered}
 use Rattle.pit_lines.specs.Lines.{StandsForHistory}
+use Rattle.pit_lines.specs.Torn.{IsMended}
 use Rattle.pit_state.specs.States.{is_history}
 use Rattle.pit_step.specs.declared.input.Input.{Input}
 use Rattle.pit_step.specs.declared.input.Input.TheVariants.{Start, History}
@@ -52,6 +53,19 @@ abbrev pub begin_step : {A : Type 0} → Bool → Option Reading → Step CliFau
 begin_step is_carried_on None = judge_step (λ given begun. begun ≡ begun_without is_carried_on) (λ given fault. ⊥)
 begin_step is_carried_on (Some source) =
     input_step (begin_input is_carried_on) source (λ given bytes begun. begun ≡ begun_with is_carried_on bytes) (λ given bytes fault. ⊥)
+
+-- ---- a torn end
+
+-- so many bytes are left out of the text
+pub record IsMendedText (text : List ℕ) (begun : Begun) (cut : ℕ) : Type 0 where
+  pub left : List ℕ
+  pub mended : IsMended text left cut
+  pub is : begun ≡ carried_on left
+
+-- the torn end of a history that is carried on is left out; else it stays as it is
+abbrev pub IsMendedFrom : Begun → Begun → ℕ → Type 0
+IsMendedFrom (carried_on text) begun cut = IsMendedText text begun cut
+IsMendedFrom given begun cut = (begun ≡ given) × (cut ≡ 0)
 
 -- ---- what it stands for
 

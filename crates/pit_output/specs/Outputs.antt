@@ -1,17 +1,24 @@
 -- The outputs of a run: a solution, a report and a history, and what is written of them.
-use Rattle.std.specs.Prelude.{◌≡◌, ◌⊎◌, ℕ, Bool, true, false, if◌then◌else◌, List, [], Option, Some, None, Result, Ok, Err, codes, ⊤}
+use Rattle.std.specs.Prelude.{◌≡◌, ◌⊎◌, ℕ, Bool, true, false, if◌then◌else◌, List, [], ◌∷◌, Option, Some, None, Result, Ok, Err, codes, ⊤}
 use Rattle.std.specs.Io.KnownBytes.{Keeps}
+use Rattle.pit_plan.specs.declared.short.Short.{Short}
 use Rattle.pit_step.specs.Steps.{Step, in_turn, judge_step}
 use Rattle.pit_step.specs.Devices.{Writing, write_step}
 use Rattle.pit_step.specs.declared.fault.CliFault.{CliFault}
 use Rattle.pit_step.specs.declared.fault.CliFault.TheVariants.{CannotWrite}
 use Rattle.pit_step.specs.declared.status.Status.{Status}
+use Rattle.pit_step.specs.declared.status.Status.TheVariants.{Fine, Failed}
 use Rattle.pit_file.specs.OutputState.{OutputState, HasKept, HasNotKept, IsAsBefore}
 use Rattle.pit_file.specs.OutputState.OutputState.{stream, file}
 
 -- that a history which is to be carried on wasn't there
 abbrev pub new_line : Bool → List ℕ
 new_line is_new = if is_new then codes "history new\n" else []
+
+-- whether a load falls short
+abbrev pub status_of_shorts : List Short → Status
+status_of_shorts [] = Fine
+status_of_shorts (short ∷ more) = Failed
 
 -- ---- the output of a history
 

@@ -7,4 +7,4 @@
 
 mod output;
 
-pub use output::{OutputTexts, lines_if, write_new_line, write_outputs};
+pub use output::{OutputTexts, lines_if, status_of_shorts, write_new_line, write_outputs};

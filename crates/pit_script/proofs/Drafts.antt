@@ -4,7 +4,7 @@ use Rattle.std.proofs.lemmas.Bool.{true≢false, false≢true}
 use Rattle.std.proofs.lemmas.List.{drop-append-le, length-append}
 use Rattle.pit_script.specs.Jobs.{Job, Progress, no_job, with_fact}
 use Rattle.pit_script.specs.Inside.Kept.{jobs_in, last_end, AreJobEnds, open_steps, progress_in, IsKept}
-use Rattle.pit_script.specs.Inside.Lines.{MayStand}
+use Rattle.pit_script.specs.Lines.{MayStand}
 use Rattle.pit_script.specs.declared.fact.ScriptFact.{ScriptFact}
 use Rattle.pit_script.specs.declared.fact.ScriptFact.TheVariants.{Begin, Does, Ends}
 use Rattle.pit_script.specs.declared.step.JobEnd.{JobEnd}

@@ -11,7 +11,7 @@ use Rattle.pit_script.specs.Causes.{script_cause_of}
 use Rattle.pit_script.specs.Jobs.{no_job, fact_in, script_line}
 use Rattle.pit_script.specs.Lines.{ranged_fact, known_bench, line_fact}
 use Rattle.pit_script.specs.Scripts.{WantsMemoryAt}
-use Rattle.pit_script.specs.Inside.Lines.{MayStand}
+use Rattle.pit_script.specs.Lines.{MayStand}
 use Rattle.pit_script.specs.declared.error.ScriptCause.{ScriptCause}
 use Rattle.pit_script.specs.declared.error.ScriptCause.TheVariants.{NoMemory}
 use Rattle.pit_script.specs.declared.error.ScriptFault.{ScriptFault}

@@ -4,8 +4,8 @@ use Rattle.std.specs.List.{All}
 use Rattle.std.proofs.lemmas.List.Elements.{All-push}
 use Rattle.pit_model.specs.Pit.{Pit}
 use Rattle.pit_script.specs.Jobs.{Progress, no_job, with_fact}
-use Rattle.pit_script.specs.Ranges.{IsStepIn, IsJobIn}
-use Rattle.pit_script.specs.Inside.Ranges.{IsFactIn, IsProgressIn}
+use Rattle.pit_script.specs.Ranges.{IsStepIn, IsFactIn, IsJobIn}
+use Rattle.pit_script.specs.Inside.Ranges.{IsProgressIn}
 use Rattle.pit_script.specs.declared.fact.ScriptFact.{ScriptFact}
 use Rattle.pit_script.specs.declared.fact.ScriptFact.TheVariants.{Begin, Does, Ends}
 

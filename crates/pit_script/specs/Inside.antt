@@ -2,5 +2,4 @@
 pub mod Kept
 pub mod Parts
 pub mod Benches
-pub mod Lines
 pub mod Ranges

@@ -1,5 +1,5 @@
 -- What one line of a script says.
-use Rattle.std.specs.Prelude.{ℕ, Bool, nat_le, if◌then◌else◌, List, [], ◌∷◌, Option, Some, None, Result, Ok, Err}
+use Rattle.std.specs.Prelude.{◌≡◌, ℕ, ◌<◌, Bool, true, false, nat_le, if◌then◌else◌, List, [], ◌∷◌, Option, Some, None, Result, Ok, Err}
 use Rattle.pit_num.specs.Decimal.{whole_of, micro_of}
 use Rattle.pit_model.specs.Pit.{Pit}
 use Rattle.pit_text.specs.Bounds.{upper_bound_of}
@@ -23,7 +23,7 @@ use Rattle.pit_script.specs.declared.word.Word.TheVariants as word
 
 -- ---- the number of fields behind the word, which is exact
 
-abbrev pub no_field : Result ScriptFact ScriptFault → List (List ℕ) → Result ScriptFact ScriptFault
+abbrev pub no_field : {X : Type 0} → Result X ScriptFault → List (List ℕ) → Result X ScriptFault
 no_field says [] = says
 no_field says (a ∷ more) = Err FieldCount
 
@@ -47,8 +47,14 @@ three_fields says (a ∷ b ∷ c ∷ d ∷ more) = Err FieldCount
 
 -- ---- where a line may stand, and ranges
 
-abbrev pub in_job : Bool → Result ScriptFact ScriptFault → Result ScriptFact ScriptFault
+abbrev pub in_job : {X : Type 0} → Bool → Result X ScriptFault → Result X ScriptFault
 in_job is_open says = if is_open then says else Err Order
+
+-- a job begins outside of one, where there is room for it, and all else stands inside of one
+abbrev pub MayStand : Bool → ℕ → ScriptFact → Type 0
+MayStand is_open jobs says.Begin = (is_open ≡ false) × (jobs < JOBS_MAX)
+MayStand is_open jobs (says.Does done) = is_open ≡ true
+MayStand is_open jobs (says.Ends end) = is_open ≡ true
 
 abbrev pub below : ℕ → ℕ → ScriptFault → Result ℕ ScriptFault
 below count n cause = if nat_le count n then Err cause else Ok n

@@ -1,7 +1,7 @@
 ghost use Rattle.std.specs.Prelude.{◌≡◌, OnOk, OnErr, is_some, length};
 ghost use Rattle.pit_script.specs.Jobs.{no_job, with_fact};
 ghost use Rattle.pit_script.specs.Ranges.{AreJobsIn};
-ghost use Rattle.pit_script.specs.Inside.Lines.{MayStand};
+ghost use Rattle.pit_script.specs.Lines.{MayStand};
 
 use super::benches::Benches;
 use super::fact::ScriptFact;

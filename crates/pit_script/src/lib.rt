@@ -19,6 +19,7 @@ mod word;
 pub use benches::Benches;
 pub use error::{ScriptCause, ScriptError, ScriptFault};
 pub use fact::ScriptFact;
+pub use line::line_of_word;
 pub use script::Script;
 pub use step::{JOBS_MAX, JobEnd, SHIFT_MAX, Step, Way};
 pub use word::{Word, word_of};

@@ -1,10 +1,8 @@
 ghost use Rattle.std.specs.Prelude.{◌≡◌, ◌<◌, ℕ, IfOk, IfSome};
 ghost use Rattle.pit_model.specs.Pit.{Pit};
 ghost use Rattle.pit_text.specs.Left.{fields_left};
-ghost use Rattle.pit_script.specs.Inside.Ranges.{IsFactIn};
-ghost use Rattle.pit_script.specs.Ranges.{IsStepIn};
-ghost use Rattle.pit_script.specs.Lines.{line_fact, ranged_fact, known_bench, line_of_word, bench_step, revise_step, begin_line, end_line_of, read_step, clear_step, put_step, shift_step, expect_step, placing, below, below_if_some};
-ghost use Rattle.pit_script.specs.Inside.Lines.{MayStand};
+ghost use Rattle.pit_script.specs.Ranges.{IsFactIn, IsStepIn};
+ghost use Rattle.pit_script.specs.Lines.{line_fact, ranged_fact, known_bench, line_of_word, bench_step, revise_step, begin_line, end_line_of, read_step, clear_step, put_step, shift_step, expect_step, placing, below, below_if_some, MayStand};
 
 use super::benches::Benches;
 use super::error::ScriptFault;
@@ -67,8 +65,9 @@ fn known_bench<A: Allocator + Copy + Drop>(
     Ok(fact)
 }
 
-/// What a line says that begins with a word, by its fields behind it.
-fn line_of_word<A: Allocator + Copy + Drop>(
+/// What a line says that begins with a word, by its fields behind it, where so many jobs have ended, and one is open or none. Whether a bench that it
+/// names has a block isn't asked.
+pub fn line_of_word<A: Allocator + Copy + Drop>(
     word: Word,
     fields: Fields<'_>,
     is_open: bool,

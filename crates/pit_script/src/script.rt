@@ -6,9 +6,9 @@ ghost use Rattle.pit_text.specs.Inside.Stands.{IsCauseOf};
 ghost use Rattle.pit_script.specs.Causes.{script_cause_of};
 ghost use Rattle.pit_script.specs.Jobs.{job_at, no_job, progress_of, fact_in, with_fact, script_line, script_end};
 ghost use Rattle.pit_script.specs.Inside.Kept.{jobs_in, AreJobEnds, start_from};
-ghost use Rattle.pit_script.specs.Ranges.{IsStepIn, AreJobsIn};
+ghost use Rattle.pit_script.specs.Ranges.{IsFactIn, IsStepIn, AreJobsIn};
 ghost use Rattle.pit_script.specs.Scripts.{StandsForJobs, WantsMemoryAt, IsScriptError};
-ghost use Rattle.pit_script.specs.Inside.Ranges.{IsFactIn, IsProgressIn};
+ghost use Rattle.pit_script.specs.Inside.Ranges.{IsProgressIn};
 ghost use Rattle.pit_script.specs.declared.fact.ScriptFact.{ScriptFact as Fact};
 ghost use Rattle.pit_script.specs.declared.step.TheConstants.{JOBS_MAX as Most};
 

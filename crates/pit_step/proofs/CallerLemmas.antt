@@ -8,7 +8,7 @@ pub use Rattle.pit_step.proofs.Each.{each-goes_on, each-stops}
 pub use Rattle.pit_step.proofs.DeterminedSteps.{IsSeen, IsOfInputs, never_two, inputs-seen, IsOneText, IsDecidedText, text-decided, judge-decided, input-determined, write-determined, write-shown, write-never_both}
 pub use Rattle.pit_step.proofs.DeterminedInputs.{decided-model, decided-order, decided-places, decided-solution, model-determined, ordered_pit-determined}
 pub use Rattle.pit_step.proofs.DeterminedHistory.{IsOneHistory, IsNeverBad, IsOneFault, one-history_text}
-pub use Rattle.pit_step.proofs.Stops.{made, model-stop, order-stop, solution-stop}
+pub use Rattle.pit_step.proofs.Stops.{made, model-stop, order-stop, places-stop, solution-stop}
 pub use Rattle.pit_step.proofs.LeftText.{left_text-of_periods}
 pub use Rattle.pit_step.proofs.Ranges.{range-more, count-more}
 pub use Rattle.pit_step.proofs.Rising.{few-rising, few-preds}

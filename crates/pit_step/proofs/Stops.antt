@@ -17,7 +17,7 @@ use Rattle.pit_step.specs.declared.fault.CliFault.{CliFault}
 use Rattle.pit_step.specs.declared.fault.CliFault.TheVariants.{NoMemory}
 use Rattle.pit_step.specs.Steps.{IsResultOf}
 use Rattle.pit_step.specs.Devices.{Reading, input_step}
-use Rattle.pit_step.specs.Inputs.{IsModel, IsBadModel, IsModelStop, IsOrder, IsOrderFault, IsBadOrder, IsOrderStop, model_step, order_step, ordered_pit_step, IsBadPlaces, IsPlacesStop, IsSolutionOf, IsBadSolution, IsSolutionStop}
+use Rattle.pit_step.specs.Inputs.{IsModel, IsBadModel, IsModelStop, IsOrder, IsBadOrder, IsOrderStop, IsPlaced, IsBadPlaces, IsPlacesStop, IsSolutionOf, IsBadSolution, IsSolutionStop, IsOrderFault, model_step, order_step, ordered_pit_step}
 
 -- ---- behind the whole text
 
@@ -28,6 +28,10 @@ model-stop bytes pit is = (end_line bytes, inr (is.facts, is.stands, refl))
 pub order-stop : (given : Pit) (bytes : List ℕ) (pit : Pit) → IsOrder given bytes pit → IsOrderStop given bytes
 unfolding IsOrderStop
 order-stop given bytes pit is = inr (is.facts, is.stands)
+
+pub places-stop : (given : Pit) (bytes : List ℕ) (pit : Pit) → IsPlaced given bytes pit → IsPlacesStop given bytes
+unfolding IsPlacesStop
+places-stop given bytes pit is = inr (is.facts, is.stands)
 
 pub solution-stop : (pit : Pit) (bytes : List ℕ) (schedule : List (ℕ × ℕ)) → IsSolutionOf pit bytes schedule → IsSolutionStop pit bytes
 unfolding IsSolutionStop

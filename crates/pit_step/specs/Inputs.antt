@@ -1,5 +1,5 @@
 -- The inputs: the words that faults name them with, and what their texts stand for.
-use Rattle.std.specs.Prelude.{◌≡◌, ◌⊎◌, ℕ, ℤ, ◌++◌, List, Option, codes, decimal}
+use Rattle.std.specs.Prelude.{◌≡◌, ◌⊎◌, ℕ, ℤ, ◌++◌, List, Option, Some, None, codes, decimal}
 use Rattle.pit_model.specs.Pit.{Pit}
 use Rattle.pit_text.specs.declared.error.TextError.{TextError}
 use Rattle.pit_text.specs.Cutting.{cut_of, end_line}
@@ -16,7 +16,7 @@ use Rattle.pit_step.specs.declared.input.Input.{Input}
 use Rattle.pit_step.specs.declared.input.Input.TheVariants.{Model, Precedence, Blocks, Start, Solution, Script, History, Schedule, Old, New, Edit}
 use Rattle.pit_step.specs.declared.fault.CliFault.{CliFault}
 use Rattle.pit_step.specs.declared.fault.CliFault.TheVariants as fault
-use Rattle.pit_step.specs.Steps.{Step, in_turn}
+use Rattle.pit_step.specs.Steps.{Step, in_turn, judge_step}
 use Rattle.pit_step.specs.Devices.{Reading, IsTextFault, input_step}
 
 abbrev pub input_name : Input → List ℕ
@@ -119,6 +119,14 @@ model_step model = input_step Model model (λ _. IsModel) (λ _. IsModelFault)
 abbrev pub order_step : Reading → Step CliFault Pit Pit
 order_step precedence = input_step Precedence precedence IsOrder IsOrderFault
 
+abbrev pub places_step : Reading → Step CliFault Pit Pit
+places_step blocks = input_step Blocks blocks IsPlaced IsPlacesFault
+
+-- the places, or the pit as it is where there is no source for them
+abbrev pub places_if_step : Option Reading → Step CliFault Pit Pit
+places_if_step None = judge_step (λ given value. value ≡ given) (λ given fault. ⊥)
+places_if_step (Some blocks) = places_step blocks
+
 abbrev pub solution_step : Reading → Step CliFault Pit (List (ℕ × ℕ))
 solution_step solution = input_step Solution solution IsSolutionOf (IsSolutionFault Solution)
 
@@ -128,3 +136,7 @@ history_step history = input_step History history (λ _. StandsForHistory) (λ _
 -- the model, and then the precedences
 abbrev pub ordered_pit_step : Reading → Reading → Step CliFault (Unit {0}) Pit
 ordered_pit_step model precedence = in_turn (model_step model) (order_step precedence)
+
+-- the model, the precedences, and then the places, where there is a source for them
+abbrev pub placed_pit_step : Reading → Reading → Option Reading → Step CliFault (Unit {0}) Pit
+placed_pit_step model precedence blocks = in_turn (ordered_pit_step model precedence) (places_if_step blocks)

@@ -28,12 +28,12 @@ pub use input::Input;
 pub use lines::{write_breach, write_breach_words, write_shorts};
 pub use parsed::{
     builder_of, built, bytes_of, deposited, history_of, ordered, placed, read_builder,
-    read_history, read_order, read_ordered_deposit, read_ordered_pit, read_pit, read_schedule,
-    schedule_of,
+    read_history, read_order, read_ordered_deposit, read_ordered_pit, read_pit, read_placed_pit,
+    read_places, read_schedule, schedule_of,
 };
 pub use plans::plan_of;
 pub use read::{INPUT_BYTES_MAX, ReadError, input_limit, read_all};
-pub use refusal_words::{write_numbered, write_refusal};
+pub use refusal_words::{write_numbered, write_refusal, write_reply};
 pub use status::Status;
 pub use text::{Text, empty_text, gathered};
 pub use value_text::{write_line, write_value_lines};

@@ -6,5 +6,6 @@ mod gaps;
 mod lines;
 mod plain;
 
+pub use cut::{is_last, is_read, without_return};
 pub use fields::Fields;
 pub use lines::{Line, Lines};

@@ -16,7 +16,7 @@ mod solution_text;
 mod table;
 
 pub use blocks::read_blocks;
-pub use cutting::{Fields, Line, Lines};
+pub use cutting::{Fields, Line, Lines, is_last, is_read, without_return};
 pub use error::{Cause, Fault, TextError};
 pub use laws::{limits_are_tightest, no_fault_wants_memory, one_result};
 pub use model::{Key, Section, SectionFact, key_of, read_model, section_of, upper_bound};

@@ -1,16 +1,9 @@
 -- What is in the ranges of a pit while a script is read.
-use Rattle.std.specs.Prelude.{unwrap_or, ⊤, []}
+use Rattle.std.specs.Prelude.{unwrap_or, []}
 use Rattle.std.specs.List.{All}
 use Rattle.pit_model.specs.Pit.{Pit}
 use Rattle.pit_script.specs.Jobs.{Progress}
-use Rattle.pit_script.specs.declared.fact.ScriptFact.{ScriptFact}
-use Rattle.pit_script.specs.declared.fact.ScriptFact.TheVariants.{Begin, Does, Ends}
 use Rattle.pit_script.specs.Ranges.{IsStepIn, AreJobsIn}
-
-abbrev pub IsFactIn : Pit → ScriptFact → Type 0
-IsFactIn pit Begin = ⊤
-IsFactIn pit (Does step) = IsStepIn pit step
-IsFactIn pit (Ends end) = ⊤
 
 pub record IsProgressIn (pit : Pit) (at : Progress) : Type 0 where
   pub jobs : AreJobsIn pit at.jobs

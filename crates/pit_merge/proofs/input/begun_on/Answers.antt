@@ -1,7 +1,7 @@
 use Rattle.std.proofs.Common.{inr, refl}
 use Rattle.std.proofs.lemmas.Result.{MatchResult-weaker}
 use Rattle.pit_step.specs.Devices.{reading_of, known_if}
-use Rattle.pit_merge.proofs.Begun.{begun-on}
+use Rattle.pit_opening.proofs.CallerLemmas.{begun-on}
 use Rattle.pit_merge.proofs.input.begun_on.Goals as goal
 
 pub returns-in-Ok-clause-read : goal.returns-in-Ok-clause-read

@@ -1,5 +1,5 @@
 use Rattle.std.proofs.Common.{inl}
-use Rattle.pit_merge.proofs.Begun.{begin-left}
+use Rattle.pit_opening.proofs.CallerLemmas.{begin-left}
 use Rattle.pit_merge.proofs.input.MergeInput.read.Goals as goal
 
 pub returns-in-Err-clause-read : goal.returns-in-Err-clause-read
