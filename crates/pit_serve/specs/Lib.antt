@@ -1,0 +1,9 @@
+pub mod Words
+pub mod Asked
+pub mod Phases
+pub mod Serving
+pub mod Replies
+pub mod InputLines
+pub mod Sessions
+pub mod Inside
+pub mod Entries
