@@ -1,0 +1,3 @@
+-- Definitions that no public contract cites.
+pub mod Threads
+pub mod Sessions
