@@ -1,6 +1,8 @@
 pub mod Apart
 pub mod Each
 pub mod History
+pub mod LiveFiles
+pub mod LiveReadings
 pub mod MergeFiles
 pub mod MergeReadings
 pub mod Opening

@@ -20,7 +20,7 @@ use Rattle.pit.specs.Sources.{merge_files, begun_file, has_begun}
 use Rattle.pit.proofs.Reading.{known_of}
 
 -- what is known of the bytes, where it is known beside the inputs
-bytes-of : {F : Type 0} (left : F → Option (List ℕ)) (told : Told) (names : List (Input × List ℕ)) (files : List (OpenFile F)) → AreOpen left told names files
+pub bytes-of : {F : Type 0} (left : F → Option (List ℕ)) (told : Told) (names : List (Input × List ℕ)) (files : List (OpenFile F)) → AreOpen left told names files
     → map (λ file. left file.file) files ≡ map (λ name. told.holds name.1) names
 bytes-of left told names files a =
     sym (map-map (λ (p : Input × Option (List ℕ)). p.1) (known_of left) files) ∙ ap (λ (ps : List (Input × Option (List ℕ))). map (λ p. p.1) ps) a.known
@@ -44,7 +44,7 @@ module _ (told : Told) (words : MergeWords) (is_there : Bool) where
 
 -- ---- the edits among them
 
-length-if : {X : Type 0} (o : Option X) → length (option_to_list o) ≡ (if is_some o then 1 else 0)
+pub length-if : {X : Type 0} (o : Option X) → length (option_to_list o) ≡ (if is_some o then 1 else 0)
 length-if None = refl
 length-if (Some x) = refl
 
@@ -52,7 +52,7 @@ length-start : (start : Option (Bor (List ℕ))) → length (file_if Start (path
 length-start None = refl
 length-start (Some path) = refl
 
-length-begun : (origin : Origin) (is_there : Bool) → length (begun_file origin is_there) ≡ (if has_begun origin is_there then 1 else 0)
+pub length-begun : (origin : Origin) (is_there : Bool) → length (begun_file origin is_there) ≡ (if has_begun origin is_there then 1 else 0)
 length-begun (Continued path) true = refl
 length-begun (Continued path) false = refl
 length-begun (New words) is_there = length-start words.start

@@ -1,6 +1,7 @@
 pub mod Ending
 pub mod Files
 pub mod Histories
+pub mod LiveRun
 pub mod MergeRun
 pub mod OpenFiles
 pub mod PlanRun

@@ -16,13 +16,14 @@ use Rattle.pit_info.specs.Info.{info_run}
 use Rattle.pit_show.specs.Show.{show_run}
 use Rattle.pit_log.specs.Log.{log_run}
 use Rattle.pit_command.specs.declared.commands.Command.{Command}
-use Rattle.pit_command.specs.declared.commands.Command.TheVariants.{Value, Check, Table, Diff, Info, Show, Plan, Replay, Log, Merge}
+use Rattle.pit_command.specs.declared.commands.Command.TheVariants.{Value, Check, Table, Diff, Info, Show, Plan, Replay, Log, Merge, Live}
 use Rattle.pit_keyed.specs.declared.keys.Keys.{Keys}
 use Rattle.pit.specs.Files.{Told, open_each}
 use Rattle.pit.specs.Histories.{is_continued}
 use Rattle.pit.specs.Sources.{pit_files}
 use Rattle.pit.specs.PlanRun.{plan_by, plan_options}
 use Rattle.pit.specs.MergeRun.{merge_by, merge_options}
+use Rattle.pit.specs.LiveRun.{live_by}
 
 -- what is checked: a solution, or any schedule where all is asked for
 abbrev pub checked_input : Bool → Input
@@ -67,4 +68,5 @@ view_run told command out IsUntouched = in_turn (open_each told (view_files comm
 abbrev pub IsRunOf : Keys → Command → Told → Type 0 → Type 0 → Writing → Writing → Result Status CliFault → Type 0
 IsRunOf keys (Plan words) told IsUntouched IsQuiet out lines result = IsResultOf (plan_by (is_continued words.origin) told words (plan_options keys words) out lines (IsUntouched × IsQuiet)) tt result
 IsRunOf keys (Merge words) told IsUntouched IsQuiet out lines result = IsResultOf (merge_by (is_continued words.origin) told words (merge_options keys words) out lines (IsUntouched × IsQuiet)) tt result
+IsRunOf keys (Live words) told IsUntouched IsQuiet out lines result = IsResultOf (live_by told words lines IsQuiet) tt result × IsUntouched
 IsRunOf keys command told IsUntouched IsQuiet out lines result = IsResultOf (view_run told command out IsUntouched) tt result × IsQuiet

@@ -1,4 +1,4 @@
--- The files of `plan` and of `merge`, in the order in which they are opened and read.
+-- The files of `plan`, `merge` and `live`, in the order in which they are opened and read.
 use Rattle.std.specs.Prelude.{ℕ, Bool, true, false, List, [], ◌∷◌, ◌++◌, map, Option, Some, None, is_some}
 use Rattle.std.specs.Borrow.{Bor}
 use Rattle.pit_step.specs.declared.input.Input.{Input}
@@ -7,6 +7,7 @@ use Rattle.pit_command.specs.declared.origin.Origin.{Origin}
 use Rattle.pit_command.specs.declared.origin.Origin.TheVariants.{New, Continued}
 use Rattle.pit_command.specs.declared.plan_words.PlanWords.{PlanWords}
 use Rattle.pit_command.specs.declared.merge_words.MergeWords.{MergeWords}
+use Rattle.pit_command.specs.declared.live_words.LiveWords.{LiveWords}
 use Rattle.pit.specs.declared.sources.Parts.{Parts}
 use Rattle.pit.specs.declared.sources.Parts.TheVariants.{Scripts, Edits}
 use Rattle.pit.specs.declared.sources.Sources.{Sources}
@@ -33,6 +34,9 @@ plan_files words is_there =
 abbrev pub merge_files : MergeWords → Bool → List (Input × List ℕ)
 merge_files words is_there =
     pit_files words.model words.precedence None ++ (begun_file words.origin is_there ++ numbered Edit 1 (map (λ path. path.now) words.edits.now))
+
+abbrev pub live_files : LiveWords → Bool → List (Input × List ℕ)
+live_files words is_there = pit_files words.model words.precedence words.blocks ++ begun_file (Continued words.history) is_there
 
 -- ---- the same of sources
 

@@ -6,7 +6,7 @@ use std::random::RandomSource;
 /// Keys that are drawn for this run, where it makes transactions; or those that everybody knows, also where nothing can be drawn.
 pub fn keys_for(rt: &HostRuntime, command: &Command<'_>) -> Keys {
     match command {
-        Command::Plan(_) | Command::Merge(_) => drawn(rt),
+        Command::Plan(_) | Command::Merge(_) | Command::Live(_) => drawn(rt),
         _ => Keys::default(),
     }
 }

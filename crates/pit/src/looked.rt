@@ -38,6 +38,7 @@ impl<'a, 'b> Given for Looked<'a, 'b> {
         match self.command {
             Command::Plan(words) => kept_path(&words.origin),
             Command::Merge(words) => kept_path(&words.origin),
+            Command::Live(words) => Some(words.history),
             _ => None,
         }
     }

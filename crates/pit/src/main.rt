@@ -6,6 +6,9 @@ mod fault;
 mod files;
 mod histories;
 mod keys;
+mod live_disk;
+mod live_files;
+mod lives;
 mod looked;
 mod merge_files;
 mod merges;
@@ -17,6 +20,7 @@ mod source_files;
 mod sources;
 mod streams;
 mod system_disk;
+mod system_streams;
 mod words;
 
 use fault::Fault;

@@ -1,6 +1,6 @@
 //! The paths that a command names, by their inputs.
 use crate::runs::checked_input;
-use crate::sources::{Sources, merge_sources, plan_sources};
+use crate::sources::{Sources, live_sources, merge_sources, plan_sources};
 use pit_cli::Input;
 use pit_command::Command;
 
@@ -70,6 +70,7 @@ pub fn path_of<'a>(command: &Command<'a>, input: Input) -> Option<&'a str> {
             ],
         ),
         Command::Merge(words) => among_sources(input, merge_sources(words, true)),
+        Command::Live(words) => among_sources(input, live_sources(words, true)),
     }
 }
 

@@ -6,6 +6,8 @@ ghost use Rattle.pit_command.specs.declared.commands.Command.TheVariants.{Value 
 ghost use Rattle.pit.specs.Runs.{IsRunOf, view_run, checked_input};
 
 use crate::files::{Disk, three_files, two_files};
+use crate::live_disk::LiveDisk;
+use crate::lives::run_live;
 use crate::merge_files::source_if;
 use crate::merges::run_merge;
 use crate::plans::run_plan;
@@ -22,8 +24,8 @@ use std::alloc::Global;
 use std::sync::Wait;
 use std::thread::Threads;
 
-/// Does what the words ask for, with these keys. Only `plan` and `merge` write a report, and a history. The first input whose file can't be opened is answered, and then nothing is written.
-pub fn run<D: Disk, R: Threads + Wait + Sync, W: Sink, L: Sink>(
+/// Does what the words ask for, with these keys. Only `plan`, `merge` and `live` write a report, and a history. The first input whose file can't be opened is answered, and then nothing is written.
+pub fn run<D: LiveDisk, R: Threads + Wait + Sync, W: Sink, L: Sink>(
     rt: &R,
     alloc: Global,
     keys: Keys,
@@ -47,6 +49,7 @@ pub fn run<D: Disk, R: Threads + Wait + Sync, W: Sink, L: Sink>(
         Command::Replay(words) => run_replay(alloc, disk, words, out),
         Command::Log(words) => run_log(alloc, disk, words, out),
         Command::Merge(words) => run_merge(alloc, keys, disk, words, out, report),
+        Command::Live(words) => run_live(rt, alloc, keys, disk, words, report),
     }
 }
 

@@ -1,10 +1,10 @@
-//! The paths of the files that a plan or a merge is made from.
-ghost use Rattle.std.specs.Prelude.{◌≡◌, false, is_some};
+//! The paths of the files that a plan, a merge or a live workspace is made from.
+ghost use Rattle.std.specs.Prelude.{◌≡◌, false, [], is_some};
 ghost use Rattle.pit.specs.Files.{path_if, file_if};
-ghost use Rattle.pit.specs.Sources.{in_order, part_input, part_paths, plan_files, merge_files, begun_file, has_begun, file_by};
+ghost use Rattle.pit.specs.Sources.{in_order, part_input, part_paths, plan_files, merge_files, live_files, begun_file, has_begun, file_by};
 
 use pit_cli::Input;
-use pit_command::{MergeWords, Origin, PlanWords};
+use pit_command::{LiveWords, MergeWords, Origin, PlanWords};
 
 /// The paths, by their inputs.
 #[derive(Clone, Copy)]
@@ -79,6 +79,22 @@ pub fn merge_sources<'a>(words: &MergeWords<'a>, is_there: bool) -> Sources<'a>
         blocks: None,
         begun: begun_of(&words.origin, is_there),
         parts: Parts::Edits(words.edits),
+    }
+}
+
+/// Where `live` does.
+pub fn live_sources<'a>(words: &LiveWords<'a>, is_there: bool) -> Sources<'a>
+    ensures order { in_order result ≡ live_files words.now is_there }
+    ensures blocks { is_some result.blocks ≡ is_some words.now.blocks }
+    ensures begun { is_some result.begun ≡ is_there }
+    ensures parts { (part_paths result.parts).now ≡ [] }
+{
+    Sources {
+        model: words.model,
+        precedence: words.precedence,
+        blocks: words.blocks,
+        begun: begun_of(&Origin::Continued(words.history), is_there),
+        parts: Parts::Scripts(&[]),
     }
 }
 

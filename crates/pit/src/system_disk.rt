@@ -1,6 +1,9 @@
 ghost use Rattle.pit.specs.Files.{nothing_told};
 
 use crate::files::Disk;
+use crate::live_disk::LiveDisk;
+use crate::source_files::{OpenFile, PitFiles};
+use crate::system_streams::SystemStreams;
 use pit_file::{
     FileFault, FileIdentity, HistoryFile, HistoryOutput, HostNames, Kind, Paths, Place, Stream,
     found, identity_behind, identity_of, is_among, open_stream,
@@ -86,6 +89,53 @@ impl<'a> Disk for SystemDisk<'a> {
             HistoryOutput::Stream(_) => {}
             HistoryOutput::File(file) => file.abandon(),
         }
+    }
+}
+
+impl<'a> LiveDisk for SystemDisk<'a> {
+    type Names = HostNames<'a>;
+
+    type Streams = SystemStreams<'a>;
+
+    fn hold(&self, path: &str) -> Result<HistoryFile<HostNames<'a>>, FileFault> {
+        match found(self.rt, path)? {
+            Place::File(name) => prepared_file(self.rt, name),
+            Place::Stream => Err(FileFault::CannotWrite),
+        }
+    }
+
+    fn is_held_at(&self, file: &HistoryFile<HostNames<'a>>, path: &str) -> bool {
+        match file.names().new_identity() {
+            Ok(new) => is_at(self.rt, path, new),
+            Err(_) => false,
+        }
+    }
+
+    fn streams(
+        &self,
+        words: Option<&[&str]>,
+        file: &HistoryFile<HostNames<'a>>,
+        pit: &PitFiles<'_, File>,
+    ) -> Result<SystemStreams<'a>, FileFault> {
+        let inputs = match identities(pit) {
+            Ok(inputs) => inputs,
+            Err(_) => return Err(FileFault::CannotWrite),
+        };
+        SystemStreams::new(self.rt, words, file.names(), inputs)
+    }
+}
+
+/// What the open files of a pit are known by.
+fn identities(pit: &PitFiles<'_, File>) -> Result<[Option<FileIdentity>; 3], Failed> {
+    let model = identity_of(&pit.model.file)?;
+    let precedence = identity_of(&pit.precedence.file)?;
+    Ok([model, precedence, identity_if(&pit.blocks)?])
+}
+
+fn identity_if(file: &Option<OpenFile<'_, File>>) -> Result<Option<FileIdentity>, Failed> {
+    match file {
+        Some(open) => identity_of(&open.file),
+        None => Ok(None),
     }
 }
 

@@ -12,7 +12,7 @@ use Rattle.clap.specs.Kinds.{Kinds, or_else, check_kinds}
 use Rattle.clap.specs.Simple.{App, Shape, argument_words, built, built_leaf, entered, inherited, label_of, names_of, rows_at, matches_of, subcommand_of}
 use Rattle.clap.specs.Faults.{check_fault, defaults_fault, entered_fault, fault_of, level_fault, settle_fault, walk_fault}
 use Rattle.clap.specs.Walk.{answers_to}
-use Rattle.pit_command.specs.Command.{AsksAll, GivesEach, check_shape, diff_shape, info_shape, log_shape, merge_shape, pit_app, plan_shape, replay_shape, show_shape, table_shape, value_shape}
+use Rattle.pit_command.specs.Command.{AsksAll, GivesEach, check_shape, diff_shape, info_shape, log_shape, live_shape, merge_shape, pit_app, plan_shape, replay_shape, show_shape, table_shape, value_shape}
 use Rattle.clap.specs.Simple.{HasMatchesOf, help_shape, subcommand_rows_of}
 use Rattle.clap.specs.Kinds.{FailsBy}
 use Rattle.clap.specs.Faults.{is_simple_and_free}
@@ -52,11 +52,14 @@ log_built = built_leaf (inherited pit_app.top log_shape)
 abbrev merge_built : Shape
 merge_built = built_leaf (inherited pit_app.top merge_shape)
 
+abbrev live_built : Shape
+live_built = built_leaf (inherited pit_app.top live_shape)
+
 abbrev help_built : Shape
 help_built = built_leaf help_shape
 
 -- the subs are these
-subs_are : pit.subs ≡ value_built ∷ check_built ∷ table_built ∷ diff_built ∷ info_built ∷ show_built ∷ plan_built ∷ replay_built ∷ log_built ∷ merge_built ∷ help_built ∷ []
+subs_are : pit.subs ≡ value_built ∷ check_built ∷ table_built ∷ diff_built ∷ info_built ∷ show_built ∷ plan_built ∷ replay_built ∷ log_built ∷ merge_built ∷ live_built ∷ help_built ∷ []
 subs_are = refl
 
 first_empty : (a b : Kinds) → or_else a b ≡ [] → a ≡ []
@@ -97,11 +100,11 @@ met rows true h = refl
 met rows false h = cc
 
 -- which of the subcommands a word names, by what the tests of their names say
-abbrev pick : Bool → Bool → Bool → Bool → Bool → Bool → Bool → Bool → Bool → Bool → Bool → Option Shape
-pick v c t d i s p r l m k =
+abbrev pick : Bool → Bool → Bool → Bool → Bool → Bool → Bool → Bool → Bool → Bool → Bool → Bool → Option Shape
+pick v c t d i s p r l m w k =
     if v then Some value_built else (if c then Some check_built else (if t then Some table_built else (if d then Some diff_built else (if i then Some info_built
     else (if s then Some show_built else (if p then Some plan_built else (if r then Some replay_built else (if l then Some log_built
-    else (if m then Some merge_built else (if k then Some help_built else None))))))))))
+    else (if m then Some merge_built else (if w then Some live_built else (if k then Some help_built else None)))))))))))
 
 abbrev Gives : List Row → Input → Type 0
 Gives rows input = is_given (argument_of input) rows ≡ true
@@ -117,58 +120,63 @@ three_given : (rows : List Row) (a b c : Input) → (is_given (argument_of a) ro
     → GivesEach (a ∷ b ∷ c ∷ []) rows
 three_given rows a b c g = All-from_recursion (Gives rows) (a ∷ b ∷ c ∷ []) (g.0, (g.1, (g.2, tt)))
 
-picked : (v c t d i s p r l m k : Bool) (words : List Text) → is_some (option_map (λ s. rows_at s words) (pick v c t d i s p r l m k)) ≡ true
-    → option_map_or (λ s. level_fault s [] nothing_held words false []) (pick v c t d i s p r l m k) [] ≡ []
-    → AsksAll (option_map (λ s. rows_at s words) (pick v c t d i s p r l m k))
-picked true c t d i s p r l m k words has h =
+picked : (v c t d i s p r l m w k : Bool) (words : List Text) → is_some (option_map (λ s. rows_at s words) (pick v c t d i s p r l m w k)) ≡ true
+    → option_map_or (λ s. level_fault s [] nothing_held words false []) (pick v c t d i s p r l m w k) [] ≡ []
+    → AsksAll (option_map (λ s. rows_at s words) (pick v c t d i s p r l m w k))
+picked true c t d i s p r l m w k words has h =
     let rows = rows_after value_built.rules [] words in
     let g = both_given (is_given (codes "MODEL") rows) (is_given (codes "SOLUTION") rows) (level_checked value_built [] words false [] h).1 in
     (rows_at value_built words, refl, inl (refl, two_given rows Model Solution g))
-picked false true t d i s p r l m k words has h =
+picked false true t d i s p r l m w k words has h =
     let rows = rows_after check_built.rules [] words in
     let g = all_given (is_given (codes "MODEL") rows) (is_given (codes "PREC") rows) (is_given (codes "SOLUTION") rows) (level_checked check_built [] words false [] h).1 in
     (rows_at check_built words, refl, inr (inl (refl, three_given rows Model Precedence Solution g)))
-picked false false true d i s p r l m k words has h =
+picked false false true d i s p r l m w k words has h =
     let rows = rows_after table_built.rules [] words in
     let g = both_given (is_given (codes "MODEL") rows) (is_given (codes "SOLUTION") rows) (level_checked table_built [] words false [] h).1 in
     (rows_at table_built words, refl, inr (inr (inl (refl, two_given rows Model Schedule g))))
-picked false false false true i s p r l m k words has h =
+picked false false false true i s p r l m w k words has h =
     let rows = rows_after diff_built.rules [] words in
     let g = all_given (is_given (codes "MODEL") rows) (is_given (codes "OLD") rows) (is_given (codes "NEW") rows) (level_checked diff_built [] words false [] h).1 in
     (rows_at diff_built words, refl, inr (inr (inr (inl (refl, three_given rows Model Old New g)))))
-picked false false false false true s p r l m k words has h =
+picked false false false false true s p r l m w k words has h =
     let rows = rows_after info_built.rules [] words in
     let g = both_given (is_given (codes "MODEL") rows) (is_given (codes "PREC") rows) (level_checked info_built [] words false [] h).1 in
     (rows_at info_built words, refl, inr (inr (inr (inr (inl (refl, two_given rows Model Precedence g))))))
-picked false false false false false true p r l m k words has h =
+picked false false false false false true p r l m w k words has h =
     let rows = rows_after show_built.rules [] words in
     let g = both_given (is_given (codes "MODEL") rows) (is_given (codes "SOLUTION") rows) (level_checked show_built [] words false [] h).1 in
     (rows_at show_built words, refl, inr (inr (inr (inr (inr (inl (refl, two_given rows Model Schedule g)))))))
-picked false false false false false false true r l m k words has h =
+picked false false false false false false true r l m w k words has h =
     let rows = rows_after plan_built.rules [] words in
     let g = all_given (is_given (codes "MODEL") rows) (is_given (codes "PREC") rows) (is_given (codes "SCRIPT") rows) (level_checked plan_built [] words false [] h).1 in
     (rows_at plan_built words, refl, inr (inr (inr (inr (inr (inr (inl (refl, three_given rows Model Precedence (Script 1) g))))))))
-picked false false false false false false false true l m k words has h =
+picked false false false false false false false true l m w k words has h =
     let rows = rows_after replay_built.rules [] words in
     let g = all_given (is_given (codes "MODEL") rows) (is_given (codes "PREC") rows) (is_given (codes "HISTORY") rows) (level_checked replay_built [] words false [] h).1 in
     (rows_at replay_built words, refl, inr (inr (inr (inr (inr (inr (inr (inl (refl, three_given rows Model Precedence History g)))))))))
-picked false false false false false false false false true m k words has h =
+picked false false false false false false false false true m w k words has h =
     let rows = rows_after log_built.rules [] words in
     let g = all_given (is_given (codes "MODEL") rows) (is_given (codes "PREC") rows) (is_given (codes "HISTORY") rows) (level_checked log_built [] words false [] h).1 in
     (rows_at log_built words, refl, inr (inr (inr (inr (inr (inr (inr (inr (inl (refl, three_given rows Model Precedence History g))))))))))
-picked false false false false false false false false false true k words has h =
+picked false false false false false false false false false true w k words has h =
     let rows = rows_after merge_built.rules [] words in
     let g = all_given (is_given (codes "MODEL") rows) (is_given (codes "PREC") rows) (is_given (codes "EDIT") rows) (level_checked merge_built [] words false [] h).1 in
     (rows_at merge_built words, refl, inr (inr (inr (inr (inr (inr (inr (inr (inr (inl (refl, three_given rows Model Precedence (Edit 1) g)))))))))))
-picked false false false false false false false false false false true words has h = (rows_at help_built words, refl, inr (inr (inr (inr (inr (inr (inr (inr (inr (inr refl))))))))))
-picked false false false false false false false false false false false words has h = absurd (no_asks has)
+picked false false false false false false false false false false true k words has h =
+    let rows = rows_after live_built.rules [] words in
+    let g = all_given (is_given (codes "MODEL") rows) (is_given (codes "PREC") rows) (is_given (codes "HISTORY") rows) (level_checked live_built [] words false [] h).1 in
+    (rows_at live_built words, refl, inr (inr (inr (inr (inr (inr (inr (inr (inr (inr (inl (refl, three_given rows Model Precedence History g))))))))))))
+picked false false false false false false false false false false false true words has h = (rows_at help_built words, refl, inr (inr (inr (inr (inr (inr (inr (inr (inr (inr (inr refl)))))))))))
+picked false false false false false false false false false false false false words has h = absurd (no_asks has)
 
 entered_asks : (stop : Option (Text × List Text)) → is_some (entered pit stop) ≡ true → entered_fault pit stop ≡ [] → AsksAll (entered pit stop)
 entered_asks None has h = absurd (no_asks has)
 entered_asks (Some word) has h =
     picked (answers_to word.0 (label_of value_built)) (answers_to word.0 (label_of check_built)) (answers_to word.0 (label_of table_built))
     (answers_to word.0 (label_of diff_built)) (answers_to word.0 (label_of info_built)) (answers_to word.0 (label_of show_built))
-    (answers_to word.0 (label_of plan_built)) (answers_to word.0 (label_of replay_built)) (answers_to word.0 (label_of log_built)) (answers_to word.0 (label_of merge_built)) (answers_to word.0 (label_of help_built)) word.1 has h
+    (answers_to word.0 (label_of plan_built)) (answers_to word.0 (label_of replay_built)) (answers_to word.0 (label_of log_built)) (answers_to word.0 (label_of merge_built)) (answers_to word.0 (label_of live_built))
+    (answers_to word.0 (label_of help_built)) word.1 has h
 
 -- a line by which nothing fails asks for a subcommand, with all that it requires
 pub asks_all : (words : List Text) → fault_of pit_app words ≡ [] → AsksAll (subcommand_of pit_app words)

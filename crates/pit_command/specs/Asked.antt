@@ -10,9 +10,9 @@ use Rattle.clap.specs.declared.error.kind.ErrorKind.TheVariants.{MissingSubcomma
 use Rattle.clap.specs.declared.parser.matches.ArgMatches.{ArgMatches}
 use Rattle.pit_step.specs.declared.input.Input.{Input}
 use Rattle.pit_command.specs.declared.commands.Command.{Command}
-use Rattle.pit_command.specs.declared.commands.Command.TheVariants.{Value, Check, Table, Diff, Info, Show, Plan, Replay, Log, Merge}
+use Rattle.pit_command.specs.declared.commands.Command.TheVariants.{Value, Check, Table, Diff, Info, Show, Plan, Replay, Log, Merge, Live}
 use Rattle.pit_command.specs.Inputs.{subcommands, value_inputs, check_inputs, table_inputs, diff_inputs, pit_inputs, show_inputs, replay_inputs, log_inputs}
-use Rattle.pit_command.specs.Words.{IsLacking, AreValueWords, AreCheckWords, AreTableWords, AreDiffWords, AreInfoWords, AreShowWords, ArePlanWords, AreReplayWords, AreLogWords, AreMergeWords, IsPlanFault, IsMergeFault}
+use Rattle.pit_command.specs.Words.{IsLacking, AreValueWords, AreCheckWords, AreTableWords, AreDiffWords, AreInfoWords, AreShowWords, ArePlanWords, AreReplayWords, AreLogWords, AreMergeWords, AreLiveWords, IsPlanFault, IsMergeFault, IsLiveFault}
 
 -- the subcommand of this name, with these words, asks for a command
 abbrev pub Asks : List ℕ → ArgMatches → Command → Type 0
@@ -26,6 +26,7 @@ Asks name given (Plan words) = (bytes_eq name (codes "plan") ≡ true) × ArePla
 Asks name given (Replay words) = (bytes_eq name (codes "replay") ≡ true) × AreReplayWords given words
 Asks name given (Log words) = (bytes_eq name (codes "log") ≡ true) × AreLogWords given words
 Asks name given (Merge words) = (bytes_eq name (codes "merge") ≡ true) × AreMergeWords given words
+Asks name given (Live words) = (bytes_eq name (codes "live") ≡ true) × AreLiveWords given words
 
 -- no subcommand has this name
 abbrev pub IsUnknown : List ℕ → ErrorKind → Type 0
@@ -45,7 +46,7 @@ views =
 abbrev pub IsFaulty : List ℕ → ArgMatches → ErrorKind → Type 0
 IsFaulty name given kind =
     IsUnknown name kind ⊎ (((bytes_eq name (codes "plan") ≡ true) × IsPlanFault given kind) ⊎ (((bytes_eq name (codes "merge") ≡ true) × IsMergeFault given kind)
-    ⊎ IsShort views name given kind))
+    ⊎ (((bytes_eq name (codes "live") ≡ true) × IsLiveFault given kind) ⊎ IsShort views name given kind)))
 
 -- the subcommand that the words name, and the words that are for it
 pub record AreBehind (matches : ArgMatches) (name : List ℕ) (given : ArgMatches) : Type 0 where

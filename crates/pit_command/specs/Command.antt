@@ -12,7 +12,7 @@ use Rattle.clap.specs.declared.builder.value_parser.ValueParser.TheVariants.{Sig
 use Rattle.pit_step.specs.declared.input.Input.{Input}
 use Rattle.pit_step.specs.declared.input.Input.TheVariants.{Model, Precedence, Blocks, Start, History, Schedule}
 use Rattle.pit_command.specs.declared.rules.Argument.{Argument}
-use Rattle.pit_command.specs.declared.rules.Argument.TheVariants.{File, Schedule as ScheduleArgument, Option as InputOption, History as HistoryOption, Continued, All as AllFlag, Writes, InTurn, Strict, Partial, At, From, Retries, Scripts, Edits}
+use Rattle.pit_command.specs.declared.rules.Argument.TheVariants.{File, Schedule as ScheduleArgument, Option as InputOption, History as HistoryOption, Continued, All as AllFlag, Writes, InTurn, Strict, Partial, At, From, Retries, Scripts, Edits, Carried, Streams}
 use Rattle.pit_command.specs.declared.subcommand.Subcommand.{Subcommand}
 use Rattle.pit_command.specs.Inputs.{argument_of, subcommands, value_inputs, check_inputs, diff_inputs, replay_inputs, log_inputs}
 
@@ -118,6 +118,21 @@ merge_with others =
 abbrev pub merge_shape : Shape
 merge_shape = merge_with (continue_rule ∷ history_rule ∷ from_rule ∷ flag_rule (codes "partial") ∷ edits_rule ∷ [])
 
+-- `--continue FILE`, which is required
+abbrev pub carried_rule : Rule
+carried_rule = record (new_rule (argument_of History)) { long = Some (codes "continue"); value_names = 1; required = true }
+
+-- the streams of planners: positionals, of which there may be none
+abbrev pub streams_rule : Rule
+streams_rule = record (new_rule (codes "STREAMS")) {
+  action = Some Append;
+  value_names = 1;
+  range = Some (record { start_inclusive = 1; end_inclusive = usize_max });
+}
+
+abbrev pub live_shape : Shape
+live_shape = record (new_shape (codes "live")) { rules = file_rule Model ∷ file_rule Precedence ∷ option_rule Blocks ∷ carried_rule ∷ streams_rule ∷ [] }
+
 -- what the program tells the parser of an argument
 abbrev pub rule_for : Argument → Rule
 rule_for (File input) = file_rule input
@@ -135,6 +150,8 @@ rule_for From = from_rule
 rule_for Retries = retries_rule
 rule_for Scripts = scripts_rule
 rule_for Edits = edits_rule
+rule_for Carried = carried_rule
+rule_for Streams = streams_rule
 
 -- and of a subcommand
 abbrev pub shape_for : Subcommand → Shape
@@ -161,7 +178,7 @@ app_begun [] = on_top (λ s. record s { is_leaf = true }) (app_with [])
 app_begun (first ∷ rest) = app_with (first ∷ rest)
 
 abbrev pub pit_app : App
-pit_app = app_with (value_shape ∷ check_shape ∷ table_shape ∷ diff_shape ∷ info_shape ∷ show_shape ∷ plan_shape ∷ replay_shape ∷ log_shape ∷ merge_shape ∷ [])
+pit_app = app_with (value_shape ∷ check_shape ∷ table_shape ∷ diff_shape ∷ info_shape ∷ show_shape ∷ plan_shape ∷ replay_shape ∷ log_shape ∷ merge_shape ∷ live_shape ∷ [])
 
 -- the words gave the argument of each input
 abbrev pub GivesEach : List Input → List Row → Type 0

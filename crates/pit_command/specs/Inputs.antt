@@ -36,13 +36,17 @@ log_inputs = Model ∷ Precedence ∷ History ∷ []
 abbrev pub merge_inputs : List Input
 merge_inputs = Model ∷ Precedence ∷ Edit 1 ∷ []
 
+abbrev pub live_inputs : List Input
+live_inputs = Model ∷ Precedence ∷ History ∷ []
+
 -- the subcommands, each with the inputs that it requires
 abbrev pub subcommands : List (List ℕ × List Input)
 subcommands =
     (codes "value", value_inputs) ∷ (codes "check", check_inputs) ∷ (codes "table", table_inputs) ∷ (codes "diff", diff_inputs) ∷ (codes "info", pit_inputs)
-    ∷ (codes "show", show_inputs) ∷ (codes "plan", plan_inputs) ∷ (codes "replay", replay_inputs) ∷ (codes "log", log_inputs) ∷ (codes "merge", merge_inputs) ∷ []
+    ∷ (codes "show", show_inputs) ∷ (codes "plan", plan_inputs) ∷ (codes "replay", replay_inputs) ∷ (codes "log", log_inputs) ∷ (codes "merge", merge_inputs)
+    ∷ (codes "live", live_inputs) ∷ []
 
--- the name of the argument for an input; of `plan` and `merge` the history is the one that is carried on
+-- the name of the argument for an input; of `plan`, `merge` and `live` the history is the one that is carried on
 abbrev pub argument_of : Input → List ℕ
 argument_of Model = codes "MODEL"
 argument_of Precedence = codes "PREC"
@@ -69,6 +73,13 @@ scripts_of given = paths_of given (Script 1)
 
 abbrev pub edits_of : ArgMatches → List (List ℕ)
 edits_of given = paths_of given (Edit 1)
+
+-- the words that they give for the streams of planners, where they give any
+abbrev pub streams_of : ArgMatches → Option (List (List ℕ))
+streams_of given = option_map raw_values (matched_of (found_of given) (codes "STREAMS"))
+
+abbrev pub stream_words : ArgMatches → List (List ℕ)
+stream_words given = unwrap_or (streams_of given) []
 
 -- the path that the words give for the history that is written
 abbrev pub history_path : ArgMatches → Option (List ℕ)

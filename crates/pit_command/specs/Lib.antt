@@ -2,4 +2,5 @@ pub mod Limits
 pub mod Asked
 pub mod Command
 pub mod Inputs
+pub mod Pairs
 pub mod Words

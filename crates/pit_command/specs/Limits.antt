@@ -8,3 +8,7 @@ retries_max = 1000
 -- how many edits one merge may have
 abbrev pub edits_max : ℕ
 edits_max = 64
+
+-- how many planners may sit down at one workspace
+abbrev pub planners_max : ℕ
+planners_max = 64

@@ -1,9 +1,9 @@
 -- What the words give each subcommand.
-use Rattle.std.specs.Prelude.{◌≡◌, ◌⊎◌, ℕ, nat_le, nat_lt, Bool, true, false, ◌&&◌, ◌||◌, if◌then◌else◌, List, [], ◌∷◌, length, map, Any, Option, None, Some, is_some, Ok, Err, option_map, codes}
+use Rattle.std.specs.Prelude.{◌≡◌, ◌⊎◌, ℕ, nat_le, nat_lt, Bool, true, false, ◌&&◌, ◌||◌, if◌then◌else◌, List, [], ◌∷◌, length, map, Any, Option, None, Some, is_some, Ok, Err, IfSome, option_map, codes}
 use Rattle.std.specs.Str.Parse.{ParsesUnsigned}
 use Rattle.clap.specs.Matches.{found_of, one_text}
 use Rattle.clap.specs.declared.error.kind.ErrorKind.{ErrorKind}
-use Rattle.clap.specs.declared.error.kind.ErrorKind.TheVariants.{ArgumentConflict, TooManyValues, MissingRequiredArgument}
+use Rattle.clap.specs.declared.error.kind.ErrorKind.TheVariants.{ArgumentConflict, TooManyValues, MissingRequiredArgument, ValueValidation, WrongNumberOfValues}
 use Rattle.clap.specs.declared.parser.matches.ArgMatches.{ArgMatches}
 use Rattle.pit_step.specs.declared.input.Input.{Input}
 use Rattle.pit_step.specs.declared.input.Input.TheVariants.{Model, Precedence, Blocks, Start, Solution, History, Schedule, Old, New, Edit}
@@ -19,8 +19,10 @@ use Rattle.pit_command.specs.declared.plan_words.PlanWords.{PlanWords}
 use Rattle.pit_command.specs.declared.words.ReplayWords.{ReplayWords}
 use Rattle.pit_command.specs.declared.words.LogWords.{LogWords}
 use Rattle.pit_command.specs.declared.merge_words.MergeWords.{MergeWords}
-use Rattle.pit_command.specs.Limits.{retries_max, edits_max}
-use Rattle.pit_command.specs.Inputs.{path_of, history_path, scripts_of, edits_of, plan_inputs, merge_inputs}
+use Rattle.pit_command.specs.Limits.{retries_max, edits_max, planners_max}
+use Rattle.pit_command.specs.Inputs.{path_of, history_path, scripts_of, edits_of, streams_of, stream_words, plan_inputs, merge_inputs, live_inputs}
+use Rattle.pit_command.specs.declared.live_words.LiveWords.{LiveWords}
+use Rattle.pit_command.specs.Pairs.{are_pairs}
 
 -- ---- flags and numbers
 
@@ -69,6 +71,10 @@ IsOrigin given (Continued path) = (Some path.now ≡ continue_path given) × (pa
 -- the words name more
 abbrev pub has_many : ArgMatches → Bool
 has_many given = nat_lt edits_max (length (edits_of given))
+
+-- the words name more
+abbrev pub has_many_planners : ArgMatches → Bool
+has_many_planners given = nat_lt planners_max (length (stream_words given))
 
 -- ---- why they are refused
 
@@ -141,6 +147,23 @@ pub record AreMergeWords (given : ArgMatches) (words : MergeWords) : Type 0 wher
   pub edits : map (λ path. path.now) words.edits.now ≡ edits_of given
   pub from : IsNumber given (codes "from") 32 words.from
   pub partial : IsFlag given (codes "partial") words.is_partial
+
+pub record AreLiveWords (given : ArgMatches) (words : LiveWords) : Type 0 where
+  pub model : Some words.model.now ≡ path_of given Model
+  pub precedence : Some words.precedence.now ≡ path_of given Precedence
+  pub blocks : option_map (λ path. path.now) words.blocks ≡ path_of given Blocks
+  pub history : Some words.history.now ≡ path_of given History
+  pub streams : option_map (λ streams. map (λ word. word.now) streams.now) words.streams ≡ streams_of given
+  pub pairs : are_pairs (stream_words given) ≡ true
+
+-- there are too many planners, or else a word for streams isn't a pair of paths
+abbrev pub IsStreamsFault : ArgMatches → ErrorKind → Type 0
+IsStreamsFault given kind =
+    ((has_many_planners given ≡ true) × (kind ≡ WrongNumberOfValues)) ⊎ ((has_many_planners given ≡ false) × (are_pairs (stream_words given) ≡ false) × (kind ≡ ValueValidation))
+
+-- what `live` is refused for: that an input is lacking is told first
+abbrev pub IsLiveFault : ArgMatches → ErrorKind → Type 0
+IsLiveFault given kind = IsLacking given live_inputs kind ⊎ IsStreamsFault given kind
 
 -- there is no edit, or there are too many
 abbrev pub AreNoEdits : ArgMatches → ErrorKind → Type 0

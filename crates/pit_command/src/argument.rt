@@ -1,9 +1,11 @@
 //! The arguments of the command line, by the inputs and the output whose paths they are.
-ghost use Rattle.std.specs.Prelude.{◌≡◌, ◌≤◌, ◌∷◌, [], length, map, option_map, codes, false, IfOk, IfErr, OnOk, OnErr};
-ghost use Rattle.pit_command.specs.Inputs.{argument_of, path_of, paths_of, edits_of, history_path};
-ghost use Rattle.pit_command.specs.Limits.{edits_max, retries_max};
-ghost use Rattle.pit_command.specs.Words.{has_many, AreNoEdits, IsLacking, retries_in, IsRetries, IsNumber, IsFlag};
+ghost use Rattle.std.specs.Prelude.{◌≡◌, ◌≤◌, ◌∷◌, [], length, map, option_map, codes, true, false, IfOk, IfErr, IfSome, OnOk, OnErr};
+ghost use Rattle.pit_command.specs.Inputs.{argument_of, path_of, paths_of, edits_of, streams_of, stream_words, history_path};
+ghost use Rattle.pit_command.specs.Limits.{edits_max, planners_max, retries_max};
+ghost use Rattle.pit_command.specs.Words.{has_many, AreNoEdits, IsLacking, retries_in, IsRetries, IsNumber, IsFlag, IsStreamsFault};
+ghost use Rattle.pit_command.specs.Pairs.{are_pairs};
 
+use crate::streams::are_pairs;
 use clap::ArgMatches;
 use clap::error::ErrorKind;
 use pit_step::Input;
@@ -38,7 +40,10 @@ pub(crate) const FROM: &str = "from";
 /// The name of the flag by which parts of an edit may be left out.
 pub(crate) const PARTIAL: &str = "partial";
 
-/// The name of the argument for an input. Of `plan` and `merge` the history is the one that is carried on.
+/// The name of the argument for the streams of planners.
+pub(crate) const STREAMS: &str = "STREAMS";
+
+/// The name of the argument for an input. Of `plan`, `merge` and `live` the history is the one that is carried on.
 pub(crate) fn argument_of<'a>(input: Input) -> &'a str
     ensures { result.now ≡ argument_of input }
 {
@@ -103,6 +108,30 @@ pub(crate) fn edits_of<'m, 'a>(given: &'m ArgMatches<'a>) -> Result<&'m [&'a str
         return Err(ErrorKind::TooManyValues);
     }
     Ok(paths)
+}
+
+/// How many planners a live workspace may have.
+const PLANNERS_MAX: usize = 64;
+
+/// The words for the streams of planners, one for each planner, where there are any.
+pub(crate) fn streams_of<'m, 'a>(
+    given: &'m ArgMatches<'a>,
+) -> Result<Option<&'m [&'a str]>, ErrorKind>
+    ensures ok { IfOk result (λ streams. option_map (λ words. map (λ word. word.now) words.now) streams ≡ streams_of given.now) }
+    ensures few { IfOk result (λ streams. IfSome streams (λ words. length words.now ≤ planners_max)) }
+    ensures pairs { OnOk result (are_pairs (stream_words given.now) ≡ true) }
+    ensures err { IfErr result (IsStreamsFault given.now) }
+{
+    let Some(words) = given.get_strs(STREAMS) else {
+        return Ok(None);
+    };
+    if words.len() > PLANNERS_MAX {
+        return Err(ErrorKind::WrongNumberOfValues);
+    }
+    if !are_pairs(words) {
+        return Err(ErrorKind::ValueValidation);
+    }
+    Ok(Some(words))
 }
 
 /// Whether the words ask for all that is wrong.

@@ -91,6 +91,10 @@ pub fn refusal(alloc: Global, kind: ErrorKind) -> Error
             "the argument '--continue <FILE>' cannot be used with '--start <FILE>' or '--history <FILE>'"
         }
         ErrorKind::TooManyValues => "there are more than 64 values for '<EDIT>...'",
+        ErrorKind::WrongNumberOfValues => "there are more than 64 values for '[IN:OUT]...'",
+        ErrorKind::ValueValidation => {
+            "a value for '[IN:OUT]...' isn't two paths with a ':' between them"
+        }
         ErrorKind::MissingRequiredArgument => "a required argument was not provided",
         _ => "a word is not UTF-8",
     };

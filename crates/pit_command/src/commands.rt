@@ -2,11 +2,12 @@
 ghost use Rattle.std.specs.Prelude.{MatchResult};
 ghost use Rattle.pit_command.specs.Asked.{Asks, IsFaulty, IsAsked, IsRefusal};
 
+use crate::live_words::LiveWords;
 use crate::merge_words::MergeWords;
 use crate::plan_words::PlanWords;
 use crate::words::{
     CheckWords, DiffWords, InfoWords, LogWords, ReplayWords, ShowWords, TableWords, ValueWords,
-    check_words, diff_words, info_words, log_words, merge_words, plan_words, replay_words,
+    check_words, diff_words, info_words, live_words, log_words, merge_words, plan_words, replay_words,
     show_words, table_words, value_words,
 };
 use clap::ArgMatches;
@@ -35,6 +36,8 @@ pub enum Command<'a> {
     Log(LogWords<'a>),
     /// Merges edits into one schedule, and prints the solution that is left.
     Merge(MergeWords<'a>),
+    /// Has planners change one schedule by requests, and tells them at once what becomes of each.
+    Live(LiveWords<'a>),
 }
 
 /// The word of the subcommand that values a solution.
@@ -67,8 +70,11 @@ pub(crate) const LOG: &str = "log";
 /// The word of the one that merges edits.
 pub(crate) const MERGE: &str = "merge";
 
-/// What the words ask for, or why they are refused: no subcommand is named, some exclude one another, there are too many edits, or one that is
-/// required isn't there, which the parser has seen to before.
+/// The word of the one that serves requests.
+pub(crate) const LIVE: &str = "live";
+
+/// What the words ask for, or why they are refused: no subcommand is named, some exclude one another, there are too many edits or planners, streams
+/// aren't a pair of paths, or one that is required isn't there, which the parser has seen to before.
 pub fn asked<'m, 'a>(matches: &'m ArgMatches<'a>) -> Result<Command<'m>, ErrorKind>
     ensures { MatchResult result (IsAsked matches.now) (IsRefusal matches.now) }
 {
@@ -93,6 +99,7 @@ fn command_of<'m, 'a>(name: &str, given: &'m ArgMatches<'a>) -> Result<Command<'
         REPLAY => Ok(Command::Replay(replay_words(given)?)),
         LOG => Ok(Command::Log(log_words(given)?)),
         MERGE => Ok(Command::Merge(merge_words(given)?)),
+        LIVE => Ok(Command::Live(live_words(given)?)),
         _ => Err(ErrorKind::MissingSubcommand),
     }
 }

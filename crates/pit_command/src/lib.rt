@@ -7,19 +7,23 @@
 mod argument;
 mod command;
 mod commands;
+mod live_words;
 mod merge_words;
 mod notes;
 mod origin;
 mod plan_words;
 mod rules;
+mod streams;
 mod subcommand;
 mod words;
 
 pub use command::{matched, refusal};
 pub use commands::{Command, asked};
+pub use live_words::LiveWords;
 pub use merge_words::MergeWords;
 pub use origin::{NewWords, Origin};
 pub use plan_words::PlanWords;
+pub use streams::stream_paths;
 pub use words::{
     CheckWords, DiffWords, InfoWords, LogWords, ReplayWords, ShowWords, TableWords, ValueWords,
 };

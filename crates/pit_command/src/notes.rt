@@ -174,3 +174,29 @@ writes the history. Of 2 and 3 a line on standard error says why.
 
 Example:
   pit merge tiny.cpit tiny.prec --continue tiny.history one.sol two.sol";
+
+pub(crate) const LIVE_NOTES: &str = "\
+Keeps one schedule open. Each planner asks, a request a line, and gets one line for each at once:
+  begin       begins a transaction       `begun J N`: the J-th, after N commits
+  read B      reads block B              `held B T`, `-` for no period; `moved B N`, where commit N has
+                                         changed it since; or `busy`: ask again
+  put B T     puts block B into period T `ok`
+  clear B     takes block B out          `ok`
+  commit      commits the transaction    `committed N`; `refused` and why
+  abandon     gives it up                `abandoned`
+  value       of the schedule            `value N V`: after N commits
+A line that is none of these is answered `fault` and why, and changes nothing. What is told as
+committed or refused is in the history on the disk by then; behind `unsaved` it may not be.
+Nothing is retried. IN is opened first, then OUT; a transaction that is open where IN ends is given up.
+
+The history is audited and then written anew, with each new entry behind it; half a line that a crash
+has left at its end is left out. Standard error tells of it, and in the end of each planner, the
+value, and `short RESOURCE PERIOD LOAD LIMIT` for each load below its lower limit. `plan` and `merge`
+can't write the history meanwhile. docs/FORMATS.md has every form.
+
+Status: 0 where all is well, 1 where a load falls short, 2 where an input or the command line is
+refused, 3 where memory, a device or a thread is wanting, another program writes the history, or a
+planner's requests end by a fault. Of 2 and 3 standard error says why.
+
+Example:
+  pit live tiny.cpit tiny.prec --continue tiny.history one.in:one.out two.in:two.out";

@@ -1,10 +1,11 @@
 //! The arguments, as the parser is told of each.
 ghost use Rattle.std.specs.Prelude.{◌≡◌, false};
 ghost use Rattle.clap.specs.Walk.{rule_of};
-ghost use Rattle.pit_command.specs.Command.{rule_for, flag_rule, at_rule, file_rule, schedule_rule, option_rule, history_rule, continue_rule, retries_rule, scripts_rule, from_rule, edits_rule};
+ghost use Rattle.pit_command.specs.Command.{rule_for, flag_rule, at_rule, file_rule, schedule_rule, option_rule, history_rule, continue_rule, retries_rule, scripts_rule, from_rule, edits_rule, carried_rule, streams_rule};
 
 use crate::argument::{
-    ALL, AT, CONTINUE, FROM, HISTORY, IN_TURN, PARTIAL, RETRIES, STRICT, WRITES, argument_of,
+    ALL, AT, CONTINUE, FROM, HISTORY, IN_TURN, PARTIAL, RETRIES, STREAMS, STRICT, WRITES,
+    argument_of,
 };
 use clap::{Arg, ArgAction, value_parser};
 use pit_step::Input;
@@ -43,6 +44,10 @@ pub(crate) enum Argument {
     Scripts,
     /// The edits, of which one at least is required.
     Edits,
+    /// The option for the history that is carried on, which is required.
+    Carried,
+    /// The streams of planners.
+    Streams,
 }
 
 /// What the parser is told of an argument.
@@ -86,6 +91,8 @@ pub(crate) fn clap_argument<'a>(alloc: Global, argument: Argument) -> Arg<'a>
         Argument::Retries => retries(alloc),
         Argument::Scripts => scripts(alloc),
         Argument::Edits => edits(alloc),
+        Argument::Carried => carried(alloc),
+        Argument::Streams => streams(alloc),
     }
 }
 
@@ -214,6 +221,32 @@ fn edits<'a>(alloc: Global) -> Arg<'a>
         .num_args(1..)
         .action(ArgAction::Append)
         .help(help_of(Input::Edit(1)))
+}
+
+/// The option for the history that is carried on, where that is required.
+fn carried<'a>(alloc: Global) -> Arg<'a>
+    ensures rule { rule_of result ≡ carried_rule }
+    ensures local { result.global ≡ false }
+{
+    Arg::new(alloc, argument_of(Input::History))
+        .long(CONTINUE)
+        .value_name("FILE")
+        .required(true)
+        .help("The history, which gets each new entry at once; it may not be there yet")
+}
+
+/// The arguments for the streams of planners.
+fn streams<'a>(alloc: Global) -> Arg<'a>
+    ensures rule { rule_of result ≡ streams_rule }
+    ensures local { result.global ≡ false }
+{
+    Arg::new(alloc, STREAMS)
+        .value_name("IN:OUT")
+        .num_args(1..)
+        .action(ArgAction::Append)
+        .help(
+            "For each planner the files or pipes of its requests and replies; without any, the standard streams",
+        )
 }
 
 /// What help says of an input.

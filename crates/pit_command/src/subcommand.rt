@@ -1,8 +1,8 @@
 //! The subcommands, each with its help and its arguments.
-use crate::commands::{CHECK, DIFF, INFO, LOG, MERGE, PLAN, REPLAY, SHOW, TABLE, VALUE};
+use crate::commands::{CHECK, DIFF, INFO, LIVE, LOG, MERGE, PLAN, REPLAY, SHOW, TABLE, VALUE};
 use crate::notes::{
-    CHECK_NOTES, DIFF_NOTES, INFO_NOTES, LOG_NOTES, MERGE_NOTES, PLAN_NOTES, REPLAY_NOTES,
-    SHOW_NOTES, TABLE_NOTES, VALUE_NOTES,
+    CHECK_NOTES, DIFF_NOTES, INFO_NOTES, LIVE_NOTES, LOG_NOTES, MERGE_NOTES, PLAN_NOTES,
+    REPLAY_NOTES, SHOW_NOTES, TABLE_NOTES, VALUE_NOTES,
 };
 use crate::rules::Argument;
 use pit_step::Input;
@@ -126,6 +126,18 @@ pub(crate) const SUBCOMMANDS: &[Subcommand] = &[
             Argument::From,
             Argument::Partial,
             Argument::Edits,
+        ],
+    },
+    Subcommand {
+        name: LIVE,
+        about: "Has planners change one schedule by requests, and tells each at once what became of it",
+        notes: LIVE_NOTES,
+        arguments: &[
+            Argument::File(Input::Model),
+            Argument::File(Input::Precedence),
+            Argument::Option(Input::Blocks),
+            Argument::Carried,
+            Argument::Streams,
         ],
     },
 ];

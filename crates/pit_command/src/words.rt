@@ -1,12 +1,13 @@
 //! What the words give each subcommand: paths as they were given, and numbers as they are used.
 ghost use Rattle.std.specs.Prelude.{◌≡◌, ◌∷◌, [], Some, IfOk, IfErr, MatchResult};
 ghost use Rattle.pit_command.specs.Inputs.{path_of, value_inputs, check_inputs, table_inputs, diff_inputs, pit_inputs, show_inputs, replay_inputs, log_inputs};
-ghost use Rattle.pit_command.specs.Words.{IsLacking, AreValueWords, AreCheckWords, AreTableWords, AreDiffWords, AreInfoWords, AreShowWords, ArePlanWords, AreReplayWords, AreLogWords, AreMergeWords, IsPlanFault, IsMergeFault};
+ghost use Rattle.pit_command.specs.Words.{IsLacking, AreValueWords, AreCheckWords, AreTableWords, AreDiffWords, AreInfoWords, AreShowWords, ArePlanWords, AreReplayWords, AreLogWords, AreMergeWords, AreLiveWords, IsPlanFault, IsMergeFault, IsLiveFault};
 
 use crate::argument::{
     asks_all, asks_writes, at_of, edits_of, from_of, is_in_turn, is_partial, is_strict, path_of,
-    paths_of, retries_of,
+    paths_of, retries_of, streams_of,
 };
+use crate::live_words::LiveWords;
 use crate::merge_words::MergeWords;
 use crate::origin::origin_of;
 use crate::plan_words::PlanWords;
@@ -276,5 +277,25 @@ pub(crate) fn merge_words<'m, 'a>(given: &'m ArgMatches<'a>) -> Result<MergeWord
         edits,
         from: from_of(given),
         is_partial: is_partial(given),
+    })
+}
+
+/// What the words give `live`.
+pub(crate) fn live_words<'m, 'a>(given: &'m ArgMatches<'a>) -> Result<LiveWords<'m>, ErrorKind>
+    ensures { MatchResult result (AreLiveWords given.now) (IsLiveFault given.now) }
+{
+    let (model, precedence, history) = three_paths(
+        given,
+        Input::Model,
+        Input::Precedence,
+        Input::History,
+    )?;
+    let streams = streams_of(given)?;
+    Ok(LiveWords {
+        model,
+        precedence,
+        blocks: path_of(given, Input::Blocks),
+        history,
+        streams,
     })
 }

@@ -7,9 +7,8 @@ use Rattle.pit_desk.specs.declared.reply.Refusal.TheVariants.{Ahead, Moved, Misr
 use Rattle.pit_desk.specs.declared.reply.EntryReply.{EntryReply}
 use Rattle.pit_desk.specs.declared.reply.EntryReply.TheVariants.{Committed, Refused, Withdrawn}
 use Rattle.pit_step.specs.LineTexts.{field_text, period_text}
-use Rattle.pit_step.specs.RefusalText.{numbered_text}
+use Rattle.pit_step.specs.RefusalText.{numbered_text, reply_words}
 use Rattle.pit_log.specs.Causes.{last_writer, cause_of}
-use Rattle.pit_log.specs.LogText.{reply_words}
 use Rattle.pit_edit.specs.declared.conflicts.TheConstants.{CONFLICTS_SHOWN}
 use Rattle.pit_edit.specs.Changes.{Edit, base_of, wanted_of, late_of, left_of}
 use Rattle.pit_edit.specs.Calls.{edit_entry}

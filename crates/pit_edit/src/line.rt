@@ -5,9 +5,8 @@ ghost use Rattle.pit_edit.specs.EditText.{edit_line, answer_text, answer_words};
 
 use crate::answer::Answer;
 use pit_desk::EntryReply;
-use pit_log::write_reply;
 use pit_num::{NoMemory, Sink, WriteFault, write_text};
-use pit_step::{empty_text, gathered, write_numbered, write_period};
+use pit_step::{empty_text, gathered, write_numbered, write_period, write_reply};
 use std::alloc::Allocator;
 
 /// The line of an edit, by its number, by how many blocks it changes and how many of them are left out.

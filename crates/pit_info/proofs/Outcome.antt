@@ -8,10 +8,10 @@ use Rattle.pit_step.specs.declared.input.Input.TheVariants.{Model, Precedence, B
 use Rattle.pit_step.specs.declared.status.Status.TheVariants.{Fine}
 use Rattle.pit_step.specs.Steps.{carrying, HasOneOutcome}
 use Rattle.pit_step.specs.Devices.{Reading, Writing, write_step}
-use Rattle.pit_step.specs.Inputs.{IsModelFault, IsOrder, IsOrderFault, IsPlaced, IsPlacesFault, order_step}
+use Rattle.pit_step.specs.Inputs.{IsModelFault, IsOrder, IsOrderFault, IsPlaced, IsPlacesFault, order_step, places_if_step}
 use Rattle.pit_step.proofs.CallerLemmas.{IsSeen, IsDetermined, IsOneText, shown_run, in_turn-determined, carrying-determined, input-determined, decided-model, decided-order, decided-places, write-determined, write-shown, write-never_both}
 use Rattle.pit_info.specs.InfoText.{size_text, info_text}
-use Rattle.pit_info.specs.Info.{IsHeaded, IsInfo, IsToldIf, headed_step, places_if_step, ordered_step, inputs_step, rendered_step, info_run}
+use Rattle.pit_info.specs.Info.{IsHeaded, IsInfo, IsToldIf, headed_step, ordered_step, inputs_step, rendered_step, info_run}
 
 -- ---- the inputs
 

@@ -4,12 +4,12 @@ use Rattle.pit_model.specs.Pit.{Pit, IsMeetable, IsFirstUnmeetable}
 use Rattle.pit_text.specs.Cutting.{cut_of}
 use Rattle.pit_step.specs.declared.fault.CliFault.{CliFault}
 use Rattle.pit_step.specs.declared.fault.CliFault.TheVariants.{NoMemory}
-use Rattle.pit_step.specs.declared.input.Input.TheVariants.{Model, Blocks}
+use Rattle.pit_step.specs.declared.input.Input.TheVariants.{Model}
 use Rattle.pit_step.specs.declared.status.Status.{Status}
 use Rattle.pit_step.specs.declared.status.Status.TheVariants.{Fine}
 use Rattle.pit_step.specs.Steps.{Step, in_turn, carrying, judge_step}
 use Rattle.pit_step.specs.Devices.{Reading, Writing, input_step, write_step}
-use Rattle.pit_step.specs.Inputs.{IsModel, IsModelFault, IsPlaced, IsPlacesFault, order_step}
+use Rattle.pit_step.specs.Inputs.{IsModel, IsModelFault, order_step, places_if_step}
 use Rattle.pit_info.specs.Unknown.{unknown_text}
 use Rattle.pit_info.specs.InfoText.{info_text}
 
@@ -22,11 +22,6 @@ pub record IsHeaded (bytes : List ℕ) (headed : Pit × List ℕ) : Type 0 where
 
 abbrev pub headed_step : Reading → Step CliFault (Unit {0}) (Pit × List ℕ)
 headed_step model = input_step Model model (λ _. IsHeaded) (λ _. IsModelFault)
-
--- the places, or the pit as it is where there is no source for them
-abbrev pub places_if_step : Option Reading → Step CliFault Pit Pit
-places_if_step None = judge_step (λ given value. value ≡ given) (λ given fault. ⊥)
-places_if_step (Some blocks) = input_step Blocks blocks IsPlaced IsPlacesFault
 
 -- the source, if there is one, tells its bytes
 abbrev pub IsToldIf : Option Reading → Type 0

@@ -1,8 +1,8 @@
-ghost use Rattle.std.specs.Prelude.{◌≡◌, Some, MatchResult, is_some};
+ghost use Rattle.std.specs.Prelude.{◌≡◌, MatchResult, is_some};
 ghost use Rattle.pit_step.specs.Steps.{IsResultOf};
 ghost use Rattle.pit_step.specs.Devices.{reading_of, writing_of, known_if};
-ghost use Rattle.pit_step.specs.Inputs.{IsModelFault};
-ghost use Rattle.pit_info.specs.Info.{IsHeaded, IsInfo, headed_step, ordered_step, inputs_step, places_if_step, info_run};
+ghost use Rattle.pit_step.specs.Inputs.{IsModelFault, places_if_step};
+ghost use Rattle.pit_info.specs.Info.{IsHeaded, IsInfo, headed_step, ordered_step, inputs_step, info_run};
 
 use crate::benches::benches_if;
 use crate::info_text::write_info;
@@ -10,8 +10,8 @@ use crate::unknown::unknown_lines;
 use pit_model::{Builder, Deposit};
 use pit_num::{Sink, Source};
 use pit_step::{
-    CliFault, Input, Status, builder_of, bytes_of, deposited, empty_text, gathered, placed,
-    read_order, write_answer,
+    CliFault, Input, Status, builder_of, bytes_of, deposited, empty_text, gathered,
+    read_order, read_places, write_answer,
 };
 use std::alloc::Allocator;
 
@@ -126,19 +126,6 @@ fn read_places_if<A: Allocator + Copy + Drop, B: Source>(
         return Ok(given);
     };
     read_places(alloc, source, given)
-}
-
-/// The pit with the places of an input. Their text is freed.
-fn read_places<A: Allocator + Copy + Drop, B: Source>(
-    alloc: A,
-    blocks: &mut B,
-    given: Builder<A>,
-) -> Result<Builder<A>, CliFault>
-    ensures { let read = reading_of (B.remaining blocks.old) (B.remaining blocks.new) (B.has_failed blocks.new) in
-        IsResultOf (places_if_step (Some read)) given result }
-{
-    let bytes = bytes_of(alloc, blocks, Input::Blocks)?;
-    placed(&bytes, given)
 }
 
 /// What is to be written of a pit, which is freed, and of the lines of the unknown keys.
