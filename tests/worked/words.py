@@ -52,6 +52,16 @@ REFUSED = [
     refused("merge, no edit", f"merge {OF}"),
     refused("merge, 65 edits", f"merge missing missing {' '.join(['solution'] * 65)}", b"64"),
     refused("merge, a history to carry on and a start", "merge --continue fresh --start missing missing missing missing"),
+    refused("live, no history to carry on", f"live {OF} in:out", b"--continue"),
+    refused("live, no precedences", "live --continue fresh model"),
+    refused("live, an option of another subcommand", f"live --continue fresh --start solution {OF}"),
+    refused("live, streams without a colon", "live --continue fresh missing missing in:out in", b":"),
+    refused("live, streams without an input", "live --continue fresh missing missing :out", b":"),
+    refused("live, streams without an output", "live --continue fresh missing missing in:", b":"),
+    refused("live, 65 planners", f"live --continue fresh missing missing {' '.join(['in:out'] * 65)}", b"64"),
+    fault("live, 64 planners, the colons behind the first of a word", f"live --continue fresh missing missing {' '.join(['in:out:'] * 64)}", "cannot read model"),
+    fault("live, streams behind --", "live --continue fresh missing missing -- -in:-out", "cannot read model"),
+    fault("live, without streams", "live missing missing --continue fresh", "cannot read model"),
     refused("merge, a number that is none", f"merge --from -1 {OF} solution"),
     refused("merge, a number that is too large", f"merge --from 4294967296 {OF} solution"),
 ]
@@ -63,7 +73,7 @@ def help_of(name):
         return file.read()
 
 
-SUBCOMMANDS = ["value", "check", "table", "diff", "info", "show", "plan", "replay", "log", "merge"]
+SUBCOMMANDS = ["value", "check", "table", "diff", "info", "show", "plan", "replay", "log", "merge", "live"]
 HELP = [
     *(says(f"help by {words}", words, help_of("pit")) for words in ("--help", "-h", "help")),
     *(says(f"help by {words}", words, help_of(name)) for name in SUBCOMMANDS for words in (f"{name} --help", f"{name} -h", f"help {name}")),
