@@ -7,8 +7,8 @@ use crate::merge_words::MergeWords;
 use crate::plan_words::PlanWords;
 use crate::words::{
     CheckWords, DiffWords, InfoWords, LogWords, ReplayWords, ShowWords, TableWords, ValueWords,
-    check_words, diff_words, info_words, live_words, log_words, merge_words, plan_words, replay_words,
-    show_words, table_words, value_words,
+    check_words, diff_words, info_words, live_words, log_words, merge_words, plan_words,
+    replay_words, show_words, table_words, value_words,
 };
 use clap::ArgMatches;
 use clap::error::ErrorKind;

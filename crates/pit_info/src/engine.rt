@@ -10,8 +10,8 @@ use crate::unknown::unknown_lines;
 use pit_model::{Builder, Deposit};
 use pit_num::{Sink, Source};
 use pit_step::{
-    CliFault, Input, Status, builder_of, bytes_of, deposited, empty_text, gathered,
-    read_order, read_places, write_answer,
+    CliFault, Input, Status, builder_of, bytes_of, deposited, empty_text, gathered, read_order,
+    read_places, write_answer,
 };
 use std::alloc::Allocator;
 
