@@ -145,7 +145,9 @@ def refused_calls(program, folder):
             wants(reply in (due, f"unsaved {due}", "fault journal", "fault job order"), f"call {at}: {replies}")
         if status == 3:
             refused += 1
-            wants(said.endswith(("pit: cannot write\n", "pit: cannot read history\n")), f"call {at}: {said}")
+            faults = ("pit: cannot write\n", "pit: cannot read history\n")
+            # A fault before a planner is served stands alone.
+            wants(said.endswith(faults) if replies else said in faults, f"call {at}: {said}")
         else:
             wants(status == 0 and told_of(replies) == ["committed 1", "committed 2", "committed 3"], f"call {at}: status {status}, {replies}")
         left = os.path.join(folder, "kept.pit-new")

@@ -23,7 +23,7 @@ use Rattle.pit_serve.specs.declared.fault.RequestFault.TheVariants as fault
 use Rattle.pit_serve.specs.declared.request.Request.{Request}
 use Rattle.pit_serve.specs.declared.request.Request.TheVariants as ask
 
--- ---- begin, by the number of `begun` in this session before
+-- ---- begin, by how many `begun` were answered before
 
 -- one more is counted
 abbrev pub IsCounted : ℕ → Type 0
